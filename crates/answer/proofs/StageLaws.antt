@@ -1,7 +1,7 @@
 -- When and what `firstRefusal` tells: the refusal of the first stage that refuses, exactly. Assumes nothing.
-use mathlib.Core.Path.{_≡_, refl, sym, ap, _∙_, subst}
+use mathlib.Core.Path.{_≡_, refl}
 use mathlib.Core.List.{List, [], _∷_}
-use Prim.Native.Nat.{ℕ, zero, suc, _≤_, _<_}
+use Prim.Native.Nat.{ℕ, zero, suc, _<_}
 use native.Mathlib.Nat.{zero-lt-suc, not-suc-le-zero, le-of-suc-le-suc}
 use Prim.Native.Nat.{suc-le-suc}
 use native.Mathlib.Omega.{arith}
@@ -9,7 +9,7 @@ use lib.ListN.{length, getD}
 use Rattle.answer.specs.declared.Refusal.{Refusal}
 use Rattle.answer.specs.declared.Check.{Check}
 use Rattle.answer.specs.declared.Check.the-variants.{Fine, Refused}
-use Rattle.answer.specs.Stage.{orElse, firstRefusal}
+use Rattle.answer.specs.Stage.{firstRefusal}
 
 -- stage k refuses with r, and no earlier stage refuses
 pub record FirstAt (stages : List Check) (k : ℕ) (r : Refusal) : Type 0 where
@@ -30,7 +30,7 @@ refused-is (a ∷ more) (suc k) r h =
     rw e (refused-is more k r (record {
       within = le-of-suc-le-suc (h .within);
       refuses = h .refuses;
-      before = λ j g. h .before (suc j) (suc-le-suc g)
+      before = λ j g. h .before (suc j) (suc-le-suc g);
     }))
 
 pub fine-is : (stages : List Check) → AllFine stages → firstRefusal stages ≡ Fine

@@ -1,8 +1,6 @@
 -- The starred roots of the scope document, computed from the definition. Assumes nothing.
 use mathlib.Core.Path.{_≡_, refl}
-use mathlib.Core.Bool.{cond}
-use Prim.Native.Nat.{_^_, _+_, _-_}
-use lib.Ieee.{Float, binary64, ofBits, ofFields, odd, size, span, climb, nearest, round, units}
+use lib.Ieee.{binary64, ofBits, ofFields, odd, size, span, climb, round, units}
 use lib.Count.{trailingZeros}
 use Rattle.root.specs.Whole.{wholeRoot, digits, halves}
 use Rattle.root.specs.Root.{sqrtOf, rootFinite}

@@ -1,51 +1,39 @@
+-- `answer::code` meets its contract. Assumes nothing.
 use borrow.Author.Needs.{needs}
 use native.Mathlib.Omega.{arith}
 use Rattle.answer.proofs.code.Statement.{statement}
 use Rattle.answer.proofs.code.Tie as tie
-use Rattle.answer.proofs.code.Reads as reads
-use Rattle.answer.proofs.code.Lts as lts
 
--- src/lib.rt:55:24
 enum-told : tie.Need-enum-told
 enum-told c = search needs
 
--- src/lib.rt:56:24
 enum-known-c : tie.Need-enum-known-c
 enum-known-c c = search needs
 
--- src/lib.rt:59:25
 cast-result : tie.Need-cast-result
 cast-result c = search needs
 
--- src/lib.rt:59:24
 mul-result : tie.Need-mul-result
 mul-result c = search needs
 
--- src/lib.rt:59:24
 add-result : tie.Need-add-result
 add-result c = search needs
 
--- src/lib.rt:59:17
 returns : tie.Need-returns
 returns c = rw (c .before .before .before .c .given .1) (omega arith)
 
--- src/lib.rt:61:14
 cast-result-2 : tie.Need-cast-result-2
 cast-result-2 c = search needs
 
--- src/lib.rt:61:13
 mul-result-2 : tie.Need-mul-result-2
 mul-result-2 c = search needs
 
--- src/lib.rt:61:13
 add-result-2 : tie.Need-add-result-2
 add-result-2 c = search needs
 
--- src/lib.rt:51:1
 returns-2 : tie.Need-returns-2
 returns-2 c = search needs
 
--- src/lib.rt:51:1
 returns-3 : tie.Need-returns-3
 returns-3 c = rw (c .before .before .before .c .given .1) (omega arith)
 
