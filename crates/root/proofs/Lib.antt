@@ -1,2 +1,9 @@
 pub mod WholeLaws
+pub mod Steps
+pub mod Rounding
+pub mod Middle
+pub mod RootSteps
+pub mod RootLaws
+pub mod Nearest
+pub mod GridRoot
 pub mod Starred
