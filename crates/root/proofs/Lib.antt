@@ -1,6 +1,13 @@
 pub mod WholeLaws
 pub mod Squares
-pub mod Rounding
+pub mod HalfUp
 pub mod Patterns
 pub mod Cases
+pub mod Steps
+pub mod Rounding
+pub mod Middle
+pub mod RootSteps
+pub mod RootLaws
+pub mod Nearest
+pub mod GridRoot
 pub mod Starred

@@ -14,7 +14,7 @@ use lib.Ieee.Bits.{is-true, is-false}
 use borrow.Author.Tests.{ne-eqb}
 use Rattle.root.specs.Whole.{wholeRoot, halves}
 use Rattle.root.proofs.WholeLaws.{whole-le, square-lt}
-use Rattle.root.proofs.Rounding.{root-54, root-rounds}
+use Rattle.root.proofs.HalfUp.{root-54, root-rounds}
 
 -- ---- one digit more to look through changes nothing where there is a set digit below
 

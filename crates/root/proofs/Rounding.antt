@@ -1,156 +1,75 @@
--- How the root is rounded: of a number m of 53 or 54 binary digits, scaled by any even power of two, the root rounds to the whole
--- root of m * 2^54, halved upwards. There are no ties: a root that ended in a half would have an odd square. Assumes nothing.
-use mathlib.Core.Path.{_≡_, refl, sym, ap, _∙_, subst}
-use mathlib.Core.Bool.{Bool, true, false, not, cond}
+-- How far a rounding moves a fraction: by half a unit of its last digit at most. Counted in steps of the format's smallest value. Assumes nothing.
+use mathlib.Core.Path.{_≡_, refl, sym, subst}
+use mathlib.Core.Bool.{Bool, not}
 use Prim.Native.Nat.{ℕ, zero, suc, _+_, _-_, _*_, _/_, _%_, _^_, _≤_, _<_, compare, Ordering, Ordering·lt, Ordering·eq, Ordering·gt}
-use native.Mathlib.Nat.{le-trans, le-of-lt, le-antisymm, lt-irrefl, lt-of-lt-of-le, lt-of-le-of-lt, lt-of-not-le, mul-le-mul-right, mul-lt-mul-of-pos-right, mul-pos, mul-assoc, pow-succ', div-add-mod', div-eq-of-lt-le}
+use native.Mathlib.Nat.{le-trans, le-of-eq, div-add-mod', mod-lt, mul-assoc, mul-comm, mul-left-comm, mul-pos, mul-le-mul, div-div-eq-div-mul}
 use native.Mathlib.Omega.{arith}
-use lib.Dec.{T, isLe, isEq, le→leb, eqb→eq, eqb, lit<}
-use lib.Arith.{lt→nleb}
-use lib.Pow.{pow-pos, pow-mono, pow-add}
-use lib.Ieee.{binary64, size, nearest, round, units}
-use lib.Ieee.Digits.{size-lt, size-le}
-use lib.Ieee.Fits.{core, round-is}
-use lib.Ieee.Nearest.{closest, closest-same, div-same}
-use Rattle.root.specs.Whole.{wholeRoot, halves}
-use Rattle.root.proofs.WholeLaws.{whole-le, whole-lt, square-lt, halves-ge-even, halves-gt-even, halves-lt-even}
+use lib.Dec.{T, isLe, isEq, leb→le, nleb→lt, eqb→eq}
+use lib.Pow.{pow-add, pow-pos, pow-mono}
+use lib.Ieee.{Float, Format, prec, low, size, nearest, round}
+use lib.Ieee.Digits.{size-le}
+use lib.Ieee.Fits.{round-is, nearest-le, kept-lt}
+use lib.Ieee.Exact.{HasValue, units-val}
+use lib.Ieee.Nearest.{closest}
+use lib.Ieee.Order.{drop, kept}
+use lib.Ieee.Scale.{grid, overflow}
 
--- ---- a fraction's nearest whole number, away from a tie
+-- ---- a fraction a / b against the whole number nearest to it
 
-compare-lt : (a b : ℕ) → a < b → compare a b ≡ Ordering·lt
-compare-lt a b h = go (compare a b) (le→leb a b (le-of-lt h)) (eqb→eq a b)
+-- q * b + r is 2 * q + 1 halves of b at most where the comparison says so, and at least where it says so
+off : (q r b : ℕ) (o : Ordering) → r < b → (T (isLe o) → r * 2 ≤ b) → (T (not (isLe o)) → b < r * 2) → (T (isEq o) → r * 2 ≡ b)
+    → (2 * (nearest q o * b) ≤ 2 * (q * b + r) + b) × (2 * (q * b + r) ≤ 2 * (nearest q o * b) + b)
+off q r b Ordering·lt s h k e = let l = h tt in omega arith
+off q r b Ordering·gt s h k e = let l = k tt in omega arith
+off q r b Ordering·eq s h k e = go (q % 2) refl
   where
-    go : (o : Ordering) → T (isLe o) → (T (isEq o) → a ≡ b) → o ≡ Ordering·lt
-    go Ordering·lt t e = refl
-    go Ordering·eq t e = let q : a ≡ b = e tt in absurd (omega arith)
-    go Ordering·gt t e = absurd t
+    l : r * 2 ≡ b
+    l = e tt
 
-compare-gt : (a b : ℕ) → b < a → compare a b ≡ Ordering·gt
-compare-gt a b h = go (compare a b) (lt→nleb a b h)
+    go : (z : ℕ) → q % 2 ≡ z → (2 * ((q + q % 2) * b) ≤ 2 * (q * b + r) + b) × (2 * (q * b + r) ≤ 2 * ((q + q % 2) * b) + b)
+    go zero i = rw i (omega (arith, l))
+    go (suc z) i =
+        let j : q % 2 ≡ 1 = omega arith in
+        rw j (omega (arith, l))
+
+pub closest-off : (a b : ℕ) → 0 < b → (2 * (closest a b * b) ≤ 2 * a + b) × (2 * a ≤ 2 * (closest a b * b) + b)
+closest-off a b h =
+    let p = off (a / b) (a % b) b (compare (a % b * 2) b) (mod-lt a h) (leb→le (a % b * 2) b) (nleb→lt (a % b * 2) b) (eqb→eq (a % b * 2) b) in
+    let d = div-add-mod' a b in
+    (omega (arith, p .0), omega (arith, p .1))
+
+-- ---- `round` of a / c
+
+-- where it does not overflow it is `grid f a c` steps, with the sign given
+pub round-steps : (f : Format) (s : Bool) (a c : ℕ) → grid f a c < overflow f → HasValue (round f s a c) s (grid f a c) (2 ^ low f)
+round-steps f s a c h = subst (λ (z : Float). HasValue z s (grid f a c) (2 ^ low f)) (sym (round-is f s a c)) (units-val f s (kept (prec f) (a * 2 ^ low f) c) (drop (prec f) (a * 2 ^ low f) c) h)
+
+-- the unit of the last digit that is kept, in steps
+abbrev pub ulp : Format → ℕ → ℕ → ℕ
+ulp f a c = 2 ^ drop (prec f) (a * 2 ^ low f) c
+
+-- half of that unit is the most that the rounding moves a / c, which is a * 2 ^ low / c steps
+pub half-ulp : (f : Format) (a c : ℕ) → 0 < c
+    → (2 * (grid f a c * c) ≤ 2 * (a * 2 ^ low f) + ulp f a c * c) × (2 * (a * 2 ^ low f) ≤ 2 * (grid f a c * c) + ulp f a c * c)
+half-ulp f a c h =
+    let u = ulp f a c in
+    let p = closest-off (a * 2 ^ low f) (c * u) (mul-pos h (pow-pos (drop (prec f) (a * 2 ^ low f) c))) in
+    let e : kept (prec f) (a * 2 ^ low f) c * (c * u) ≡ grid f a c * c = simp (mul-assoc, mul-comm, mul-left-comm) in
+    let d : c * u ≡ u * c = mul-comm c u in
+    (omega (arith, p .0), omega (arith, p .1))
+
+-- below 2 ^ (prec + t) steps the unit is at most 2 ^ t
+pub ulp-le : (f : Format) (a c t : ℕ) → a * 2 ^ low f / c < 2 ^ (prec f + t) → ulp f a c ≤ 2 ^ t
+ulp-le f a c t h = pow-mono (spare (size (a * 2 ^ low f / c)) (prec f) t (size-le (a * 2 ^ low f / c) (prec f + t) h))
   where
-    go : (o : Ordering) → T (not (isLe o)) → o ≡ Ordering·gt
-    go Ordering·lt t = absurd t
-    go Ordering·eq t = absurd t
-    go Ordering·gt t = refl
+    spare : (z p t : ℕ) → z ≤ p + t → z - p ≤ t
+    spare z p t g = omega arith
 
-closest-down : (t h u : ℕ) → t * u ≤ h → 2 * h < (2 * t + 1) * u → closest h u ≡ t
-closest-down t h u a b =
-    let q : h / u ≡ t = div-eq-of-lt-le u a (omega arith) in
-    let e : t * u + h % u ≡ h = subst (λ (x : ℕ). x * u + h % u ≡ h) q (div-add-mod' h u) in
-    rw (q, compare-lt (h % u * 2) u (omega arith))
-
-closest-up : (t h u : ℕ) → (2 * t + 1) * u < 2 * h → h < (t + 1) * u → closest h u ≡ suc t
-closest-up t h u a b =
-    let q : h / u ≡ t = div-eq-of-lt-le u (omega arith) b in
-    let e : t * u + h % u ≡ h = subst (λ (x : ℕ). x * u + h % u ≡ h) q (div-add-mod' h u) in
-    rw (q, compare-gt (h % u * 2) u (omega arith))
-
--- ---- a number's digits
-
-size-is : (w d : ℕ) → 2 ^ d ≤ w → w < 2 ^ suc d → size w ≡ suc d
-size-is w d l h = le-antisymm (size-le w (suc d) h) (lt-of-not-le (λ (g : size w ≤ d). lt-irrefl w (lt-of-lt-of-le (size-lt w) (le-trans (pow-mono g) l))))
-
-halves-half : (n : ℕ) → halves n / 2 ≡ wholeRoot n
-unfolding halves
-halves-half n = go (eqb (wholeRoot n * wholeRoot n) n)
-  where
-    go : (b : Bool) → (2 * wholeRoot n + cond b 0 1) / 2 ≡ wholeRoot n
-    go true = omega arith
-    go false = omega arith
-
--- ---- the root s of m * 2^54, and that of m * 2^54 * p * p between s * p and (s + 1) * p
-
-module _ (m : ℕ) (low : 2 ^ 52 ≤ m) (high : m < 2 ^ 54) where
-  pub root-54 : (2 ^ 53 ≤ wholeRoot (m * 2 ^ 54)) × (wholeRoot (m * 2 ^ 54) < 2 ^ 54)
-  root-54 =
-      let s = wholeRoot (m * 2 ^ 54) in
-      let l : 2 ^ 53 < s + 1 = square-lt (2 ^ 53) (s + 1) (lt-of-le-of-lt (mul-le-mul-right (2 ^ 54) low) (whole-lt (m * 2 ^ 54))) in
-      (omega arith, square-lt s (2 ^ 54) (lt-of-le-of-lt (whole-le (m * 2 ^ 54)) (mul-lt-mul-of-pos-right high (lit< tt))))
-
-  module _ (p : ℕ) (pos : 0 < p) where
-    scaled-le : (wholeRoot (m * 2 ^ 54) * p) * (wholeRoot (m * 2 ^ 54) * p) ≤ m * 2 ^ 54 * (p * p)
-    scaled-le =
-        let s = wholeRoot (m * 2 ^ 54) in
-        let x : s * s * (p * p) ≤ m * 2 ^ 54 * (p * p) = mul-le-mul-right (p * p) (whole-le (m * 2 ^ 54)) in
-        omega arith
-
-    scaled-lt : m * 2 ^ 54 * (p * p) < ((wholeRoot (m * 2 ^ 54) + 1) * p) * ((wholeRoot (m * 2 ^ 54) + 1) * p)
-    scaled-lt =
-        let s = wholeRoot (m * 2 ^ 54) in
-        let x : m * 2 ^ 54 * (p * p) < (s + 1) * (s + 1) * (p * p) = mul-lt-mul-of-pos-right (whole-lt (m * 2 ^ 54)) (mul-pos pos pos) in
-        omega arith
-
-    -- an odd root is never exact
-    scaled-ne : wholeRoot (m * 2 ^ 54) % 2 ≡ 1 → (wholeRoot (m * 2 ^ 54) * p) * (wholeRoot (m * 2 ^ 54) * p) < m * 2 ^ 54 * (p * p)
-    scaled-ne o =
-        let s = wholeRoot (m * 2 ^ 54) in
-        let r = s / 2 in
-        let e : s ≡ 2 * r + 1 = omega arith in
-        let q : s * s ≡ (2 * r + 1) * (2 * r + 1) = ap (λ (x : ℕ). x * x) e in
-        let n : s * s < m * 2 ^ 54 = omega (arith, whole-le (m * 2 ^ 54)) in
-        let x : s * s * (p * p) < m * 2 ^ 54 * (p * p) = mul-lt-mul-of-pos-right n (mul-pos pos pos) in
-        omega arith
-
-    whole-from : wholeRoot (m * 2 ^ 54) * p ≤ wholeRoot (m * 2 ^ 54 * (p * p))
-    whole-from =
-        let n = m * 2 ^ 54 * (p * p) in
-        let x : wholeRoot (m * 2 ^ 54) * p < wholeRoot n + 1 = square-lt _ (wholeRoot n + 1) (lt-of-le-of-lt scaled-le (whole-lt n)) in
-        omega arith
-
-    whole-to : wholeRoot (m * 2 ^ 54 * (p * p)) < (wholeRoot (m * 2 ^ 54) + 1) * p
-    whole-to =
-        let n = m * 2 ^ 54 * (p * p) in
-        square-lt (wholeRoot n) _ (lt-of-le-of-lt (whole-le n) scaled-lt)
-
-    -- halved upwards, in units of 4 * p
-    halved-up : closest (halves (m * 2 ^ 54 * (p * p))) (2 * (2 * p)) ≡ (wholeRoot (m * 2 ^ 54) + 1) / 2
-    halved-up =
-        let s = wholeRoot (m * 2 ^ 54) in
-        go (s % 2) refl
-      where
-        go : (r : ℕ) → wholeRoot (m * 2 ^ 54) % 2 ≡ r → closest (halves (m * 2 ^ 54 * (p * p))) (2 * (2 * p)) ≡ (wholeRoot (m * 2 ^ 54) + 1) / 2
-        go zero z =
-            let s = wholeRoot (m * 2 ^ 54) in
-            let n = m * 2 ^ 54 * (p * p) in
-            let t = s / 2 in
-            let e : 2 * t ≡ s = omega arith in
-            let f : 2 * t * p ≡ s * p = ap (λ (x : ℕ). x * p) e in
-            let a = halves-ge-even n (s * p) scaled-le in
-            let b = halves-lt-even n ((s + 1) * p) scaled-lt in
-            let i : t ≡ (s + 1) / 2 = omega arith in
-            closest-down t (halves n) (2 * (2 * p)) (omega arith) (omega arith) ∙ i
-        go (suc r) z =
-            let s = wholeRoot (m * 2 ^ 54) in
-            let n = m * 2 ^ 54 * (p * p) in
-            let t = s / 2 in
-            let e : 2 * t + 1 ≡ s = omega arith in
-            let f : (2 * t + 1) * p ≡ s * p = ap (λ (x : ℕ). x * p) e in
-            let a = halves-gt-even n (s * p) (scaled-ne (omega arith)) in
-            let b = halves-lt-even n ((s + 1) * p) scaled-lt in
-            let i : suc t ≡ (s + 1) / 2 = omega arith in
-            closest-up t (halves n) (2 * (2 * p)) (omega arith) (omega arith) ∙ i
-
-  module _ (j : ℕ) where
-    size-53 : size (wholeRoot (m * 2 ^ 54 * (2 ^ j * 2 ^ j))) ≡ suc (53 + j)
-    size-53 =
-        let s = wholeRoot (m * 2 ^ 54) in
-        let l : 2 ^ (53 + j) ≤ s * 2 ^ j = subst (λ (x : ℕ). x ≤ s * 2 ^ j) (sym (pow-add 2 53 j)) (mul-le-mul-right (2 ^ j) (root-54 .0)) in
-        let h : (s + 1) * 2 ^ j ≤ 2 ^ (54 + j) = subst (λ (x : ℕ). (s + 1) * 2 ^ j ≤ x) (sym (pow-add 2 54 j)) (mul-le-mul-right (2 ^ j) (omega (arith, root-54))) in
-        size-is (wholeRoot (m * 2 ^ 54 * (2 ^ j * 2 ^ j))) (53 + j) (le-trans l (whole-from (2 ^ j) (pow-pos j)))
-        (subst (λ (x : ℕ). wholeRoot (m * 2 ^ 54 * (2 ^ j * 2 ^ j)) < 2 ^ x) (let e : 54 + j ≡ suc (53 + j) = omega arith in e) (lt-of-lt-of-le (whole-to (2 ^ j) (pow-pos j)) h))
-
-    -- the root of m * 2^54 * 2^j * 2^j half steps, rounded
-    pub root-rounds : round binary64 false (halves (m * 2 ^ 54 * (2 ^ j * 2 ^ j))) (2 ^ 1075) ≡ units binary64 false ((wholeRoot (m * 2 ^ 54) + 1) / 2) (suc j)
-    root-rounds =
-        let n = m * 2 ^ 54 * (2 ^ j * 2 ^ j) in
-        let h = halves n in
-        let d : h * 2 ^ 1074 / 2 ^ 1075 ≡ wholeRoot n = div-same (h * 2 ^ 1074) (2 ^ 1075) h 2 (pow-pos 1075) (lit< tt) (mul-assoc h (2 ^ 1074) 2) ∙ halves-half n in
-        let k : size (h * 2 ^ 1074 / 2 ^ 1075) - 53 ≡ suc j = ap (λ (x : ℕ). size x - 53) d ∙ ap (λ (x : ℕ). x - 53) size-53 ∙ (let e : suc (53 + j) - 53 ≡ suc j = omega arith in e) in
-        let c : closest (h * 2 ^ 1074) (2 ^ 1075 * 2 ^ suc j) ≡ closest h (2 * 2 ^ suc j) =
-        closest-same (h * 2 ^ 1074) (2 ^ 1075 * 2 ^ suc j) h (2 * 2 ^ suc j) (mul-pos (pow-pos 1075) (pow-pos (suc j))) (mul-pos (lit< tt) (pow-pos (suc j)))
-        (mul-assoc h (2 ^ 1074) (2 * 2 ^ suc j) ∙ ap (λ (x : ℕ). h * x) (sym (mul-assoc (2 ^ 1074) 2 (2 ^ suc j)))) in
-        let u : closest h (2 * 2 ^ suc j) ≡ (wholeRoot (m * 2 ^ 54) + 1) / 2 =
-        ap (λ (x : ℕ). closest h (2 * x)) (pow-succ' 2 j) ∙ halved-up (2 ^ j) (pow-pos j) in
-        round-is binary64 false h (2 ^ 1075)
-        ∙ ap (λ (x : ℕ). core binary64 false (h * 2 ^ 1074) (2 ^ 1075) x) k
-        ∙ ap (λ (x : ℕ). units binary64 false x (suc j)) (c ∙ u)
+-- and the result is at most 2 ^ (prec + t)
+pub grid-le : (f : Format) (a c t : ℕ) → a * 2 ^ low f / c < 2 ^ (prec f + t) → grid f a c ≤ 2 ^ (prec f + t)
+grid-le f a c t h =
+    let n = a * 2 ^ low f in
+    let k = drop (prec f) n c in
+    let u = c * 2 ^ k in
+    let few : kept (prec f) n c ≤ 2 ^ prec f = le-trans (nearest-le (n / u) (compare (n % u * 2) u)) (subst (λ (x : ℕ). x < 2 ^ prec f) (div-div-eq-div-mul n c (2 ^ k)) (kept-lt (prec f) (n / c))) in
+    le-trans (mul-le-mul few (ulp-le f a c t h)) (le-of-eq (sym (pow-add 2 (prec f) t)))
