@@ -19,7 +19,7 @@ use Rattle.block.proofs.FieldLaws.{past-byte, past-u16, past-u32}
 weigh-suc : (w : ℕ) (t : List ℕ) (p : ℕ) → p < length t → weigh w (take (suc p) t) ≡ weigh w (take p t) + (w + p) * getD t p 0
 unfolding weigh
 weigh-suc w [] p h = absurd (not-suc-le-zero h)
-weigh-suc w (x ∷ t) zero h = rw add-zero (omega arith)
+weigh-suc w (x ∷ t) zero h = simp add-zero (omega arith)
 weigh-suc w (x ∷ t) (suc p) h =
     rw (weigh-suc (suc w) t p (le-of-suc-le-suc h), add-suc w p, suc-add w p) (omega arith)
 

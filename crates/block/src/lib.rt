@@ -48,6 +48,14 @@ pub fn u16_at(s: &[u8], at: usize) -> u16
     (byte_at(s, at) as u16) + 256 * (byte_at(s, at + 1) as u16)
 }
 
+// Four bytes that all stand in the slice: the compiler makes one load of them.
+fn half_at(s: &[u8], at: usize) -> u64
+    requires { ⌜ at + 4 ≤ length (now s) ⌝ }
+    ensures { λ r. ⌜ (r ≡ u32At (now (s .entry)) at) × (r < 4294967296) ⌝ }
+{
+    wide(s[at]) + 256 * wide(s[at + 1]) + 65536 * wide(s[at + 2]) + 16777216 * wide(s[at + 3])
+}
+
 // Four bytes at a place.
 pub fn u32_at(s: &[u8], at: usize) -> u32
     ensures { λ r. ⌜ r ≡ u32At (now (s .entry)) at ⌝ }
@@ -55,15 +63,10 @@ pub fn u32_at(s: &[u8], at: usize) -> u32
     if s.len() <= at {
         return 0;
     }
+    if 4 <= s.len() - at {
+        return half_at(s, at) as u32;
+    }
     (u16_at(s, at) as u32) + 65536 * (u16_at(s, at + 2) as u32)
-}
-
-// Four bytes that all stand in the slice: the compiler makes one load of them.
-fn half_at(s: &[u8], at: usize) -> u64
-    requires { ⌜ at + 4 ≤ length (now s) ⌝ }
-    ensures { λ r. ⌜ (r ≡ u32At (now (s .entry)) at) × (r < 4294967296) ⌝ }
-{
-    wide(s[at]) + 256 * wide(s[at + 1]) + 65536 * wide(s[at + 2]) + 16777216 * wide(s[at + 3])
 }
 
 // Eight bytes at a place.
@@ -97,7 +100,7 @@ fn number(bits: u64) -> f64
 }
 
 // Whether a block starts as is due.
-pub fn starts_as(s: &[u8], at: usize, kind: u8, version: u8, number: u16) -> bool
+pub fn starts_as(s: &[u8], at: usize, kind: u8, version: u8, number: usize) -> bool
     ensures { λ r. ⌜ r ≡ starts (now (s .entry)) at kind version number ⌝ }
 {
     if s.len() <= at {
@@ -109,7 +112,7 @@ pub fn starts_as(s: &[u8], at: usize, kind: u8, version: u8, number: u16) -> boo
     if byte_at(s, at + 1) != version {
         return false;
     }
-    if u16_at(s, at + 2) != number {
+    if (u16_at(s, at + 2) as usize) != number {
         return false;
     }
     u32_at(s, at + 4) == 0

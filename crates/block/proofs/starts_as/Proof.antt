@@ -30,6 +30,9 @@ add-u16-at c = search needs
 u16-at-requires : tie.Need-u16-at-requires
 u16-at-requires c κs = search needs
 
+cast-if4 : tie.Need-cast-if4
+cast-if4 c = search needs
+
 returns-4 : tie.Need-returns-4
 returns-4 c = let v = c .before .before in
     let k = v .before .before in
@@ -59,6 +62,7 @@ starts-as-spec =
     returns-3
     add-u16-at
     u16-at-requires
+    cast-if4
     returns-4
     add-u32-at
     u32-at-requires
