@@ -1,0 +1,116 @@
+-- What the tests on a block say in words: its start byte by byte, a run of zeros at each place; and fields read at a place that was cut
+-- off at the end of the bytes. Assumes nothing.
+use mathlib.Core.Path.{_≡_, refl, sym, ap, _∙_}
+use mathlib.Core.Bool.{Bool, true, false, _&&_}
+use mathlib.Core.List.{List, [], _∷_}
+use Prim.Native.Nat.{ℕ, zero, suc, _+_, _≤_, _<_, min, suc-le-suc}
+use native.Mathlib.Nat.{add-assoc, zero-lt-suc}
+use native.Mathlib.Omega.{arith}
+use lib.Dec.{eqb, ltb}
+use lib.ListN.{length, take, drop, getD, length-take}
+use lib.Seq.{getD-take, getD-drop}
+use borrow.Author.Tests.{eqb-true, eq-eqb, ltb-true, ltb-false}
+use Rattle.block.specs.Field.{byteAt, u16At, u32At, u64At, f64At}
+use Rattle.block.specs.Block.{starts, allZero, zerosAt}
+use Rattle.block.proofs.FieldLaws.{past-byte}
+
+-- ---- and, taken apart
+
+pub and-first : (a b : Bool) → a && b ≡ true → a ≡ true
+and-first true b e = refl
+and-first false b e = e
+
+pub and-second : (a b : Bool) → a && b ≡ true → b ≡ true
+and-second true b e = e
+and-second false b e = let z : _≡_ {A = ℕ} 0 1 = cc in absurd (omega arith)
+
+pub and-both : (a b : Bool) → a ≡ true → b ≡ true → a && b ≡ true
+and-both a b e f = rw (e, f)
+
+-- ---- the start of a block
+
+-- the first eight bytes are as due
+pub record Due (s : List ℕ) (at kind version number : ℕ) : Type 0 where
+  pub kind-is : byteAt s at ≡ kind
+  pub version-is : byteAt s (at + 1) ≡ version
+  pub number-is : u16At s (at + 2) ≡ number
+  pub zeros-are : u32At s (at + 4) ≡ 0
+
+module _ (s : List ℕ) (at kind version number : ℕ) where
+  pub due-is : starts s at kind version number ≡ true → Due s at kind version number
+  unfolding starts
+  due-is e =
+      let a = eqb (byteAt s at) kind in
+      let b = eqb (byteAt s (at + 1)) version in
+      let c = eqb (u16At s (at + 2)) number in
+      let d = eqb (u32At s (at + 4)) 0 in
+      record {
+        kind-is = eqb-true _ _ (and-first a (b && (c && d)) e);
+        version-is = eqb-true _ _ (and-first b (c && d) (and-second a (b && (c && d)) e));
+        number-is = eqb-true _ _ (and-first c d (and-second b (c && d) (and-second a (b && (c && d)) e)));
+        zeros-are = eqb-true _ _ (and-second c d (and-second b (c && d) (and-second a (b && (c && d)) e)));
+      }
+
+  pub is-due : Due s at kind version number → starts s at kind version number ≡ true
+  unfolding starts
+  is-due h =
+      and-both _ _ (eq-eqb _ _ (h .kind-is)) (and-both _ _ (eq-eqb _ _ (h .version-is)) (and-both _ _ (eq-eqb _ _ (h .number-is)) (eq-eqb _ _ (h .zeros-are))))
+
+-- ---- a run of zeros
+
+zero-each : (t : List ℕ) → allZero t ≡ true → (i : ℕ) → getD t i 0 ≡ 0
+unfolding allZero
+zero-each [] e i = refl
+zero-each (x ∷ t) e zero = eqb-true x 0 (and-first (eqb x 0) (allZero t) e)
+zero-each (x ∷ t) e (suc i) = zero-each t (and-second (eqb x 0) (allZero t) e) i
+
+each-zero : (t : List ℕ) → ((i : ℕ) → i < length t → getD t i 0 ≡ 0) → allZero t ≡ true
+unfolding allZero
+each-zero [] h = refl
+each-zero (x ∷ t) h = and-both (eqb x 0) (allZero t) (eq-eqb x 0 (h 0 (zero-lt-suc (length t)))) (each-zero t (λ i g. h (suc i) (suc-le-suc g)))
+
+pub zeros-each : (s : List ℕ) (at count : ℕ) → zerosAt s at count ≡ true → (i : ℕ) → i < count → byteAt s (at + i) ≡ 0
+unfolding zerosAt
+zeros-each s at count e i h = sym (getD-drop at s i 0) ∙ sym (getD-take count (drop at s) i 0 h) ∙ zero-each (take count (drop at s)) e i
+
+pub each-zeros : (s : List ℕ) (at count : ℕ) → ((i : ℕ) → i < count → byteAt s (at + i) ≡ 0) → zerosAt s at count ≡ true
+unfolding zerosAt
+each-zeros s at count h =
+    each-zero (take count (drop at s)) (λ i g.
+    let k : i < count = omega (arith, length-take count (drop at s)) in
+    getD-take count (drop at s) i 0 k ∙ getD-drop at s i 0 ∙ h i k)
+
+-- ---- a place that was cut off at the end reads what the place itself reads
+
+module _ (s : List ℕ) (a : ℕ) where
+  pub cut-byte : (i : ℕ) → byteAt s (min a (length s) + i) ≡ byteAt s (a + i)
+  cut-byte i = go (ltb a (length s)) refl
+    where
+      go : (b : Bool) → ltb a (length s) ≡ b → byteAt s (min a (length s) + i) ≡ byteAt s (a + i)
+      go true t =
+          let h : a < length s = ltb-true _ _ t in
+          let e : min a (length s) ≡ a = omega arith in
+          rw e
+      go false t =
+          let h : length s ≤ a = ltb-false _ _ t in
+          past-byte s (min a (length s) + i) (omega arith) ∙ sym (past-byte s (a + i) (omega arith))
+
+  -- the same one field further on
+  further : (f : ℕ → ℕ) → ((i : ℕ) → f (min a (length s) + i) ≡ f (a + i)) → (i j : ℕ) → f (min a (length s) + i + j) ≡ f (a + i + j)
+  further f h i j = rw (add-assoc (min a (length s)) i j, add-assoc a i j) (h (i + j))
+
+  pub cut-u16 : (i : ℕ) → u16At s (min a (length s) + i) ≡ u16At s (a + i)
+  unfolding u16At
+  cut-u16 i = rw (cut-byte i, further (byteAt s) cut-byte i 1)
+
+  pub cut-u32 : (i : ℕ) → u32At s (min a (length s) + i) ≡ u32At s (a + i)
+  unfolding u32At
+  cut-u32 i = rw (cut-u16 i, further (u16At s) cut-u16 i 2)
+
+  pub cut-u64 : (i : ℕ) → u64At s (min a (length s) + i) ≡ u64At s (a + i)
+  unfolding u64At
+  cut-u64 i = rw (cut-u32 i, further (u32At s) cut-u32 i 4)
+
+  pub cut-f64 : (i : ℕ) → f64At s (min a (length s) + i) ≡ f64At s (a + i)
+  unfolding f64At
+  cut-f64 i = rw (cut-u64 i)
