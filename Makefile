@@ -1,0 +1,51 @@
+# The proofs are rt's; this file joins them with what is built around them in Rust and C.
+#   make               proves every crate and builds the programs
+#   make test          every test, then the gate (rt ci); the last line is the gate's own
+#   make differential  the comparisons in full size          make bench   the speed figures
+#   make soak SECONDS=600 SEED=7   comparisons from a seed for a time
+#   make fmt           formats Rattle and Rust
+
+# The folder of the Rust original, from the top of the repository.
+U_NESTING_SRC ?= ../shared/docs/src/crates/cutting/src
+export U_NESTING_SRC
+SEED ?= 1
+SECONDS ?= 600
+# The part of the full comparisons that `make test` runs.
+PERCENT ?= 4
+
+CARGO = cargo
+# Without the original the comparisons with it are left out, and say so.
+ORIGINAL = $(if $(wildcard $(U_NESTING_SRC)/gtsp.rs),--features original)
+ORACLE = $(CARGO) run --release --offline --quiet --package oracle $(ORIGINAL) --bin
+
+.PHONY: all test hosts no-cargo archives differential bench soak fmt
+
+all:
+	rt check
+
+test: $(if $(shell command -v $(CARGO)),hosts,no-cargo)
+	rt ci
+
+hosts: archives
+	$(CARGO) test --release --offline --quiet --workspace $(ORIGINAL)
+	$(ORACLE) differential -- --seed $(SEED) --percent $(PERCENT)
+
+no-cargo:
+	@echo 'the tests from Rust and C are left out: cargo is not on this machine'
+
+# The archives that Rust and C link, for this machine.
+archives:
+	hosts/native/archive.sh probe tour
+
+differential: archives
+	$(ORACLE) differential -- --seed $(SEED)
+
+bench: archives
+	$(ORACLE) bench
+
+soak: archives
+	$(ORACLE) differential -- --seed $(SEED) --percent 1 --seconds $(SECONDS)
+
+fmt:
+	rt fmt
+	$(CARGO) fmt --all

@@ -1,0 +1,25 @@
+# The compiler of the native kit (kit.sh puts the lines that set `real` and `machine` before this).
+#
+# rattle hands over module.bc, the proved program as LLVM code for x86-64. What in it speaks of x86-64 is
+# the layout line, the triple and the processor's name; all other code is the same for every 64-bit
+# little-endian machine. Those three are dropped and the rest is compiled for this machine with the
+# flags given. No multiplication and addition may melt into one rounding.
+set -eu
+
+wanted=
+for word in "$@"; do
+    shift
+    case $word in
+    --target=*) word=--target=$machine-unknown-linux-gnu ;;
+    -march=*) word=-mcpu=native ;;
+    -Werror) continue ;;
+    module.bc) wanted=yes word=module-native.ll ;;
+    esac
+    set -- "$@" "$word"
+done
+if [ -n "$wanted" ]; then
+    "$real" --target=x86_64-unknown-linux-gnu -x ir module.bc -S -emit-llvm -O0 -Xclang -disable-llvm-passes -o - |
+        sed -e '/^target datalayout/d' -e '/^target triple/d' -e 's/"target-cpu"="[^"]*"//' >module-native.ll
+    set -- -ffp-contract=off "$@"
+fi
+exec "$real" "$@"

@@ -1,0 +1,106 @@
+//! The original's own modules, as build.rs copies them, and stand-ins for what they import.
+//!
+//! `gtsp` is the original search, unchanged. `counted` is the same file with its limit by the clock
+//! replaced by a count of trials.
+
+#![allow(dead_code, unused, unexpected_cfgs, clippy::all)]
+
+extern crate self as u_nesting_core;
+
+macro_rules! copied {
+    ($($name:ident)*) => {
+        $(pub mod $name { include!(concat!(env!("OUT_DIR"), "/", stringify!($name), ".rs")); })*
+    };
+}
+copied!(config contour cost result hierarchy gtsp counted);
+
+pub type Result<T> = std::result::Result<T, Error>;
+
+/// The refusals that config.rs can give. No run asks for one.
+#[derive(Debug)]
+pub enum Error {
+    OutOfRange {
+        parameter: String,
+        id: Option<String>,
+        min: Option<f64>,
+        max: Option<f64>,
+        exclusive_min: Option<f64>,
+        exclusive_max: Option<f64>,
+        got: f64,
+        range: String,
+    },
+    UnknownOption {
+        parameter: String,
+        got: String,
+        expected: Vec<String>,
+    },
+}
+
+pub mod error {
+    pub fn whole_at_least(_: &str, value: i128, _: i128) -> crate::Result<usize> {
+        Ok(value as usize)
+    }
+    pub fn check_at_least(_: &str, _: f64, _: f64) -> crate::Result<()> {
+        Ok(())
+    }
+    pub fn check_above(_: &str, _: f64, _: f64) -> crate::Result<()> {
+        Ok(())
+    }
+}
+
+/// A clock that stands still: every run has the time limit 0.
+pub mod timing {
+    pub struct Timer;
+    impl Timer {
+        pub fn now() -> Timer {
+            Timer
+        }
+        pub fn elapsed_ms(&self) -> u64 {
+            unreachable!("no run has a time limit")
+        }
+    }
+}
+
+/// What the nesting of parts in holes needs. Pairs come from a card, so nothing asks.
+pub mod geom {
+    pub mod collision {
+        pub fn boundary_distance(_: &[(f64, f64)], _: &[(f64, f64)]) -> Option<f64> {
+            unreachable!("pairs come from a card")
+        }
+    }
+    pub mod polygon {
+        pub fn contains_point(_: &[(f64, f64)], _: (f64, f64)) -> bool {
+            unreachable!("pairs come from a card")
+        }
+    }
+}
+
+/// The counted move limit of the copy `counted`.
+pub mod count {
+    use std::cell::Cell;
+    thread_local! {
+        static LIMIT: Cell<u64> = const { Cell::new(0) };
+        static MOVES: Cell<u64> = const { Cell::new(0) };
+    }
+
+    /// Before a search: no trial yet, and at most `limit` of them (0: as many as it takes).
+    pub fn begin(limit: u64) {
+        LIMIT.set(limit);
+        MOVES.set(0);
+    }
+
+    /// The trials that began since.
+    pub fn moves() -> u64 {
+        MOVES.get()
+    }
+
+    /// A trial is about to begin: whether it may not. Otherwise it is counted.
+    pub fn spent() -> bool {
+        let (limit, moves) = (LIMIT.get(), MOVES.get());
+        if limit > 0 && moves == limit {
+            return true;
+        }
+        MOVES.set(moves + 1);
+        false
+    }
+}

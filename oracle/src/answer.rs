@@ -1,0 +1,127 @@
+//! The original's answers to a good card.
+
+use crate::card::{Card, Contour};
+use original::config::{CutDirectionPreference, CuttingConfig};
+use original::contour::{ContourType, CutContour};
+use original::hierarchy::CuttingDag;
+use original::result::CutDirection;
+use original::{count, counted, gtsp};
+
+/// A card as the original has it. `instance` is of the original as it is, `counted` of the copy with the
+/// counted limit; both are made by the same code.
+pub struct Problem {
+    pub instance: gtsp::GtspInstance,
+    pub counted: counted::GtspInstance,
+    pub dag: CuttingDag,
+    pub config: CuttingConfig,
+}
+
+/// What a search ends with.
+#[derive(Clone, Debug, PartialEq)]
+pub struct Found {
+    pub tour: Vec<usize>,
+    pub moves: u64,
+    /// The length's bits.
+    pub length: u64,
+}
+
+fn preference(number: u8) -> CutDirectionPreference {
+    [CutDirectionPreference::Ccw, CutDirectionPreference::Cw, CutDirectionPreference::Auto][usize::from(number)]
+}
+
+fn contour(c: &Contour) -> CutContour {
+    CutContour {
+        id: c.id as usize,
+        geometry_id: String::new(),
+        instance: 0,
+        contour_type: if c.interior { ContourType::Interior } else { ContourType::Exterior },
+        vertices: c.vertices.clone(),
+        perimeter: 0.0,
+        centroid: (0.0, 0.0),
+    }
+}
+
+impl Problem {
+    pub fn of(card: &Card) -> Problem {
+        let config = CuttingConfig {
+            exterior_direction: preference(card.exterior),
+            interior_direction: preference(card.interior),
+            ..CuttingConfig::new()
+                .with_pierce_candidates(usize::from(card.c))
+                .with_max_2opt_iterations(usize::from(card.passes))
+                .with_time_limit_ms(0)
+        };
+        let contours: Vec<CutContour> = card.contours.iter().map(contour).collect();
+        let pairs = card.pairs.iter().map(|p| (p.before.0 as usize, p.after.0 as usize)).collect();
+        let clusters = gtsp::discretize_contours(&contours, &config).unwrap();
+        let again = counted::discretize_contours(&contours, &config).unwrap();
+        Problem {
+            instance: gtsp::build_gtsp_instance(clusters, card.home),
+            counted: counted::build_gtsp_instance(again, card.home),
+            dag: CuttingDag::from_pairs(contours.len(), pairs),
+            config,
+        }
+    }
+
+    /// The search with the counted limit, 0 for none. The length is evaluated from the tour.
+    pub fn search(&self, limit: u32) -> Found {
+        count::begin(u64::from(limit));
+        let tour = counted::solve_constrained(&self.counted, &self.dag, &self.config);
+        let length = counted::evaluate_solution(&self.counted, &tour).to_bits();
+        Found { tour, moves: count::moves(), length }
+    }
+
+    /// The search of the original as it is.
+    pub fn unlimited(&self) -> Vec<usize> {
+        gtsp::solve_constrained(&self.instance, &self.dag, &self.config)
+    }
+
+    /// The start alone: the original improves nothing when it may make no pass.
+    pub fn start(&self) -> Vec<usize> {
+        let config = self.config.clone().with_max_2opt_iterations(0);
+        gtsp::solve_constrained(&self.instance, &self.dag, &config)
+    }
+
+    /// The list that the program prints.
+    pub fn list(&self, card: &Card, found: &Found) -> String {
+        let mut list = format!("JOB {} CONTOURS {}\n", card.job, card.contours.len());
+        for &number in &found.tour {
+            let (contour, within) = self.instance.global_to_local(number);
+            let Contour { id, tag, .. } = card.contours[contour];
+            let direction = match self.instance.candidate(number).direction {
+                CutDirection::Ccw => "ccw",
+                CutDirection::Cw => "cw",
+            };
+            list += &format!("{id} {tag} {within} {direction}\n");
+        }
+        list + &format!("MOVES {}\nRAPID {:016x}\n", found.moves, found.length)
+    }
+}
+
+/// The card and the list of job 41, as the paper prints them.
+#[test]
+fn job_41() {
+    let one = |id, tag, interior, vertex| Contour { id, tag, interior, vertices: vec![vertex] };
+    let mut card = Card {
+        job: 41,
+        c: 1,
+        passes: 10,
+        exterior: 2,
+        interior: 2,
+        contours: vec![one(7, 70, false, (12.0, 12.0)), one(9, 90, false, (3.0, 0.0)), one(2, 20, true, (3.0, 4.0))],
+        ..Card::default()
+    };
+    card.pairs.push(card.pair(2, 1));
+    let problem = Problem::of(&card);
+    let list = "JOB 41 CONTOURS 3\n2 20 0 cw\n9 90 0 ccw\n7 70 0 ccw\nMOVES 1\nRAPID 4038000000000000\n";
+    assert_eq!(problem.list(&card, &problem.search(0)), list);
+}
+
+/// Every good card of the generator is good by the second reading, and reads back as it was written.
+#[test]
+fn good_cards_read_back() {
+    for case in 0..3000 {
+        let card = crate::generate::good(&crate::random::Random::of(1, "read back", case));
+        assert_eq!(crate::reading::card(&card.bytes()).as_ref(), Ok(&card), "case {case}");
+    }
+}

@@ -1,0 +1,287 @@
+//! Cards to try: good ones of every shape, and damaged ones of every kind.
+
+use crate::card::{BLOCK, Card, Contour, seal};
+use crate::random::{KINDS, Kind, REACH, Random};
+
+/// Good cards of every shape.
+pub fn good(r: &Random) -> Card {
+    let n = match r.below(10) {
+        0 => r.below(3),
+        1..=4 => r.from(3, 8),
+        5..=7 => r.from(9, 20),
+        _ => r.from(21, 40),
+    } as usize;
+    sized(r, n)
+}
+
+/// Good cards with n contours.
+pub fn sized(r: &Random, n: usize) -> Card {
+    let most = (80 / n.max(1)).min(8) as u64;
+    let c = r.pick(&[1, most.min(2), r.from(1, most), most]) as u16;
+    let kind = r.pick(&KINDS);
+    let mut card = Card {
+        job: r.next() as u32,
+        c,
+        passes: r.pick(&[0, 1, 2, 3, 10, 10, 100, 1000]),
+        limit: limit(r),
+        home: (r.coordinate(kind), r.coordinate(kind)),
+        exterior: r.below(3) as u8,
+        interior: r.below(3) as u8,
+        ..Card::default()
+    };
+    let named = r.below(4);
+    for k in 0..n {
+        let id = match named {
+            0 => k as u32,
+            1 => u32::MAX - k as u32,
+            2 => (n - k) as u32 * 1000,
+            _ => (r.next() as u32) / 64 * 64 + k as u32,
+        };
+        let tag = if r.one_in(3) { 7 } else { r.next() as u32 };
+        card.contours.push(Contour { id, tag, interior: r.one_in(2), vertices: outline(r, kind) });
+    }
+    pairs(r, &mut card);
+    card
+}
+
+/// A sheet of plain parts, for the speed figures and the examples: n contours of four to twelve vertices on a sheet of 3000
+/// by 1500 mm, c candidates each, m pairs, no limit.
+pub fn sheet(r: &Random, n: usize, c: u16, m: usize) -> Card {
+    let mut card = Card { job: 1, c, passes: 1000, exterior: 2, interior: 2, ..Card::default() };
+    for k in 0..n {
+        let middle = (100.0 + r.unit() * 2800.0, 100.0 + r.unit() * 1300.0);
+        let (v, size) = (r.from(4, 12), 20.0 + r.unit() * 80.0);
+        let vertex = |j: u64| {
+            let angle = std::f64::consts::TAU * j as f64 / v as f64;
+            (middle.0 + size * angle.cos(), middle.1 + size * angle.sin())
+        };
+        let vertices = (0..v).map(vertex).collect();
+        card.contours.push(Contour { id: k as u32 + 1, tag: 100 + k as u32, interior: r.one_in(3), vertices });
+    }
+    for _ in 0..m {
+        let after = r.from(1, n as u64 - 1);
+        let pair = card.pair(r.below(after) as usize, after as usize);
+        card.pairs.push(pair);
+    }
+    card
+}
+
+fn limit(r: &Random) -> u32 {
+    match r.below(6) {
+        0 | 1 => 0,
+        2 => r.from(1, 3) as u32,
+        3 => r.from(3, 200) as u32,
+        4 => r.from(200, 20_000) as u32,
+        _ => r.pick(&[u32::MAX, 1 << 31, 1_000_000]),
+    }
+}
+
+/// A contour's vertices. Small steps around a corner give plain parts; some have edges of no length, or
+/// lie on one point.
+fn outline(r: &Random, kind: Kind) -> Vec<(f64, f64)> {
+    let v = r.pick(&[1, 2, 3, 4, 4, 4, 5, 8, 30, r.from(1, 30)]);
+    let corner = (r.coordinate(kind), r.coordinate(kind));
+    let size = r.pick(&[0.0, 1e-13, 4e-13, 1e-12, 1.0, 10.0, 100.0]);
+    let form = r.below(8);
+    let mut vertices: Vec<(f64, f64)> = Vec::new();
+    for k in 0..v {
+        let next = match form {
+            0 => corner,
+            1 | 2 => {
+                let (dx, dy) = [(0.0, 0.0), (size, 0.0), (size, size), (0.0, size)][k as usize % 4];
+                (corner.0 + dx, corner.1 + dy)
+            }
+            3 => (corner.0 + r.below(3) as f64 * size, corner.1 + r.below(3) as f64 * size),
+            4 if k > 0 && r.one_in(2) => vertices[k as usize - 1],
+            _ => (r.coordinate(kind), r.coordinate(kind)),
+        };
+        vertices.push((next.0.clamp(-REACH, REACH), next.1.clamp(-REACH, REACH)));
+    }
+    vertices
+}
+
+/// Pairs that a legal order exists for: each leads forward in some hidden order of the contours.
+fn pairs(r: &Random, card: &mut Card) {
+    let n = card.contours.len() as u64;
+    if n < 2 || r.one_in(4) {
+        return;
+    }
+    let mut hidden: Vec<usize> = (0..n as usize).collect();
+    r.shuffle(&mut hidden);
+    let add = |card: &mut Card, i: u64, j: u64| {
+        let pair = card.pair(hidden[i as usize], hidden[j as usize]);
+        card.pairs.push(pair);
+    };
+    match r.below(4) {
+        0 => (1..n).for_each(|j| add(card, j - 1, j)),
+        1 => (1..n).for_each(|j| add(card, j / 2, j)),
+        _ => {
+            let most = r.pick(&[1, 4, n, 31, 32, 62, 124]);
+            for _ in 0..r.from(1, most) {
+                let j = r.from(1, n - 1);
+                let i = r.below(j);
+                add(card, i, j);
+            }
+        }
+    }
+    if r.one_in(2) {
+        r.shuffle(&mut card.pairs);
+    }
+}
+
+/// A damaged card, or one that stands just inside a limit.
+pub fn damaged(r: &Random) -> Vec<u8> {
+    let mut card = good(r);
+    let faults = if r.one_in(3) { 2 } else { 1 };
+    let kinds: Vec<u64> = (0..faults).map(|_| r.from(1, 13)).collect();
+    for &kind in &kinds {
+        in_fields(r, &mut card, kind);
+    }
+    let mut bytes = card.bytes();
+    for &kind in &kinds {
+        in_bytes(r, &mut bytes, kind);
+    }
+    seal(&mut bytes);
+    for &kind in &kinds {
+        after_seal(r, &mut bytes, kind);
+    }
+    bytes
+}
+
+/// Faults that a card's fields can have, on both sides of each limit.
+fn in_fields(r: &Random, card: &mut Card, kind: u64) {
+    let n = card.contours.len() as u64;
+    match kind {
+        4 => match r.below(4) {
+            0 => card.c = r.pick(&[0, 1, 8, 9, 65535, (80 / n.max(1)) as u16, (80 / n.max(1)) as u16 + 1]),
+            1 => card.passes = r.pick(&[1000, 1001, 65535]),
+            2 => (card.exterior, card.interior) = (r.pick(&[2, 3, 0]), r.pick(&[0, 2, 3, 255])),
+            _ => count_edges(r, card),
+        },
+        6 if n > 0 => {
+            let k = r.below(n) as usize;
+            let v = r.pick(&[0, 1, 30, 31, 40]);
+            card.contours[k].vertices = vec![(1.0, 2.0); v];
+        }
+        8 => {
+            let bad = r.number(Kind::Edge);
+            let far = r.pick(&[bad, REACH.next_up(), -REACH.next_up(), f64::NAN, f64::INFINITY, -REACH, REACH]);
+            if n == 0 || r.one_in(4) {
+                card.home.1 = far;
+            } else {
+                let k = r.below(n) as usize;
+                let vertices = &mut card.contours[k].vertices;
+                if let Some(vertex) = vertices.last_mut() {
+                    *if r.one_in(2) { &mut vertex.0 } else { &mut vertex.1 } = far;
+                }
+            }
+        }
+        9 if n > 1 => {
+            let (from, to) = (r.below(n) as usize, r.below(n) as usize);
+            card.contours[to].id = card.contours[from].id;
+        }
+        10 | 11 if !card.pairs.is_empty() => {
+            let q = r.below(card.pairs.len() as u64) as usize;
+            let pair = &mut card.pairs[q];
+            let side = if r.one_in(2) { &mut pair.before } else { &mut pair.after };
+            *(if kind == 10 { &mut side.0 } else { &mut side.1 }) ^= 1 << r.below(32);
+        }
+        12 if n > 0 => cycle(r, card),
+        _ => {}
+    }
+}
+
+/// More or fewer contours or pairs, at the limits.
+fn count_edges(r: &Random, card: &mut Card) {
+    if r.one_in(2) {
+        card.c = r.pick(&[1, 2]);
+        let n = r.pick(&[39, 40, 41, 42]);
+        while card.contours.len() < n {
+            let id = card.contours.len() as u32 + 5_000_000;
+            card.contours.push(Contour { id, tag: 0, interior: false, vertices: vec![(3.0, 4.0)] });
+        }
+        card.pairs.truncate(r.pick(&[0, 31, 93]));
+    } else if let Some(&pair) = card.pairs.first() {
+        let m = r.pick(&[31, 32, 93, 94, 124, 125, 126]);
+        card.pairs.resize(m, pair);
+    }
+}
+
+/// A walk of pairs that comes back, on few or many contours.
+fn cycle(r: &Random, card: &mut Card) {
+    let n = card.contours.len() as u64;
+    let length = r.from(1, n.min(r.pick(&[1, 2, 5, 40])));
+    let mut ring: Vec<usize> = (0..n as usize).collect();
+    r.shuffle(&mut ring);
+    ring.truncate(length as usize);
+    card.pairs.truncate(124 - ring.len());
+    for k in 0..ring.len() {
+        let pair = card.pair(ring[k], ring[(k + 1) % ring.len()]);
+        card.pairs.push(pair);
+    }
+    r.shuffle(&mut card.pairs);
+}
+
+/// Faults that only bytes can have. The checks are made good afterwards.
+fn in_bytes(r: &Random, bytes: &mut Vec<u8>, kind: u64) {
+    let blocks = (bytes.len() / BLOCK) as u64;
+    let block = |r: &Random| if r.one_in(3) { 0 } else { r.below(blocks) as usize } * BLOCK;
+    match kind {
+        3 => {
+            let at = block(r) + r.below(8) as usize;
+            bytes[at] = r.pick(&[0, 1, 2, 3, 4, bytes[at] ^ 1, r.next() as u8]);
+        }
+        5 if r.one_in(2) => bytes.truncate(bytes.len() - BLOCK * usize::from(blocks > 1)),
+        5 => {
+            let last = bytes[bytes.len() - BLOCK..].to_vec();
+            bytes.extend(last);
+        }
+        6 if blocks > 1 => {
+            let at = r.from(1, blocks - 1) as usize * BLOCK + r.pick(&[16, 17, 18, 19]);
+            bytes[at] = r.pick(&[0, 1, 2, 30, 31, 255]);
+        }
+        7 => {
+            let at = block(r) + r.pick(&[r.from(8, 507), 507, 503, 504, 41, 42, 43]) as usize;
+            bytes[at] = r.pick(&[0, 1, 128, 255]);
+        }
+        13 => {
+            // a head whose counts do not fit what follows
+            let at = r.pick(&[12, 14, 13, 15]);
+            bytes[at] = r.pick(&[bytes[at].wrapping_add(1), bytes[at].wrapping_sub(1), 0, 40, 124]);
+        }
+        _ => {}
+    }
+}
+
+/// Faults of the length and of the checks, and single bytes changed with the checks left as they are.
+fn after_seal(r: &Random, bytes: &mut Vec<u8>, kind: u64) {
+    match kind {
+        1 => {
+            let length = r.pick(&[0, 1, 511, 512, 513, bytes.len() as u64 + 1, 23_039, 23_040, 23_041, 23_552, 40_000]);
+            bytes.resize(length as usize, 0);
+            if r.one_in(2) {
+                seal(bytes);
+            }
+        }
+        2 if !bytes.is_empty() => {
+            let at = r.below(bytes.len() as u64) as usize;
+            let at = if r.one_in(2) { at | 508 } else { at };
+            if let Some(byte) = bytes.get_mut(at) {
+                *byte = byte.wrapping_add(r.pick(&[1, 255, 128]));
+            }
+        }
+        _ => {}
+    }
+}
+
+/// A good card with one byte changed, with or without the check made good.
+pub fn mutated(r: &Random) -> Vec<u8> {
+    let mut bytes = good(r).bytes();
+    let block = r.below((bytes.len() / BLOCK) as u64) as usize * BLOCK;
+    let at = block + r.pick(&[r.below(8), r.from(8, 52), r.below(512)]) as usize;
+    bytes[at] = r.pick(&[bytes[at] ^ (1 << r.below(8)), 0, 255, r.next() as u8]);
+    if !r.one_in(4) {
+        seal(&mut bytes);
+    }
+    bytes
+}

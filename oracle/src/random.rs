@@ -1,0 +1,99 @@
+//! Numbers to try, from a seed: the same seed gives the same run on every machine.
+
+use std::cell::Cell;
+
+/// SplitMix64: small, and every seed is as good as another.
+pub struct Random(Cell<u64>);
+
+impl Random {
+    /// The numbers of one case: the run's seed, the part it belongs to, and the case's number.
+    pub fn of(seed: u64, part: &str, case: u64) -> Random {
+        let mixed = Random(Cell::new(seed));
+        for word in part.bytes().map(u64::from).chain([case]) {
+            mixed.0.set(mixed.next() ^ word);
+        }
+        mixed
+    }
+
+    pub fn next(&self) -> u64 {
+        self.0.set(self.0.get().wrapping_add(0x9e37_79b9_7f4a_7c15));
+        let mut z = self.0.get();
+        z = (z ^ (z >> 30)).wrapping_mul(0xbf58_476d_1ce4_e5b9);
+        z = (z ^ (z >> 27)).wrapping_mul(0x94d0_49bb_1331_11eb);
+        z ^ (z >> 31)
+    }
+
+    /// A number below `bound`, which is above 0.
+    pub fn below(&self, bound: u64) -> u64 {
+        ((u128::from(self.next()) * u128::from(bound)) >> 64) as u64
+    }
+
+    pub fn from(&self, low: u64, high: u64) -> u64 {
+        low + self.below(high - low + 1)
+    }
+
+    /// Yes once in `times`.
+    pub fn one_in(&self, times: u64) -> bool {
+        self.below(times) == 0
+    }
+
+    pub fn pick<T: Copy>(&self, of: &[T]) -> T {
+        of[self.below(of.len() as u64) as usize]
+    }
+
+    /// At least 0 and below 1.
+    pub fn unit(&self) -> f64 {
+        (self.next() >> 11) as f64 / (1u64 << 53) as f64
+    }
+
+    pub fn shuffle<T>(&self, list: &mut [T]) {
+        for i in (1..list.len()).rev() {
+            list.swap(i, self.below(i as u64 + 1) as usize);
+        }
+    }
+}
+
+/// The largest coordinate that a card may have.
+pub const REACH: f64 = 1_048_576.0;
+
+/// A kind of coordinate. A contour or a question has most of its numbers from one kind, so that sums,
+/// ties and cancellations of each kind occur.
+#[derive(Clone, Copy)]
+pub enum Kind {
+    Wide,
+    Sheet,
+    Grid,
+    Whole,
+    Tiny,
+    Subnormal,
+    Edge,
+}
+
+pub const KINDS: [Kind; 7] =
+    [Kind::Wide, Kind::Sheet, Kind::Grid, Kind::Whole, Kind::Tiny, Kind::Subnormal, Kind::Edge];
+
+impl Random {
+    /// A coordinate that is finite and within reach.
+    pub fn coordinate(&self, kind: Kind) -> f64 {
+        let size = match kind {
+            Kind::Wide => self.unit() * REACH,
+            Kind::Sheet => self.unit() * 3000.0,
+            Kind::Grid => self.below(3000 << 10) as f64 / 1024.0,
+            Kind::Whole => self.below(6) as f64,
+            Kind::Tiny => self.unit() * self.pick(&[1e-3, 1e-6, 1e-12, 1e-13, 1e-150]),
+            Kind::Subnormal => f64::from_bits(self.below(1 << self.pick(&[3, 20, 52]))),
+            Kind::Edge => self.pick(&[0.0, REACH, REACH - 1.0, REACH.next_down(), f64::MIN_POSITIVE, 1e-12]),
+        };
+        if self.one_in(2) { -size } else { size }
+    }
+
+    /// Any f64, most of them coordinates: the edges on both sides of what is accepted come often.
+    pub fn number(&self, kind: Kind) -> f64 {
+        match self.below(40) {
+            0 => self.pick(&[f64::NAN, -f64::NAN, f64::INFINITY, f64::NEG_INFINITY, f64::MAX, f64::MIN]),
+            1 => self.pick(&[REACH.next_up(), -REACH.next_up(), 1e300]),
+            2 => f64::from_bits(self.next()),
+            _ => self.coordinate(kind),
+        }
+    }
+}

@@ -1,0 +1,51 @@
+//! Runs a comparison over many cases on all processors, and says how many agreed.
+
+use crate::random::Random;
+use std::sync::Mutex;
+use std::sync::atomic::{AtomicU64, Ordering};
+
+/// What a run is asked to do.
+#[derive(Clone, Copy)]
+pub struct Wanted {
+    pub seed: u64,
+    /// Cases are this many percent of the full size.
+    pub percent: u64,
+}
+
+/// Tries cases 0, 1, .. of a part. `compare` says how many questions agreed, or how the first differed.
+/// Prints the sum, or the first difference with what repeats it, and says whether all agreed.
+pub fn cases(wanted: Wanted, part: &str, full: u64, compare: impl Fn(&Random) -> Result<u64, String> + Sync) -> bool {
+    let count = (full * wanted.percent).div_ceil(100);
+    let began = std::time::Instant::now();
+    let (next, agreed) = (AtomicU64::new(0), AtomicU64::new(0));
+    let differs: Mutex<Option<(u64, String)>> = Mutex::new(None);
+    let work = || loop {
+        let case = next.fetch_add(1, Ordering::Relaxed);
+        if case >= count {
+            break;
+        }
+        match compare(&Random::of(wanted.seed, part, case)) {
+            Ok(questions) => _ = agreed.fetch_add(questions, Ordering::Relaxed),
+            Err(how) => {
+                next.store(count, Ordering::Relaxed);
+                differs.lock().unwrap().get_or_insert((case, how));
+            }
+        }
+    };
+    std::thread::scope(|s| {
+        for _ in 0..std::thread::available_parallelism().map_or(1, |n| n.get()) {
+            s.spawn(work);
+        }
+    });
+    if let Some((case, how)) = differs.into_inner().unwrap() {
+        println!("{part}: DIFFERS at case {case} of seed {}: {how}", wanted.seed);
+        return false;
+    }
+    println!("{part}: {} agreed ({count} cases, {:.1} s)", agreed.into_inner(), began.elapsed().as_secs_f64());
+    true
+}
+
+/// Two answers that must be the same.
+pub fn same<T: PartialEq + std::fmt::Debug>(what: impl FnOnce() -> String, ours: T, theirs: T) -> Result<u64, String> {
+    if ours == theirs { Ok(1) } else { Err(format!("{}: ours {ours:x?}, theirs {theirs:x?}", what())) }
+}
