@@ -1,0 +1,3 @@
+pub mod Grid
+pub mod Length
+pub mod Bound
