@@ -1,0 +1,116 @@
+-- A distance is the same both ways, to the bit. Assumes nothing.
+use mathlib.Core.Path.{_≡_, refl, sym, ap, ap₂, _∙_}
+use mathlib.Core.Bool.{Bool, true, false, not, _&&_, cond}
+use mathlib.Core.Logic.{_⊎_, inl, inr}
+use Prim.Native.Nat.{ℕ, zero, suc, _+_, _-_, _*_, _/_, _%_, _^_, compare}
+use native.Mathlib.Nat.{add-comm, mul-comm}
+use native.Mathlib.Omega.{arith}
+use borrow.Author.Tests.{ltb-true, ltb-false}
+use lib.Dec.{ltb}
+use lib.Ieee.{Float, nan, inf, fin, Format, binary64, prec, emax, low, up, down, size, nearest, odd, units, round, neg, sum, add, sub, mul}
+use Rattle.answer.specs.declared.Point.{Point}
+use Rattle.root.specs.Root.{sqrtOf}
+use Rattle.cost.specs.Distance.{squares, distanceSqOf, distanceOf}
+
+-- ---- the other sign in, the other sign out
+
+odd-neg : (d : ℕ) (s : Bool) (q k l : ℕ) → odd d (not s) q k l ≡ neg (odd d s q k l)
+unfolding odd neg
+odd-neg d s zero k l = refl
+odd-neg d s (suc q) k l = refl
+
+units-neg : (f : Format) (s : Bool) (q k : ℕ) → units f (not s) q k ≡ neg (units f s q k)
+unfolding units neg
+units-neg f s q k = go (ltb (q * 2 ^ k) (2 ^ (low f + suc (emax f))))
+  where
+    go : (b : Bool) → cond b (odd (suc (prec f)) (not s) q k (low f)) (inf (not s)) ≡ neg (cond b (odd (suc (prec f)) s q k (low f)) (inf s))
+    go true = odd-neg (suc (prec f)) s q k (low f)
+    go false = refl
+
+pub round-neg : (f : Format) (s : Bool) (num den : ℕ) → round f (not s) num den ≡ neg (round f s num den)
+unfolding round
+round-neg f s num den =
+    let n = num * 2 ^ low f in
+    let k = size (n / den) - prec f in
+    let u = den * 2 ^ k in
+    units-neg f s (nearest (n / u) (compare (n % u * 2) u)) k
+
+neg-neg : (x : Float) → neg (neg x) ≡ x
+unfolding neg
+neg-neg nan = refl
+neg-neg (inf true) = refl
+neg-neg (inf false) = refl
+neg-neg (fin true m e) = refl
+neg-neg (fin false m e) = refl
+
+-- ---- a difference the other way round: the same, or the same but for its sign
+
+and-true : (s : Bool) → (s && true) ≡ s
+and-true true = refl
+and-true false = refl
+
+turned : {x y : Float} → y ≡ neg x → x ≡ neg y
+turned {x} e = sym (neg-neg x) ∙ ap neg (sym e)
+
+abbrev pub Mirrored : Float → Float → Type 0
+Mirrored x y = (x ≡ y) ⊎ (x ≡ neg y)
+
+-- the two numbers have the same sign: what is left over has the sign of the larger
+module _ (f : Format) (s : Bool) (a b c : ℕ) where
+  left-over : (p q : Bool) → ltb a b ≡ p → ltb b a ≡ q
+      → Mirrored (cond p (round f (not s) (b - a) c) (round f (s && q) (a - b) c)) (cond q (round f (not s) (a - b) c) (round f (s && p) (b - a) c))
+  left-over true true e g = absurd (omega (arith, ltb-true a b e, ltb-true b a g))
+  left-over true false e g = inr (rw and-true (round-neg f s (b - a) c))
+  left-over false true e g = inr (rw and-true (turned (round-neg f s (a - b) c)))
+  left-over false false e g =
+      let h : a - b ≡ b - a = omega (arith, ltb-false a b e, ltb-false b a g) in
+      inl (rw h)
+
+sum-mirrored : (f : Format) (s : Bool) (a : ℕ) (t : Bool) (b c : ℕ) → Mirrored (sum f s a (not t) b c) (sum f t b (not s) a c)
+unfolding sum
+sum-mirrored f true a true b c = left-over f true a b c (ltb a b) (ltb b a) refl refl
+sum-mirrored f false a false b c = left-over f false a b c (ltb a b) (ltb b a) refl refl
+sum-mirrored f true a false b c = inr (ap (λ (n : ℕ). round f true n c) (add-comm a b) ∙ round-neg f false (b + a) c)
+sum-mirrored f false a true b c = inr (ap (λ (n : ℕ). round f false n c) (add-comm a b) ∙ round-neg f true (b + a) c)
+
+-- b - a is a - b, or that with the other sign
+pub sub-mirrored : (f : Format) (x y : Float) → Mirrored (sub f x y) (sub f y x)
+unfolding sub add neg
+sub-mirrored f nan nan = inl refl
+sub-mirrored f nan (inf t) = inl refl
+sub-mirrored f nan (fin t n d) = inl refl
+sub-mirrored f (inf s) nan = inl refl
+sub-mirrored f (inf true) (inf true) = inl refl
+sub-mirrored f (inf true) (inf false) = inr refl
+sub-mirrored f (inf false) (inf true) = inr refl
+sub-mirrored f (inf false) (inf false) = inl refl
+sub-mirrored f (inf true) (fin t n d) = inr refl
+sub-mirrored f (inf false) (fin t n d) = inr refl
+sub-mirrored f (fin s m e) nan = inl refl
+sub-mirrored f (fin s m e) (inf t) = inr refl
+sub-mirrored f (fin s m e) (fin t n d) = rw (mul-comm (down d) (down e)) (sum-mirrored f s (m * up e * down d) t (n * up d * down e) (down e * down d))
+
+-- ---- so its square is the same
+
+square-neg : (f : Format) (x : Float) → mul f (neg x) (neg x) ≡ mul f x x
+unfolding mul neg
+square-neg f nan = refl
+square-neg f (inf true) = refl
+square-neg f (inf false) = refl
+square-neg f (fin true m e) = refl
+square-neg f (fin false m e) = refl
+
+square-mirrored : (f : Format) (x y : Float) → Mirrored x y → mul f x x ≡ mul f y y
+square-mirrored f x y (inl e) = rw e
+square-mirrored f x y (inr e) = rw e (square-neg f y)
+
+pub distanceSq-sym : (a b : Point) → distanceSqOf a b ≡ distanceSqOf b a
+unfolding distanceSqOf squares
+distanceSq-sym a b =
+    ap₂ (add binary64)
+    (square-mirrored binary64 (sub binary64 (b .x) (a .x)) (sub binary64 (a .x) (b .x)) (sub-mirrored binary64 (b .x) (a .x)))
+    (square-mirrored binary64 (sub binary64 (b .y) (a .y)) (sub binary64 (a .y) (b .y)) (sub-mirrored binary64 (b .y) (a .y)))
+
+pub distance-sym : (a b : Point) → distanceOf a b ≡ distanceOf b a
+unfolding distanceOf
+distance-sym a b = ap sqrtOf (distanceSq-sym a b)

@@ -1,0 +1,6 @@
+pub mod NumberLaws
+pub mod PointLaws
+pub mod ClosestLaws
+pub mod RapidLaws
+pub mod DistanceLaws
+pub mod Starred

@@ -1,0 +1,57 @@
+-- `cost::home_and_legs` meets its contract: the test on home, else the first bad point of the legs, counted on by one. Assumes nothing.
+use mathlib.Core.Path.{sym, _∙_}
+use native.Mathlib.Omega.{arith}
+use borrow.Author.Needs.{needs}
+use Rattle.answer.specs.Stage.{firstRefusal}
+use Rattle.cost.specs.Rapid.{homeAndLegs}
+use Rattle.cost.proofs.RapidLaws.{bad-within}
+use Rattle.cost.proofs.home_and_legs.Statement.{statement}
+use Rattle.cost.proofs.home_and_legs.Tie as tie
+
+bad-point-requires : tie.Need-bad-point-requires
+bad-point-requires c κs = search needs
+
+returns : tie.Need-returns
+unfolding homeAndLegs firstRefusal
+returns c = rw (← (c .before .bad-point .ensures), c .if1 .taken)
+
+add-count : tie.Need-add-count
+add-count c = search needs
+
+mul-count : tie.Need-mul-count
+mul-count c = search needs
+
+first-bad-requires : tie.Need-first-bad-requires
+first-bad-requires c κs = search needs
+
+enum-known-k : tie.Need-enum-known-k
+enum-known-k c = search needs
+
+add-t12 : tie.Need-add-t12
+add-t12 c = omega (arith, bad-within _ _ _ (sym (c .before .before .before .first-bad .ensures) ∙ c .before .k .given .1))
+
+enum-told : tie.Need-enum-told
+enum-told c = search needs
+
+returns-2 : tie.Need-returns-2
+unfolding homeAndLegs firstRefusal
+returns-2 c = rw (← (c .before .before .before .before .before .bad-point .ensures), c .before .before .before .before .if1 .left, ← (c .before .before .before .first-bad .ensures), c .before .k .given .1)
+
+returns-3 : tie.Need-returns-3
+unfolding homeAndLegs firstRefusal
+returns-3 c = rw (← (c .before .before .before .before .bad-point .ensures), c .before .before .before .if1 .left, ← (c .before .before .first-bad .ensures), c .enum-told .given .1)
+
+pub home-and-legs-spec : {M : Type 1} → statement M
+home-and-legs-spec =
+    tie.close
+    (tie.spec
+    bad-point-requires
+    returns
+    add-count
+    mul-count
+    first-bad-requires
+    enum-known-k
+    add-t12
+    enum-told
+    returns-2
+    returns-3)

@@ -1,0 +1,46 @@
+-- `cost::polygon_and_point` meets its contract: the first bad vertex, else the test on the point. Assumes nothing.
+use borrow.Author.Needs.{needs}
+use Rattle.answer.specs.Stage.{firstRefusal}
+use Rattle.cost.specs.Closest.{polygonAndPoint}
+use Rattle.cost.proofs.polygon_and_point.Statement.{statement}
+use Rattle.cost.proofs.polygon_and_point.Tie as tie
+
+add-count : tie.Need-add-count
+add-count c = search needs
+
+first-bad-requires : tie.Need-first-bad-requires
+first-bad-requires c κs = search needs
+
+enum-known-k : tie.Need-enum-known-k
+enum-known-k c = search needs
+
+enum-told : tie.Need-enum-told
+enum-told c = search needs
+
+bad-point-requires : tie.Need-bad-point-requires
+bad-point-requires c κs = search needs
+
+returns : tie.Need-returns
+unfolding polygonAndPoint firstRefusal
+returns c = rw (← (c .before .before .before .before .first-bad .ensures), c .before .before .enum-told .given .1, ← (c .before .bad-point .ensures), c .if1 .taken)
+
+returns-2 : tie.Need-returns-2
+unfolding polygonAndPoint firstRefusal
+returns-2 c = rw (← (c .before .before .before .first-bad .ensures), c .before .k .given .1)
+
+returns-3 : tie.Need-returns-3
+unfolding polygonAndPoint firstRefusal
+returns-3 c = rw (← (c .before .before .before .before .first-bad .ensures), c .before .before .enum-told .given .1, ← (c .before .bad-point .ensures), c .if1 .left)
+
+pub polygon-and-point-spec : {M : Type 1} → statement M
+polygon-and-point-spec =
+    tie.close
+    (tie.spec
+    add-count
+    first-bad-requires
+    enum-known-k
+    enum-told
+    bad-point-requires
+    returns
+    returns-2
+    returns-3)

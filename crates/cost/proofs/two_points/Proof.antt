@@ -1,0 +1,28 @@
+-- `cost::two_points` meets its contract: the tests that led to each answer decide it. Assumes nothing.
+use borrow.Author.Needs.{needs}
+use Rattle.answer.specs.Stage.{firstRefusal}
+use Rattle.cost.specs.Distance.{twoPoints}
+use Rattle.cost.proofs.two_points.Statement.{statement}
+use Rattle.cost.proofs.two_points.Tie as tie
+
+bad-point-requires : tie.Need-bad-point-requires
+bad-point-requires c κs = search needs
+
+returns : tie.Need-returns
+unfolding twoPoints firstRefusal
+returns c = rw (← (c .before .bad-point .ensures), c .if1 .taken)
+
+bad-point-requires-2 : tie.Need-bad-point-requires-2
+bad-point-requires-2 c κs = search needs
+
+returns-2 : tie.Need-returns-2
+unfolding twoPoints firstRefusal
+returns-2 c = rw (← (c .before .before .before .bad-point .ensures), c .before .before .if1 .left, ← (c .before .bad-point2 .ensures), c .if2 .taken)
+
+returns-3 : tie.Need-returns-3
+unfolding twoPoints firstRefusal
+returns-3 c = rw (← (c .before .before .before .bad-point .ensures), c .before .before .if1 .left, ← (c .before .bad-point2 .ensures), c .if2 .left)
+
+pub two-points-spec : {M : Type 1} → statement M
+two-points-spec =
+    tie.close (tie.spec bad-point-requires returns bad-point-requires-2 returns-2 returns-3)

@@ -1,0 +1,6 @@
+pub mod Points
+pub mod Bad
+pub mod Distance
+pub mod Closest
+pub mod Rapid
+pub mod Sequence
