@@ -1,0 +1,94 @@
+-- How a loop that goes two numbers at a time walks the pairs of a flat list, and when a pair is a given one. Assumes nothing.
+use mathlib.Core.Bool.{Bool, true, false, _&&_, _||_}
+use mathlib.Core.Path.{_≡_, refl, sym, ap, _∙_}
+use mathlib.Core.Logic.{_⊎_, inl, inr, ⊎-elim}
+use mathlib.Core.List.{List, [], _∷_}
+use Prim.Native.Nat.{ℕ, zero, suc, _+_, _≤_, _<_}
+use native.Mathlib.Numerals.{add-one, add-two}
+use native.Mathlib.Omega.{arith}
+use native.Mathlib.Decide.{ℕ-discrete, decLt}
+use lib.Dec.{eqb}
+use borrow.Author.Tests.{eq-eqb, ne-eqb, eqb-true}
+use lib.ListN.{length, getD, drop, drop-of-length-le, length-drop}
+use lib.Seq.{drop-cons}
+use Rattle.closure.specs.Pairs.{Pair, paired, every, someOf, isPair}
+
+-- two numbers are equal or not
+pub same-or : (a b : ℕ) → (a ≡ b) ⊎ (a ≡ b → ⊥)
+same-or a b = elim (ℕ-discrete a b) [ yes p ↦ inl p | no q ↦ inr q ]
+
+-- one is below the other or not
+pub lt-or : (a b : ℕ) → (a < b) ⊎ (b ≤ a)
+lt-or a b = elim (decLt a b) [ yes p ↦ inl p | no q ↦ inr (omega arith) ]
+
+-- the pair whose numbers stand at this place and the next
+abbrev pub pairAt : List ℕ → ℕ → Pair
+pairAt l at = record { before = getD l at 0; after = getD l (at + 1) 0 }
+
+pub paired-more : (l : List ℕ) (at : ℕ) → at + 1 < length l → paired (drop at l) ≡ pairAt l at ∷ paired (drop (at + 2) l)
+unfolding paired
+paired-more l at h =
+    let g : at < length l = omega arith in
+    let k : suc at < length l = omega arith in
+    rw (drop-cons l at 0 g, drop-cons l (suc at) 0 k, add-one at, add-two at)
+
+paired-short : (l : List ℕ) → length l ≤ 1 → paired l ≡ []
+unfolding paired
+paired-short [] h = refl
+paired-short (x ∷ []) h = refl
+paired-short (x ∷ (y ∷ l)) h = absurd (omega arith)
+
+pub paired-end : (l : List ℕ) (at : ℕ) → length l ≤ at + 1 → paired (drop at l) ≡ []
+paired-end l at h = paired-short (drop at l) (rw (length-drop at l) (omega arith))
+
+pub is-pair : (b a i j : ℕ) → b ≡ i → a ≡ j → isPair i j (record { before = b; after = a }) ≡ true
+is-pair b a i j p q = rw (eq-eqb b i p, eq-eqb a j q)
+
+pub no-pair : (b a i j : ℕ) → (b ≡ i → a ≡ j → ⊥) → isPair i j (record { before = b; after = a }) ≡ false
+no-pair b a i j no' = ⊎-elim
+    (λ (p : b ≡ i). rw (eq-eqb b i p, ne-eqb a j (no' p)))
+    (λ (q : b ≡ i → ⊥). rw (ne-eqb b i q)) (same-or b i)
+
+-- ---- a test of every pair, two numbers at a time
+
+-- what is left to test decides the whole
+pub record EveryPart (test : Pair → Bool) (pairs : List ℕ) (at : ℕ) : Type 0 where
+  pub within : at ≤ length pairs
+  pub left : every test (paired (drop at pairs)) ≡ every test (paired pairs)
+
+pub every-none : (test : Pair → Bool) (pairs : List ℕ) → EveryPart test pairs 0
+every-none test pairs = record { within = omega arith; left = refl }
+
+pub every-more : (test : Pair → Bool) (pairs : List ℕ) (at : ℕ) → at + 1 < length pairs → EveryPart test pairs at → test (pairAt pairs at) ≡ true → EveryPart test pairs (at + 2)
+unfolding every
+every-more test pairs at more part t = record { within = omega arith; left = rw (paired-more pairs at more, t) at (part .left) }
+
+pub every-fails : (test : Pair → Bool) (pairs : List ℕ) (at : ℕ) → at + 1 < length pairs → EveryPart test pairs at → test (pairAt pairs at) ≡ false → false ≡ every test (paired pairs)
+unfolding every
+every-fails test pairs at more part t = rw (paired-more pairs at more, t) at (part .left)
+
+pub every-all : (test : Pair → Bool) (pairs : List ℕ) (at : ℕ) → length pairs ≤ at + 1 → EveryPart test pairs at → true ≡ every test (paired pairs)
+unfolding every
+every-all test pairs at all part = rw (paired-end pairs at all) at (part .left)
+
+-- ---- a search for some pair, two numbers at a time
+
+-- what is left to look at decides the whole
+pub record SomePart (test : Pair → Bool) (pairs : List ℕ) (at : ℕ) : Type 0 where
+  pub within : at ≤ length pairs
+  pub left : someOf test (paired (drop at pairs)) ≡ someOf test (paired pairs)
+
+pub some-none : (test : Pair → Bool) (pairs : List ℕ) → SomePart test pairs 0
+some-none test pairs = record { within = omega arith; left = refl }
+
+pub some-more : (test : Pair → Bool) (pairs : List ℕ) (at : ℕ) → at + 1 < length pairs → SomePart test pairs at → test (pairAt pairs at) ≡ false → SomePart test pairs (at + 2)
+unfolding someOf
+some-more test pairs at more part t = record { within = omega arith; left = rw (paired-more pairs at more, t) at (part .left) }
+
+pub some-found : (test : Pair → Bool) (pairs : List ℕ) (at : ℕ) → at + 1 < length pairs → SomePart test pairs at → test (pairAt pairs at) ≡ true → true ≡ someOf test (paired pairs)
+unfolding someOf
+some-found test pairs at more part t = rw (paired-more pairs at more, t) at (part .left)
+
+pub some-all : (test : Pair → Bool) (pairs : List ℕ) (at : ℕ) → length pairs ≤ at + 1 → SomePart test pairs at → false ≡ someOf test (paired pairs)
+unfolding someOf
+some-all test pairs at all part = rw (paired-end pairs at all) at (part .left)

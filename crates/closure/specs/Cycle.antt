@@ -1,0 +1,33 @@
+-- Where pairs of positions lead, and the lowest position on a cycle. Assumes nothing.
+use mathlib.Core.Bool.{Bool, true, false, _&&_, _||_}
+use mathlib.Core.Path.{_≡_}
+use mathlib.Core.List.{List, [], _∷_}
+use Prim.Native.Nat.{ℕ, zero, suc, min}
+use lib.Dec.{ltb}
+use Rattle.answer.specs.declared.Found.{Found}
+use Rattle.answer.specs.Lowest.{lowest, lowestFrom}
+use Rattle.closure.specs.Limits.{CONTOURS}
+use Rattle.closure.specs.Pairs.{paired, someOf, isPair}
+
+-- a pair puts i before j, and both are below n
+unfoldable pub linked : ℕ → List ℕ → ℕ → ℕ → Bool
+unfolding paired someOf
+linked n pairs i j = ltb i n && (ltb j n && someOf (isPair i j) (paired pairs))
+
+-- links lead from i to j in one or more steps
+pub data Reaches (link : ℕ → ℕ → Bool) : ℕ → ℕ → Type 0 where
+  step : {i j : ℕ} → link i j ≡ true → Reaches link i j
+  onward : {i m j : ℕ} → link i m ≡ true → Reaches link m j → Reaches link i j
+
+-- links lead from i to j, through positions below k on the way
+unfoldable pub leads : (ℕ → ℕ → Bool) → ℕ → ℕ → ℕ → Bool
+leads link zero i j = link i j
+leads link (suc k) i j = leads link k i j || (leads link k i k && leads link k k j)
+
+-- a position below n that can be reached from itself
+abbrev pub onCycle : ℕ → List ℕ → ℕ → Bool
+onCycle n pairs i = leads (linked n pairs) n i i
+
+-- the lowest position on a cycle among the first so many contours; above the limit only that many are looked at
+abbrev pub firstOnCycle : ℕ → List ℕ → Found
+firstOnCycle contours pairs = lowest (onCycle (min contours CONTOURS) pairs) (min contours CONTOURS)

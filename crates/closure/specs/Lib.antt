@@ -1,0 +1,4 @@
+pub mod Limits
+pub mod Pairs
+pub mod Cycle
+pub mod Flags

@@ -1,0 +1,155 @@
+// Where pairs of positions lead: one flag for each ordered pair of contours, closed under
+// reachability, and the lowest position on a cycle read off the diagonal.
+use answer::Found;
+ghost use mathlib.Core.Bool.{Bool, true, false};
+ghost use mathlib.Core.Path.{_≡_};
+ghost use Prim.Native.Nat.{ℕ, _<_, _≤_, min};
+ghost use lib.ListN.{replicate};
+ghost use Rattle.answer.specs.Lowest.{lowest};
+ghost use Rattle.closure.specs.Limits.{CONTOURS};
+ghost use Rattle.closure.specs.Cycle.{linked, leads, onCycle, firstOnCycle};
+ghost use Rattle.closure.specs.Flags.{flag, Whole, RowJoined, RowsJoined, Noted, Says};
+
+// The most contours that a question on pairs takes.
+pub const CONTOURS: usize = 40;
+
+// The most pairs that it takes.
+pub const PAIRS: usize = 124;
+
+// One flag for each ordered pair of contours.
+const CELLS: usize = CONTOURS * CONTOURS;
+
+// Where i leads to k, all that k leads to is added to what i leads to.
+fn join_row(flags: &mut [bool; CELLS], n: usize, k: usize, i: usize)
+    requires { ⌜ (n ≤ CONTOURS) × (k < n) × (i < n) × Whole (now flags) ⌝ }
+    ensures { λ r. ⌜ RowJoined n k i (now (flags .entry)) (now (flags .exit)) ⌝ }
+{
+    if flags[i * CONTOURS + k] {
+        let mut j = 0;
+        while j < n {
+            flags[i * CONTOURS + j] = flags[i * CONTOURS + j] | flags[k * CONTOURS + j];
+            j += 1;
+        }
+    }
+}
+
+// The same for every row: what i reaches by way of k is added for each i.
+fn join_rows(flags: &mut [bool; CELLS], n: usize, k: usize)
+    requires { ⌜ (n ≤ CONTOURS) × (k < n) × Whole (now flags) ⌝ }
+    ensures { λ r. ⌜ RowsJoined n k (now (flags .entry)) (now (flags .exit)) ⌝ }
+{
+    let mut i = 0;
+    while i < n {
+        join_row(flags, n, k, i);
+        i += 1;
+    }
+}
+
+// The flags closed under reachability: yes exactly where links lead from one to the other.
+fn close(flags: &mut [bool; CELLS], n: usize)
+    requires { ⌜ (n ≤ CONTOURS) × Whole (now flags) ⌝ }
+    ensures { λ r. ⌜ Says n (leads (flag (now (flags .entry))) n) (now (flags .exit)) ⌝ }
+{
+    let mut k = 0;
+    while k < n {
+        join_rows(flags, n, k);
+        k += 1;
+    }
+}
+
+// The lowest position whose flag for itself is set.
+fn on_diagonal(flags: &[bool; CELLS], n: usize) -> Found
+    requires { ⌜ n ≤ CONTOURS ⌝ }
+    ensures { λ r. ⌜ r ≡ lowest (λ i. flag (now (flags .entry)) i i) n ⌝ }
+{
+    let mut k = 0;
+    while k < n {
+        if flags[k * CONTOURS + k] {
+            return Found::At(k);
+        }
+        k += 1;
+    }
+    Found::Absent
+}
+
+// A byte as an index.
+fn wide(x: u8) -> usize
+    ensures { λ r. ⌜ r ≡ x ⌝ }
+{
+    x as usize
+}
+
+// The flag of each pair whose two positions are below n.
+fn note_pairs(pairs: &[u8], n: usize, flags: &mut [bool; CELLS])
+    requires { ⌜ (n ≤ CONTOURS) × Whole (now flags) ⌝ }
+    ensures { λ r. ⌜ Noted n (now (pairs .entry)) (now (flags .entry)) (now (flags .exit)) ⌝ }
+{
+    let mut at = 0;
+    while at + 1 < pairs.len() {
+        let b = wide(pairs[at]);
+        let a = wide(pairs[at + 1]);
+        at += 2;
+        if b < n {
+            if a < n {
+                flags[b * CONTOURS + a] = true;
+            }
+        }
+    }
+}
+
+// A number of 32 bits as an index.
+fn wide32(x: u32) -> usize
+    ensures { λ r. ⌜ r ≡ x ⌝ }
+{
+    x as usize
+}
+
+// As note_pairs, for numbers of 32 bits.
+fn note_wide(pairs: &[u32], n: usize, flags: &mut [bool; CELLS])
+    requires { ⌜ (n ≤ CONTOURS) × Whole (now flags) ⌝ }
+    ensures { λ r. ⌜ Noted n (now (pairs .entry)) (now (flags .entry)) (now (flags .exit)) ⌝ }
+{
+    let mut at = 0;
+    while at + 1 < pairs.len() {
+        let b = wide32(pairs[at]);
+        let a = wide32(pairs[at + 1]);
+        at += 2;
+        if b < n {
+            if a < n {
+                flags[b * CONTOURS + a] = true;
+            }
+        }
+    }
+}
+
+// At most so many contours as there are flags for.
+fn capped(contours: usize) -> usize
+    ensures { λ r. ⌜ r ≡ min contours CONTOURS ⌝ }
+{
+    if contours < CONTOURS {
+        return contours;
+    }
+    CONTOURS
+}
+
+// The lowest position that pairs of positions lead back to.
+pub fn first_on_cycle(contours: usize, pairs: &[u8]) -> Found
+    ensures { λ r. ⌜ r ≡ firstOnCycle contours (now (pairs .entry)) ⌝ }
+{
+    let n = capped(contours);
+    let mut flags = [false; CELLS];
+    note_pairs(pairs, n, &mut flags);
+    close(&mut flags, n);
+    on_diagonal(&flags, n)
+}
+
+// The same question on numbers of 32 bits.
+pub fn first_on_cycle_wide(contours: usize, pairs: &[u32]) -> Found
+    ensures { λ r. ⌜ r ≡ firstOnCycle contours (now (pairs .entry)) ⌝ }
+{
+    let n = capped(contours);
+    let mut flags = [false; CELLS];
+    note_wide(pairs, n, &mut flags);
+    close(&mut flags, n);
+    on_diagonal(&flags, n)
+}

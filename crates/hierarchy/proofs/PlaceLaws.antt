@@ -1,0 +1,98 @@
+-- The table of last places, filled one after the other. Assumes nothing.
+use mathlib.Core.Bool.{Bool, true, false, cond, not}
+use mathlib.Core.Path.{_≡_, refl, sym, ap, _∙_}
+use mathlib.Core.Logic.{_⊎_, inl, inr, ⊎-elim}
+use mathlib.Core.List.{List, [], _∷_}
+use Prim.Native.Nat.{ℕ, zero, suc, _+_, _≤_, _<_}
+use native.Mathlib.Numerals.{add-one}
+use native.Mathlib.Omega.{arith}
+use lib.Dec.{eqb, ltb}
+use borrow.Author.Tests.{eq-eqb, ne-eqb, lt-ltb, le-ltb}
+use lib.ListN.{length, getD, set, drop, replicate, length-set, getD-replicate, drop-of-length-le}
+use lib.Seq.{drop-cons, getD-set-same, getD-set-other}
+use Rattle.closure.proofs.PairLaws.{same-or, pairAt, EveryPart, every-more, every-fails, every-all}
+use Rattle.hierarchy.specs.Keep.{latest, lastPlace, keptAt, keptIn, keepsPairs, PlacesOf, readyBy, readyIn}
+
+-- the table has a place for each byte, and going on from place i with what it holds gives what the whole order gives
+pub record PlacesPart (order : List ℕ) (i : ℕ) (p q : List ℕ) : Type 0 where
+  pub size : length q ≡ 256
+  pub within : i ≤ length order
+  pub left : (x : ℕ) → x < 256 → latest x i (getD q x 0) (drop i order) ≡ latest x 0 (getD p x 0) order
+
+pub places-none : (order p : List ℕ) → length p ≡ 256 → PlacesPart order 0 p p
+places-none order p size = record { size = size; within = omega arith; left = λ x h. refl }
+
+-- one step of the walk
+latest-step : (x k met y : ℕ) (more : List ℕ) → latest x k met (y ∷ more) ≡ latest x (suc k) (cond (eqb y x) (suc k) met) more
+unfolding latest
+latest-step x k met y more = refl
+
+pub places-more : (order : List ℕ) (i y : ℕ) (p q : List ℕ) → y ≡ getD order i 0 → y < 256 → i < length order → PlacesPart order i p q → PlacesPart order (i + 1) p (set q y (i + 1))
+places-more order i y p q e small more part = record {
+  size = length-set q y (i + 1) ∙ part .size;
+  within = omega arith;
+  left = λ x h. step x h ∙ (rw (drop-cons order i 0 more, ← e) at (part .left x h));
+}
+  where
+    step : (x : ℕ) → x < 256 → latest x (i + 1) (getD (set q y (i + 1)) x 0) (drop (i + 1) order) ≡ latest x i (getD q x 0) (y ∷ drop (suc i) order)
+    step x h = ⊎-elim
+        (λ (s : x ≡ y). rw (s, getD-set-same q y (i + 1) 0 (omega (arith, part .size)), latest-step, eq-eqb y y refl, add-one i))
+        (λ (d : x ≡ y → ⊥). rw (getD-set-other q y x (i + 1) 0 d, latest-step, ne-eqb y x (λ z. d (sym z)), add-one i)) (same-or x y)
+
+pub places-all : (order : List ℕ) (i : ℕ) (p q : List ℕ) → length order ≤ i → PlacesPart order i p q → PlacesOf order p q
+unfolding latest
+places-all order i p q all part = record { told = λ x h. rw (drop-of-length-le order all) at (part .left x h) }
+
+-- ---- two last places that keep a pair
+
+pub kept-absent : (b a : ℕ) → a ≡ 0 → true ≡ keptAt b a
+kept-absent b a e = rw (eq-eqb a 0 e) (sym (mathlib.Core.Bool.or-true (eqb b 0)))
+
+pub kept-there : (b a : ℕ) → (a ≡ 0 → ⊥) → ltb b a ≡ keptAt b a
+kept-there b a d = ⊎-elim
+    (λ (z : b ≡ 0). rw (lt-ltb b a (omega arith), eq-eqb b 0 z))
+    (λ (w : b ≡ 0 → ⊥). rw (ne-eqb b 0 w, ne-eqb a 0 d)) (same-or b 0)
+
+-- ---- the table answers for a pair of the list
+
+module _ (order places pairs : List ℕ) (at b a : ℕ) (r : Bool) (table : PlacesOf order (replicate 256 0) places) (eb : b ≡ getD pairs at 0) (ea : a ≡ getD pairs (at + 1) 0) (hb : b < 256) (ha : a < 256)
+    (more : at + 1 < length pairs) (part : EveryPart (keptIn order) pairs at) (is : r ≡ keptAt (getD places b 0) (getD places a 0)) where
+  from-none : (x : ℕ) → x < 256 → getD places x 0 ≡ lastPlace order x
+  from-none x h = table .told x h ∙ ap (λ (z : ℕ). latest x 0 z order) (getD-replicate 256 x 0 0 h)
+
+  kept-answer : keptIn order (pairAt pairs at) ≡ r
+  unfolding keptIn
+  kept-answer = sym (is ∙ rw (from-none b hb, from-none a ha, eb, ea))
+
+  pub pair-kept : r ≡ true → EveryPart (keptIn order) pairs (at + 2)
+  pair-kept t = every-more (keptIn order) pairs at more part (kept-answer ∙ t)
+
+  pub pair-broken : r ≡ false → false ≡ keepsPairs order pairs
+  unfolding keepsPairs
+  pair-broken t = every-fails (keptIn order) pairs at more part (kept-answer ∙ t)
+
+pub pairs-kept : (order pairs : List ℕ) (at : ℕ) → length pairs ≤ at + 1 → EveryPart (keptIn order) pairs at → true ≡ keepsPairs order pairs
+unfolding keepsPairs
+pairs-kept order pairs at all part = every-all (keptIn order) pairs at all part
+
+-- ---- what a pair asks of the flags
+
+pub ready-other : (visited : List ℕ) (b a k : ℕ) → (a ≡ k → ⊥) → true ≡ readyBy visited k (record { before = b; after = a })
+unfolding readyBy
+ready-other visited b a k d = rw (ne-eqb a k d)
+
+pub ready-flag : (visited : List ℕ) (b a k w f : ℕ) → a ≡ k → w ≡ b → f ≡ getD visited w 0 → not (eqb f 0) ≡ readyBy visited k (record { before = b; after = a })
+unfolding readyBy
+ready-flag visited b a k w f e p q = rw (eq-eqb a k e, q, p)
+
+module _ (visited pairs : List ℕ) (k at : ℕ) (r : Bool) (more : at + 1 < length pairs) (part : EveryPart (readyBy visited k) pairs at) (is : r ≡ readyBy visited k (pairAt pairs at)) where
+  pub pair-ready : r ≡ true → EveryPart (readyBy visited k) pairs (at + 2)
+  pair-ready t = every-more (readyBy visited k) pairs at more part (sym is ∙ t)
+
+  pub pair-waits : r ≡ false → false ≡ readyIn visited pairs k
+  unfolding readyIn
+  pair-waits t = every-fails (readyBy visited k) pairs at more part (sym is ∙ t)
+
+pub pairs-ready : (visited pairs : List ℕ) (k at : ℕ) → length pairs ≤ at + 1 → EveryPart (readyBy visited k) pairs at → true ≡ readyIn visited pairs k
+unfolding readyIn
+pairs-ready visited pairs k at all part = every-all (readyBy visited k) pairs at all part
