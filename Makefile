@@ -3,6 +3,7 @@
 #   make test          every test, then the gate (rt ci); the last line is the gate's own
 #   make differential  the comparisons in full size          make bench   the speed figures
 #   make soak SECONDS=600 SEED=7   comparisons from a seed for a time
+#   make examples      writes examples/ anew from the original's answers
 #   make fmt           formats Rattle and Rust
 
 # The folder of the Rust original, from the top of the repository.
@@ -16,9 +17,10 @@ PERCENT ?= 4
 CARGO = cargo
 # Without the original the comparisons with it are left out, and say so.
 ORIGINAL = $(if $(wildcard $(U_NESTING_SRC)/gtsp.rs),--features original)
+TEST = $(CARGO) test --release --offline --quiet
 ORACLE = $(CARGO) run --release --offline --quiet --package oracle $(ORIGINAL) --bin
 
-.PHONY: all test hosts no-cargo archives differential bench soak fmt
+.PHONY: all test hosts no-cargo archives differential bench soak examples fmt
 
 all:
 	rt check
@@ -27,7 +29,9 @@ test: $(if $(shell command -v $(CARGO)),hosts,no-cargo)
 	rt ci
 
 hosts: archives
-	$(CARGO) test --release --offline --quiet --workspace $(ORIGINAL)
+	$(TEST) --package oracle $(ORIGINAL)
+	$(if $(shell grep '^tour:' crates.txt),$(TEST) --package jambolive,@echo 'Rust host: left out, no crate tour yet')
+	hosts/c/test.sh
 	$(ORACLE) differential -- --seed $(SEED) --percent $(PERCENT)
 
 no-cargo:
@@ -45,6 +49,9 @@ bench: archives
 
 soak: archives
 	$(ORACLE) differential -- --seed $(SEED) --percent 1 --seconds $(SECONDS)
+
+examples:
+	$(ORACLE) samples
 
 fmt:
 	rt fmt

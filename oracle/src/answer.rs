@@ -101,17 +101,7 @@ impl Problem {
 /// The card and the list of job 41, as the paper prints them.
 #[test]
 fn job_41() {
-    let one = |id, tag, interior, vertex| Contour { id, tag, interior, vertices: vec![vertex] };
-    let mut card = Card {
-        job: 41,
-        c: 1,
-        passes: 10,
-        exterior: 2,
-        interior: 2,
-        contours: vec![one(7, 70, false, (12.0, 12.0)), one(9, 90, false, (3.0, 0.0)), one(2, 20, true, (3.0, 4.0))],
-        ..Card::default()
-    };
-    card.pairs.push(card.pair(2, 1));
+    let card = crate::generate::job_41();
     let problem = Problem::of(&card);
     let list = "JOB 41 CONTOURS 3\n2 20 0 cw\n9 90 0 ccw\n7 70 0 ccw\nMOVES 1\nRAPID 4038000000000000\n";
     assert_eq!(problem.list(&card, &problem.search(0)), list);

@@ -3,6 +3,15 @@
 use crate::card::{BLOCK, Card, Contour, seal};
 use crate::random::{KINDS, Kind, REACH, Random};
 
+/// The job that the paper prints whole.
+pub fn job_41() -> Card {
+    let one = |id, tag, interior, vertex| Contour { id, tag, interior, vertices: vec![vertex] };
+    let contours = vec![one(7, 70, false, (12.0, 12.0)), one(9, 90, false, (3.0, 0.0)), one(2, 20, true, (3.0, 4.0))];
+    let mut card = Card { job: 41, c: 1, passes: 10, exterior: 2, interior: 2, contours, ..Card::default() };
+    card.pairs.push(card.pair(2, 1));
+    card
+}
+
 /// Good cards of every shape.
 pub fn good(r: &Random) -> Card {
     let n = match r.below(10) {

@@ -1,0 +1,17 @@
+#!/bin/sh
+# Builds list.c over the archive and holds what it prints for each example card against the card's list, and
+# against the program cutlist where it is built.
+set -eu
+
+cd "$(dirname "$0")/../.."
+[ -f target/staticlib/libtour.a ] || { echo 'C host: left out, no archive of the crate tour'; exit 0; }
+command -v cc >/dev/null || { echo 'C host: left out, no cc on this machine'; exit 0; }
+list=target/staticlib/list
+cc -std=c11 -O2 -Wall -Wextra -Werror -pedantic -o "$list" hosts/c/list.c target/staticlib/libtour.a
+cards=0
+for card in examples/*.card; do
+    "$list" <"$card" | cmp - "${card%.card}.list"
+    [ ! -x target/bin/cutlist ] || hosts/native/run.sh cutlist <"$card" | cmp - "${card%.card}.list"
+    cards=$((cards + 1))
+done
+echo "C host: $cards cards print their lists"

@@ -1,0 +1,13 @@
+//! Links the proved library, target/staticlib/libtour.a, which `make archives` writes.
+
+use std::path::PathBuf;
+
+fn main() {
+    let top = PathBuf::from(std::env::var("CARGO_MANIFEST_DIR").unwrap()).join("../..");
+    let folder = top.join("target/staticlib");
+    let archive = folder.join("libtour.a");
+    println!("cargo:rerun-if-changed={}", archive.display());
+    assert!(archive.exists(), "{} is not there: run `make archives` first", archive.display());
+    println!("cargo:rustc-link-search=native={}", folder.display());
+    println!("cargo:rustc-link-lib=static=tour");
+}

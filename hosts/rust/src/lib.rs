@@ -1,0 +1,104 @@
+//! In which order a machine should cut the contours of a sheet, and where it should start each of them.
+//!
+//! A job comes as a card, a file of 512-byte blocks (docs/CARD.md). [`check`] says whether a card can be
+//! followed, [`tour`] finds its tour, [`list`] prints it as the machine reads it. The work is done by a library
+//! in which every function is proved: these calls only hand slices over and make numbers into words. They take
+//! any bytes, never panic, and keep nothing.
+//!
+//! ```
+//! let card = std::fs::read("../../examples/job-41.card").unwrap();
+//! let tour = jambolive::tour(&card).unwrap();
+//! assert_eq!(tour.candidates, [2, 1, 0]);
+//! assert_eq!(tour.length, 24.0);
+//! assert_eq!(jambolive::check(&card[1..]).unwrap_err().to_string(), "a card has 1 to 45 whole blocks of 512 bytes, not 2559 bytes");
+//! ```
+
+mod refusal;
+
+pub use refusal::Refusal;
+
+/// The most contours that a card has, so the most entries of a tour.
+pub const CONTOURS: usize = 40;
+
+unsafe extern "C" {
+    fn jl_check(card: *const u8, bytes: usize) -> u64;
+    fn jl_tour(card: *const u8, bytes: usize, tour: *mut u8, room: usize, moves: &mut u64, length: &mut u64) -> u64;
+    fn jl_place(card: *const u8, bytes: usize, candidate: u64, contour: &mut u64, within: &mut u64) -> u64;
+}
+
+/// Whether a card can be followed.
+pub fn check(card: &[u8]) -> Result<(), Refusal> {
+    // The library reads the slice and nothing else.
+    Refusal::of(unsafe { jl_check(card.as_ptr(), card.len()) })
+}
+
+/// What a search ends with.
+#[derive(Clone, Debug, PartialEq)]
+pub struct Tour {
+    /// A candidate of each contour in the order of cutting, numbered over the whole card.
+    pub candidates: Vec<u8>,
+    /// The trials that the search made.
+    pub moves: u64,
+    /// The length of the way without cutting, from home on, in millimetres.
+    pub length: f64,
+}
+
+/// Finds a card's tour.
+pub fn tour(card: &[u8]) -> Result<Tour, Refusal> {
+    let mut room = [0; CONTOURS];
+    let (moves, length) = tour_into(card, &mut room)?;
+    Ok(Tour { candidates: room[..contours(card)].to_vec(), moves, length })
+}
+
+/// Finds a card's tour and writes it to the start of `room`, one byte an entry; gives the trials and the length. A room
+/// that is too small is refused. The rest of the room, and all of it where the card is refused, stays as it was.
+pub fn tour_into(card: &[u8], room: &mut [u8]) -> Result<(u64, f64), Refusal> {
+    let (mut moves, mut length) = (0, 0);
+    // The library reads the card, and writes the room's first entries and the two numbers.
+    Refusal::of(unsafe { jl_tour(card.as_ptr(), card.len(), room.as_mut_ptr(), room.len(), &mut moves, &mut length) })?;
+    Ok((moves, f64::from_bits(length)))
+}
+
+/// The contour that a candidate belongs to, by its position on the card, and the candidate's number within it.
+pub fn place(card: &[u8], candidate: u8) -> Result<(usize, usize), Refusal> {
+    let (mut contour, mut within) = (0, 0);
+    // The library reads the card, and writes the two numbers.
+    Refusal::of(unsafe { jl_place(card.as_ptr(), card.len(), u64::from(candidate), &mut contour, &mut within) })?;
+    Ok((contour as usize, within as usize))
+}
+
+/// The list that the machine follows, as the program `cutlist` prints it; for a refused card its one line.
+pub fn list(card: &[u8]) -> String {
+    lines(card).unwrap_or_else(|r| format!("REFUSED {} AT {}\n", r.number(), r.place()))
+}
+
+fn lines(card: &[u8]) -> Result<String, Refusal> {
+    let tour = tour(card)?;
+    let mut list = format!("JOB {} CONTOURS {}\n", word(card, 8), contours(card));
+    for &candidate in &tour.candidates {
+        let (contour, within) = place(card, candidate)?;
+        let block = 512 * (1 + contour);
+        let way = if clockwise(card, card[block + 18]) { "cw" } else { "ccw" };
+        list += &format!("{} {} {within} {way}\n", word(card, block + 8), word(card, block + 12));
+    }
+    Ok(list + &format!("MOVES {}\nRAPID {:016x}\n", tour.moves, tour.length.to_bits()))
+}
+
+/// The way a contour of this type is cut on an accepted card: as the head says, and where it leaves that open outlines
+/// counter-clockwise and holes clockwise.
+fn clockwise(card: &[u8], kind: u8) -> bool {
+    match card[40 + usize::from(kind)] {
+        0 => false,
+        1 => true,
+        _ => kind == 1,
+    }
+}
+
+/// The contours of an accepted card.
+fn contours(card: &[u8]) -> usize {
+    usize::from(u16::from_le_bytes([card[12], card[13]]))
+}
+
+fn word(card: &[u8], at: usize) -> u32 {
+    u32::from_le_bytes([card[at], card[at + 1], card[at + 2], card[at + 3]])
+}

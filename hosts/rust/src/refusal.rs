@@ -1,0 +1,149 @@
+//! Why a card goes back, in words.
+
+use std::fmt;
+
+/// Why a card goes back. Blocks, contours and pairs are counted from 0.
+#[derive(Clone, Copy, Debug, PartialEq, Eq)]
+#[non_exhaustive]
+pub enum Refusal {
+    /// No bytes, no whole blocks, or more than 45 of them. Lengths above 23,040 are told as 23,041.
+    Length { bytes: u32 },
+    /// A block's check does not fit its bytes.
+    Check { block: u32 },
+    /// A block does not begin as its place asks.
+    Start { block: u32 },
+    /// A field of the head is out of its limits: contours 1, pairs 2, candidates 3, passes 4, directions 5
+    /// and 6, candidates in all 7.
+    Field { field: u32 },
+    /// The head speaks of another number of blocks.
+    Blocks { count: u32 },
+    /// A contour's vertex count, type or zero byte.
+    Contour { position: u32 },
+    /// A byte that no field uses is not zero.
+    Spare { block: u32 },
+    /// A coordinate is not finite or too large: home's (None) or a contour's.
+    Coordinate { position: Option<u32> },
+    /// A contour has the id of an earlier one.
+    RepeatedId { position: u32 },
+    /// A pair names an id that no contour has.
+    UnknownId { pair: u32 },
+    /// A pair's tag is not its contour's.
+    OtherTag { pair: u32 },
+    /// A contour would have to be cut before itself.
+    Cycle { position: u32 },
+    /// The room lent for the tour is too small.
+    Room { needed: u32 },
+    /// The card has no such candidate.
+    Candidate { number: u32 },
+}
+
+impl Refusal {
+    /// Takes the library's answer apart: 0, or number times 2^32 plus place.
+    pub(crate) fn of(code: u64) -> Result<(), Refusal> {
+        let place = code as u32;
+        Err(match code >> 32 {
+            0 => return Ok(()),
+            1 => Refusal::Length { bytes: place },
+            2 => Refusal::Check { block: place },
+            3 => Refusal::Start { block: place },
+            4 => Refusal::Field { field: place },
+            5 => Refusal::Blocks { count: place },
+            6 => Refusal::Contour { position: place },
+            7 => Refusal::Spare { block: place },
+            8 => Refusal::Coordinate { position: place.checked_sub(1) },
+            9 => Refusal::RepeatedId { position: place },
+            10 => Refusal::UnknownId { pair: place },
+            11 => Refusal::OtherTag { pair: place },
+            12 => Refusal::Cycle { position: place },
+            13 => Refusal::Room { needed: place },
+            15 => Refusal::Candidate { number: place },
+            other => unreachable!("the library has no refusal {other}"),
+        })
+    }
+
+    /// The number that the program prints.
+    pub fn number(&self) -> u32 {
+        self.told().0
+    }
+
+    /// The place that the program prints.
+    pub fn place(&self) -> u32 {
+        self.told().1
+    }
+
+    fn told(&self) -> (u32, u32) {
+        match *self {
+            Refusal::Length { bytes } => (1, bytes),
+            Refusal::Check { block } => (2, block),
+            Refusal::Start { block } => (3, block),
+            Refusal::Field { field } => (4, field),
+            Refusal::Blocks { count } => (5, count),
+            Refusal::Contour { position } => (6, position),
+            Refusal::Spare { block } => (7, block),
+            Refusal::Coordinate { position } => (8, position.map_or(0, |k| k + 1)),
+            Refusal::RepeatedId { position } => (9, position),
+            Refusal::UnknownId { pair } => (10, pair),
+            Refusal::OtherTag { pair } => (11, pair),
+            Refusal::Cycle { position } => (12, position),
+            Refusal::Room { needed } => (13, needed),
+            Refusal::Candidate { number } => (15, number),
+        }
+    }
+}
+
+/// What each field of the head must be, by the number of [`Refusal::Field`].
+const FIELDS: [&str; 7] = [
+    "a card has at most 40 contours",
+    "a card has at most 124 pairs",
+    "a contour has 1 to 8 candidates",
+    "a search makes at most 1000 passes",
+    "the direction of outlines is 0, 1 or 2",
+    "the direction of holes is 0, 1 or 2",
+    "a card has at most 80 candidates in all",
+];
+
+impl fmt::Display for Refusal {
+    fn fmt(&self, f: &mut fmt::Formatter) -> fmt::Result {
+        match *self {
+            Refusal::Length { bytes } if bytes > 23_040 => {
+                write!(f, "a card has 1 to 45 whole blocks of 512 bytes, and this is longer")
+            }
+            Refusal::Length { bytes } => write!(f, "a card has 1 to 45 whole blocks of 512 bytes, not {bytes} bytes"),
+            Refusal::Check { block } => write!(f, "the check of block {block} does not fit its bytes"),
+            Refusal::Start { block } => write!(f, "block {block} does not begin as it should"),
+            Refusal::Field { field } => f.write_str(FIELDS[field as usize - 1]),
+            Refusal::Blocks { count } => write!(f, "the head speaks of another number of blocks than {count}"),
+            Refusal::Contour { position } => {
+                write!(f, "contour {position} has no 1 to 30 vertices, no known type, or a byte that should be zero")
+            }
+            Refusal::Spare { block } => write!(f, "block {block} has a byte that should be zero"),
+            Refusal::Coordinate { position: None } => {
+                f.write_str("home has a coordinate that is too large or no number")
+            }
+            Refusal::Coordinate { position: Some(k) } => {
+                write!(f, "contour {k} has a coordinate that is too large or no number")
+            }
+            Refusal::RepeatedId { position } => write!(f, "contour {position} has the id of an earlier contour"),
+            Refusal::UnknownId { pair } => write!(f, "pair {pair} names an id that no contour has"),
+            Refusal::OtherTag { pair } => write!(f, "pair {pair} names a contour by another tag than its own"),
+            Refusal::Cycle { position } => write!(f, "contour {position} would have to be cut before itself"),
+            Refusal::Room { needed } => write!(f, "the room for the tour is too small: it needs {needed} entries"),
+            Refusal::Candidate { number } => write!(f, "the card has no candidate {number}"),
+        }
+    }
+}
+
+impl std::error::Error for Refusal {}
+
+/// Every answer of the library comes back with its number and place, and every refusal is a sentence.
+#[test]
+fn codes_and_sentences() {
+    assert_eq!(Refusal::of(0), Ok(()));
+    for number in (1..=13).chain([15]) {
+        for place in 1..8 {
+            let refusal = Refusal::of((number << 32) + place).unwrap_err();
+            assert_eq!((u64::from(refusal.number()), u64::from(refusal.place())), (number, place));
+            assert!(refusal.to_string().len() > 20);
+        }
+    }
+}

@@ -1,0 +1,47 @@
+//! The example cards, and what every call promises about the memory it is lent.
+
+use jambolive::{Refusal, check, list, tour, tour_into};
+use std::fs;
+use std::path::PathBuf;
+
+fn example(name: &str) -> Vec<u8> {
+    let folder = PathBuf::from(env!("CARGO_MANIFEST_DIR")).join("../../examples");
+    fs::read(folder.join(name)).unwrap()
+}
+
+#[test]
+fn every_example_prints_its_list() {
+    for name in ["job-41", "sheet", "refused"] {
+        let due = String::from_utf8(example(&format!("{name}.list"))).unwrap();
+        assert_eq!(list(&example(&format!("{name}.card"))), due, "{name}");
+    }
+}
+
+#[test]
+fn job_41() {
+    let found = tour(&example("job-41.card")).unwrap();
+    assert_eq!((found.candidates.as_slice(), found.moves, found.length), ([2, 1, 0].as_slice(), 1, 24.0));
+}
+
+#[test]
+fn the_rest_of_a_room_is_kept() {
+    let mut room = [99; 50];
+    tour_into(&example("job-41.card"), &mut room).unwrap();
+    assert_eq!(room[..3], [2, 1, 0]);
+    assert_eq!(room[3..], [99; 47]);
+}
+
+#[test]
+fn a_small_room_is_refused_and_kept() {
+    let mut room = [99; 2];
+    assert_eq!(tour_into(&example("job-41.card"), &mut room), Err(Refusal::Room { needed: 3 }));
+    assert_eq!(room, [99; 2]);
+}
+
+#[test]
+fn any_bytes_get_an_answer() {
+    assert_eq!(check(&[]), Err(Refusal::Length { bytes: 0 }));
+    assert_eq!(check(&[7; 100_000]), Err(Refusal::Length { bytes: 23_041 }));
+    assert_eq!(check(&[0; 512]), Err(Refusal::Start { block: 0 }));
+    assert_eq!(check(&[1; 512]), Err(Refusal::Check { block: 0 }));
+}
