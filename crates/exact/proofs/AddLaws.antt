@@ -10,7 +10,8 @@ use lib.Ieee.{Float, nan, inf, fin, Format, prec, low, up, down, round, add, fit
 use lib.Ieee.Fits.{down-pos, add-fits}
 use lib.Ieee.Exact.{HasValue}
 use lib.Ieee.Scale.{round-same, finite, grid, overflow}
-use Rattle.root.proofs.Steps.{stepsIn, signOf, steps-value, steps-of}
+use Rattle.root.specs.Steps.{stepsIn, signOf}
+use Rattle.root.proofs.StepLaws.{steps-value, steps-of}
 use Rattle.root.proofs.Rounding.{round-steps, half-ulp, ulp, ulp-le, grid-le}
 
 -- a finite number of the format, +0 or above

@@ -10,7 +10,8 @@ use lib.Ieee.Fits.{down-pos, and-l, and-r, add-fits}
 use lib.Ieee.Exact.{HasValue, round-exact}
 use lib.Ieee.Scale.{round-same}
 use Rattle.answer.specs.declared.Point.{Point}
-use Rattle.root.proofs.Steps.{stepsOf, signOf, hasRoot, steps-of}
+use Rattle.root.specs.Steps.{stepsOf, signOf, hasRoot}
+use Rattle.root.proofs.StepLaws.{steps-of}
 use Rattle.root.proofs.GridRoot.{Within, grid-root}
 use Rattle.root.proofs.RootLaws.{root-fits, root-sign, root-finite}
 use Rattle.exact.specs.Grid.{perMm, reach, onGrid, gridPoint, unitsOf, gap, apart, squaredLength}

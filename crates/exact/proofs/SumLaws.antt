@@ -12,7 +12,8 @@ use lib.IntN.{pos}
 use lib.Ieee.{Float, fin, binary64, add, fits, le}
 use lib.Ieee.Scale.{overflow}
 use Rattle.root.proofs.WholeLaws.{whole-le, whole-lt, square-lt}
-use Rattle.root.proofs.Steps.{stepsOf, le→steps}
+use Rattle.root.specs.Steps.{stepsOf}
+use Rattle.root.proofs.StepLaws.{le→steps}
 use Rattle.root.proofs.GridRoot.{Within}
 use Rattle.exact.specs.Length.{summed, total, legRoot, lowerEnd, upperEnd, step40}
 use Rattle.exact.specs.Bound.{Near, NearEnds, Enough, Forty, Eighty}

@@ -2,7 +2,7 @@
 use mathlib.Core.List.{List}
 use Prim.Native.Nat.{ℕ, _+_, _*_, _^_, _≤_}
 use lib.Ieee.{Float}
-use Rattle.root.proofs.Steps.{stepsOf}
+use Rattle.root.specs.Steps.{stepsOf}
 use Rattle.exact.specs.Length.{lowerEnd, upperEnd, step40}
 
 -- two numbers differ by at most b

@@ -5,7 +5,7 @@ use Prim.Native.Nat.{ℕ, _+_, _-_, _*_, _/_, _%_}
 use lib.Dec.{eqb, leb}
 use lib.Ieee.{Float, nan, inf, fin, up, down}
 use Rattle.answer.specs.declared.Point.{Point}
-use Rattle.root.proofs.Steps.{signOf}
+use Rattle.root.specs.Steps.{signOf}
 
 -- grid units in a millimetre
 abbrev pub perMm : ℕ

@@ -9,7 +9,7 @@ use lib.Ieee.{Float, binary64, fits}
 use Rattle.root.specs.Whole.{halves, wholeRoot}
 use Rattle.root.specs.Root.{sqrtOf}
 use Rattle.root.proofs.WholeLaws.{whole-le, whole-lt, halves-ge-even, halves-lt-even}
-use Rattle.root.proofs.Steps.{stepsOf, hasRoot}
+use Rattle.root.specs.Steps.{stepsOf, hasRoot}
 use Rattle.root.proofs.Rounding.{ulp-le}
 use Rattle.root.proofs.RootSteps.{rootSteps, dropped, root-off, root-part-under}
 use Rattle.root.proofs.RootLaws.{root-steps}

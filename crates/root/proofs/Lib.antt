@@ -3,7 +3,7 @@ pub mod Squares
 pub mod HalfUp
 pub mod Patterns
 pub mod Cases
-pub mod Steps
+pub mod StepLaws
 pub mod Rounding
 pub mod Middle
 pub mod RootSteps

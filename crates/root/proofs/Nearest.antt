@@ -5,7 +5,8 @@ use native.Mathlib.Nat.{lt-irrefl, lt-trans, le-antisymm, le-of-suc-le-suc, lt-o
 use lib.Dec.{T, lit≤}
 use lib.Ieee.{Float, binary64, fits}
 use Rattle.root.specs.Root.{sqrtOf}
-use Rattle.root.proofs.Steps.{stepsOf, signOf, hasRoot, steps-held, steps-unique, real-finite}
+use Rattle.root.specs.Steps.{stepsOf, signOf, hasRoot}
+use Rattle.root.proofs.StepLaws.{steps-held, steps-unique, real-finite}
 use Rattle.root.proofs.Middle.{Short}
 use Rattle.root.proofs.RootSteps.{root-near-above, root-near-below}
 use Rattle.root.proofs.RootLaws.{root-steps, root-fits, root-sign, root-real}

@@ -18,7 +18,8 @@ use Rattle.root.specs.declared.Rooted.the-variants.{Is, Refused}
 use Rattle.root.specs.Whole.{wholeRoot, digits, halves}
 use Rattle.root.specs.Root.{sqrtOf, rootOf, rootFinite, negative, noRoot, steps}
 use Rattle.root.proofs.WholeLaws.{halves-mono}
-use Rattle.root.proofs.Steps.{stepsOf, signOf, hasRoot, steps-held, steps-of, minus-zero, real-finite, le→steps, steps→le}
+use Rattle.root.specs.Steps.{stepsOf, signOf, hasRoot}
+use Rattle.root.proofs.StepLaws.{steps-held, steps-of, minus-zero, real-finite, le→steps, steps→le}
 use Rattle.root.proofs.Rounding.{round-steps, grid-le}
 use Rattle.root.proofs.RootSteps.{rootSteps, root-of-zero, root-part-under}
 

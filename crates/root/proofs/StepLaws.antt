@@ -14,22 +14,7 @@ use lib.Ieee.Exact.{HasValue}
 use lib.Ieee.Order.{le-of-values, transfer}
 use lib.Ieee.Scale.{finite, overflow}
 use Rattle.root.specs.Root.{negative}
-
--- the size of a finite value in steps of the format's smallest; 0 for the others
-abbrev pub stepsIn : Format → Float → ℕ
-stepsIn f nan = 0
-stepsIn f (inf s) = 0
-stepsIn f (fin s m e) = m * up e * 2 ^ low f / down e
-
--- in steps of 2^-1074
-abbrev pub stepsOf : Float → ℕ
-stepsOf x = stepsIn binary64 x
-
--- below zero, or -0
-abbrev pub signOf : Float → Bool
-signOf nan = false
-signOf (inf s) = s
-signOf (fin s m e) = s
+use Rattle.root.specs.Steps.{stepsIn, stepsOf, signOf, hasRoot}
 
 -- ---- what `fits` says of a finite value
 
@@ -149,12 +134,6 @@ steps-unique f (fin r m e) (fin q n d) t b u c s h =
     sym (ofBits-toBits f (fin r m e) t) ∙ ap (λ (z : ℕ). ofBits f z) i ∙ ofBits-toBits f (fin q n d) u
 
 -- ---- the order of values that are not below zero is that of their steps; -0 stands where +0 does
-
--- finite, and not below zero
-abbrev pub hasRoot : Float → Bool
-hasRoot nan = false
-hasRoot (inf s) = false
-hasRoot (fin s m e) = not (negative s m)
 
 pub real-finite : (x : Float) → T (hasRoot x) → T (finite x)
 real-finite nan h = h
