@@ -9,7 +9,8 @@ use Rattle.answer.specs.declared.Point.{Point}
 use Rattle.root.specs.Whole.{wholeRoot, digits, halves}
 use Rattle.root.specs.Root.{sqrtOf, rootFinite}
 use Rattle.exact.specs.Grid.{gridPoints, squaredLength}
-use Rattle.exact.specs.Length.{alongRoute, legLength, total, legRoot, lowerEnd, upperEnd}
+use Rattle.cost.specs.Distance.{distanceOf, distanceSqOf, squares as squaresOf}
+use Rattle.exact.specs.Length.{alongRoute, total, legRoot, lowerEnd, upperEnd}
 use Rattle.exact.proofs.RouteLaws.{computed, squares}
 
 -- a point by its bits
@@ -28,7 +29,7 @@ unfolding gridPoints ofBits ofFields odd trailingZeros
 on-the-grid = refl
 
 reported : computed home stops ≡ ofBits binary64 0x4038_0000_0000_0000
-unfolding alongRoute legLength total add sub mul neg sum ofBits ofFields odd size span climb round units trailingZeros sqrtOf rootFinite halves wholeRoot digits
+unfolding alongRoute distanceOf distanceSqOf squaresOf total add sub mul neg sum ofBits ofFields odd size span climb round units trailingZeros sqrtOf rootFinite halves wholeRoot digits
 reported = refl
 
 exactly : lowerEnd (squares home stops) ≡ 24 * 2 ^ 40

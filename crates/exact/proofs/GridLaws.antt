@@ -15,7 +15,8 @@ use Rattle.root.proofs.StepLaws.{steps-of}
 use Rattle.root.proofs.GridRoot.{Within, grid-root}
 use Rattle.root.proofs.RootLaws.{root-fits, root-sign, root-finite}
 use Rattle.exact.specs.Grid.{perMm, reach, onGrid, gridPoint, unitsOf, gap, apart, squaredLength}
-use Rattle.exact.specs.Length.{legLength, legRoot, step40}
+use Rattle.exact.specs.Length.{legRoot, step40}
+use Rattle.cost.specs.Distance.{distanceOf, distanceSqOf, squares as squaresOf}
 use Rattle.exact.proofs.AddLaws.{Plain, add-at, value-plain}
 
 -- ---- a coordinate on the grid
@@ -196,8 +197,8 @@ pub record NearLeg (computed : Float) (S : ℕ) : Type 0 where
   pub small : S ≤ 2 ^ 49
   pub within : Within (stepsOf computed) (legRoot S) step40
 
-pub grid-leg : (a b : Point) → T (gridPoint a) → T (gridPoint b) → NearLeg (legLength a b) (squaredLength a b)
-unfolding legLength legRoot
+pub grid-leg : (a b : Point) → T (gridPoint a) → T (gridPoint b) → NearLeg (distanceOf a b) (squaredLength a b)
+unfolding distanceOf distanceSqOf squaresOf legRoot
 grid-leg a b t u =
     let x = squares a b in
     let S = squaredLength a b in

@@ -8,14 +8,15 @@ use lib.Ieee.{Float, le}
 use lib.Ieee.Fits.{and-l, and-r}
 use Rattle.answer.specs.declared.Point.{Point}
 use Rattle.exact.specs.Grid.{gridPoint, gridPoints, squaredLength}
-use Rattle.exact.specs.Length.{alongRoute, legLength, total, lowerEnd, upperEnd, step40}
+use Rattle.cost.specs.Distance.{distanceOf}
+use Rattle.exact.specs.Length.{alongRoute, total, lowerEnd, upperEnd, step40}
 use Rattle.exact.specs.Bound.{NearEnds, Enough}
 use Rattle.exact.proofs.GridLaws.{grid-leg}
 use Rattle.exact.proofs.SumLaws.{Legs, length-near, excess}
 
 -- the computed length of a route, and the squared lengths of its legs
 abbrev pub computed : Point → List Point → Float
-computed home stops = total (alongRoute legLength home stops)
+computed home stops = total (alongRoute distanceOf home stops)
 
 abbrev pub squares : Point → List Point → List ℕ
 squares home stops = alongRoute squaredLength home stops
@@ -26,7 +27,7 @@ unfolding alongRoute
 route-legs leg home [] = refl
 route-legs leg home (stop ∷ more) = ap suc (route-legs leg stop more)
 
-pub route-near : (home : Point) (stops : List Point) → T (gridPoint home) → T (gridPoints stops) → Legs (alongRoute legLength home stops) (squares home stops)
+pub route-near : (home : Point) (stops : List Point) → T (gridPoint home) → T (gridPoints stops) → Legs (alongRoute distanceOf home stops) (squares home stops)
 unfolding alongRoute gridPoints
 route-near home [] h s = tt
 route-near home (stop ∷ more) h s =
@@ -37,10 +38,10 @@ route-near home (stop ∷ more) h s =
 
 pub route-length : (n a b : ℕ) (home : Point) (stops : List Point) → Enough n a b → T (gridPoint home) → T (gridPoints stops) → length stops ≤ n → NearEnds b (computed home stops) (squares home stops)
 route-length n a b home stops e h s k =
-    length-near n a b (alongRoute legLength home stops) (squares home stops) e (route-near home stops h s) (rw (route-legs squaredLength home stops) k)
+    length-near n a b (alongRoute distanceOf home stops) (squares home stops) e (route-near home stops h s) (rw (route-legs squaredLength home stops) k)
 
 pub route-excess : (n a b : ℕ) (home : Point) (stops stops′ : List Point) → Enough n a b → T (gridPoint home) → T (gridPoints stops) → length stops ≤ n → T (gridPoints stops′) → length stops′ ≤ n
     → T (le (computed home stops) (computed home stops′)) → upperEnd (squares home stops) * step40 ≤ lowerEnd (squares home stops′) * step40 + 2 * (b * step40)
 route-excess n a b home stops stops′ e h s k s′ k′ l =
-    excess n a b (alongRoute legLength home stops) (squares home stops) (alongRoute legLength home stops′) (squares home stops′) e (route-near home stops h s) (rw (route-legs squaredLength home stops) k)
+    excess n a b (alongRoute distanceOf home stops) (squares home stops) (alongRoute distanceOf home stops′) (squares home stops′) e (route-near home stops h s) (rw (route-legs squaredLength home stops) k)
     (route-near home stops′ h s′) (rw (route-legs squaredLength home stops′) k′) l

@@ -4,10 +4,9 @@ use Prim.Native.Nat.{ℕ, _+_, _*_, _^_}
 use lib.IntN.{pos}
 use lib.ListN.{length}
 use mathlib.Core.Bool.{false}
-use lib.Ieee.{Float, fin, binary64, add, sub, mul}
+use lib.Ieee.{Float, fin, binary64, add}
 use Rattle.answer.specs.declared.Point.{Point}
 use Rattle.root.specs.Whole.{wholeRoot}
-use Rattle.root.specs.Root.{sqrtOf}
 
 -- ---- legs
 
@@ -17,14 +16,6 @@ alongRoute leg home [] = []
 alongRoute leg home (stop ∷ more) = leg home stop ∷ alongRoute leg stop more
 
 -- ---- as computed
-
--- the differences, their squares, the sum and the root, each rounded once
-unfoldable pub legLength : Point → Point → Float
-unfolding sqrtOf
-legLength a b =
-    let dx = sub binary64 (b .x) (a .x) in
-    let dy = sub binary64 (b .y) (a .y) in
-    sqrtOf (add binary64 (mul binary64 dx dx) (mul binary64 dy dy))
 
 -- the sum so far, and the legs to come, from left to right
 unfoldable pub summed : Float → List Float → Float
