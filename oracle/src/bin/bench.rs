@@ -27,7 +27,7 @@ fn root() {
     let sum = |f: fn(f64) -> f64| inputs.iter().fold(0.0, |sum, &x| sum + f(x));
     let (ours, hardware) = both(
         200,
-        || _ = black_box(sum(|x| f64::from_bits(oracle::root::root(x).1))),
+        || _ = black_box(sum(oracle::root::sqrt)),
         || _ = black_box(inputs.iter().fold(0.0, |sum, &x| sum + x.sqrt())),
     );
     let each = inputs.len() as f64;
