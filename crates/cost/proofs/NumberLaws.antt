@@ -1,12 +1,11 @@
 -- What comparisons tell of a number: whether it can be a coordinate, or an amount. Assumes nothing.
 use mathlib.Core.Path.{_≡_, refl, sym, _∙_}
-use mathlib.Core.Bool.{Bool, true, false, not, _&&_, _||_, false≢true, true≢false}
+use mathlib.Core.Bool.{Bool, true, false, _&&_, _||_, false≢true, true≢false}
 use Prim.Native.Nat.{ℕ, zero, suc, _+_, _*_, _≤_, _<_}
 use native.Mathlib.Nat.{mul-one, zero-mul, mul-pos, zero-lt-suc}
 use native.Mathlib.Omega.{arith}
 use borrow.Author.Tests.{lt-ltb, le-ltb, ltb-true, ltb-false, eqb-true, eqb-false}
 use lib.Dec.{ltb, eqb}
-use lib.IntN.{ℤ}
 use lib.Ieee.{Float, nan, inf, fin, binary64, up, down, lt, eq, le, neg, ofBits}
 use lib.Ieee.Fits.{up-pos, down-pos}
 use Rattle.cost.specs.Bad.{largest, badNumber}

@@ -1,7 +1,7 @@
 -- The point of a polygon's boundary that is closest to a given point. Assumes nothing.
 use mathlib.Core.Bool.{cond}
 use mathlib.Core.List.{List, [], _∷_}
-use Prim.Native.Nat.{ℕ, zero, suc, _+_, _/_}
+use Prim.Native.Nat.{ℕ, suc, _+_, _/_}
 use lib.ListN.{length}
 use lib.Ieee.{Float, binary64, add, sub, mul, div, lt, ofBits}
 use Rattle.answer.specs.declared.Point.{Point}
@@ -10,7 +10,6 @@ use Rattle.answer.specs.declared.Check.the-variants.{Fine, Refused}
 use Rattle.answer.specs.Lowest.{refuseAt}
 use Rattle.answer.specs.Stage.{firstRefusal}
 use Rattle.cost.specs.declared.Ends.{Ends}
-use Rattle.cost.specs.declared.Nearest.{Nearest}
 use Rattle.cost.specs.declared.Best.{Best}
 use Rattle.cost.specs.declared.Closest.{Closest}
 use Rattle.cost.specs.declared.Closest.the-variants.{At, Nowhere, Refused as Unplaced}

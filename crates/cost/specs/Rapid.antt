@@ -1,6 +1,6 @@
 -- The length of all moves between cuts: from home to the first start, then from each end to the next start. Assumes nothing.
 use mathlib.Core.List.{List, [], _∷_}
-use Prim.Native.Nat.{ℕ, _+_, _*_, _/_}
+use Prim.Native.Nat.{_+_, _*_, _/_}
 use lib.ListN.{length}
 use lib.Ieee.{Float, binary64, add, ofBits}
 use Rattle.answer.specs.declared.Point.{Point}
