@@ -1,0 +1,85 @@
+-- How many candidates a contour has, what each of them keeps, and where they stand when handed out. Assumes nothing.
+use mathlib.Core.Path.{_≡_, refl}
+use mathlib.Core.Bool.{Bool, true, false, cond}
+use mathlib.Core.List.{List, [], _∷_}
+use Prim.Native.Nat.{ℕ, zero, suc, _-_, _≤_, _<_, min}
+use native.Mathlib.Nat.{not-suc-le-zero, le-of-suc-le-suc}
+use native.Mathlib.Omega.{arith}
+use lib.Dec.{eqb}
+use lib.ListN.{length, getD, replicate, length-append, length-replicate, List·getD-append}
+use lib.Ieee.{Float, lt}
+use Rattle.answer.specs.declared.Point.{Point}
+use Rattle.answer.specs.declared.CutDirection.{CutDirection}
+use Rattle.cost.specs.Closest.{tiny}
+use Rattle.candidates.specs.declared.Candidate.{Candidate}
+use Rattle.candidates.specs.declared.Spot.{Spot}
+use Rattle.candidates.specs.Along.{perimeterOf, spot}
+use Rattle.candidates.specs.Generate.{mostCandidates, candidateAt, blank, spaced, candidatesFrom, candidatesOf, filled}
+use Rattle.candidates.proofs.FillLaws.{spaced-length}
+
+-- ---- how many
+
+from-count : (way : CutDirection) (v : Point) (ps : List Point) (c : ℕ) → 0 < c → (0 < length (candidatesFrom way v ps c)) × (length (candidatesFrom way v ps c) ≤ c)
+unfolding candidatesFrom
+from-count way v ps c h = go (eqb c 1) (lt (perimeterOf ps) tiny)
+  where
+    go : (p q : Bool)
+        → (0 < length (cond p (candidateAt way (spot v 0) ∷ []) (cond q (candidateAt way (spot v 0) ∷ []) (spaced way ps (perimeterOf ps) c 0 c))))
+        × (length (cond p (candidateAt way (spot v 0) ∷ []) (cond q (candidateAt way (spot v 0) ∷ []) (spaced way ps (perimeterOf ps) c 0 c))) ≤ c)
+    go true q = (omega arith, omega arith)
+    go false true = (omega arith, omega arith)
+    go false false = let e = spaced-length way ps (perimeterOf ps) c 0 c in (omega arith, omega arith)
+
+-- a contour that has a vertex has a candidate, if any are wanted
+pub count-some : (way : CutDirection) (ps : List Point) (c : ℕ) → 0 < length ps → 0 < c → 0 < length (candidatesOf way ps c)
+unfolding candidatesOf
+count-some way [] c h g = absurd (not-suc-le-zero h)
+count-some way (v ∷ more) c h g = from-count way v (v ∷ more) (min c mostCandidates) (omega arith) .0
+
+-- and never more than are wanted
+pub count-within : (way : CutDirection) (ps : List Point) (c : ℕ) → 0 < c → length (candidatesOf way ps c) ≤ min c mostCandidates
+unfolding candidatesOf
+count-within way [] c g = omega arith
+count-within way (v ∷ more) c g = from-count way v (v ∷ more) (min c mostCandidates) (omega arith) .1
+
+-- ---- what each keeps
+
+-- it ends where it starts, and is cut the contour's way
+pub record Closed (way : CutDirection) (q : Candidate) : Type 0 where
+  pub same-x : q .«end_x» ≡ q .x
+  pub same-y : q .«end_y» ≡ q .y
+  pub same-way : q .direction ≡ way
+
+AllClosed : CutDirection → List Candidate → Type 0
+AllClosed way l = (k : ℕ) → k < length l → Closed way (getD l k blank)
+
+one-closed : (way : CutDirection) (s : Spot) → AllClosed way (candidateAt way s ∷ [])
+unfolding AllClosed
+one-closed way s zero h = record { same-x = refl; same-y = refl; same-way = refl }
+one-closed way s (suc k) h = absurd (not-suc-le-zero (le-of-suc-le-suc h))
+
+spaced-closed : (way : CutDirection) (ps : List Point) (total : Float) (c k n : ℕ) → AllClosed way (spaced way ps total c k n)
+unfolding AllClosed spaced
+spaced-closed way ps total c k zero j h = absurd (not-suc-le-zero h)
+spaced-closed way ps total c k (suc n) zero h = record { same-x = refl; same-y = refl; same-way = refl }
+spaced-closed way ps total c k (suc n) (suc j) h = spaced-closed way ps total c (suc k) n j (le-of-suc-le-suc h)
+
+pub each-closed : (way : CutDirection) (ps : List Point) (c k : ℕ) → k < length (candidatesOf way ps c) → Closed way (getD (candidatesOf way ps c) k blank)
+unfolding candidatesOf candidatesFrom AllClosed
+each-closed way [] c k h = absurd (not-suc-le-zero h)
+each-closed way (v ∷ more) c k h = go (eqb (min c mostCandidates) 1) (lt (perimeterOf (v ∷ more)) tiny) k h
+  where
+    go : (p q : Bool) → AllClosed way (cond p (candidateAt way (spot v 0) ∷ []) (cond q (candidateAt way (spot v 0) ∷ []) (spaced way (v ∷ more) (perimeterOf (v ∷ more)) (min c mostCandidates) 0 (min c mostCandidates))))
+    go true q = one-closed way (spot v 0)
+    go false true = one-closed way (spot v 0)
+    go false false = spaced-closed way (v ∷ more) (perimeterOf (v ∷ more)) (min c mostCandidates) 0 (min c mostCandidates)
+
+-- ---- where they stand
+
+pub filled-item : (l : List Candidate) (k : ℕ) (d : Candidate) → k < length l → getD (filled l .items) k d ≡ getD l k d
+unfolding filled
+filled-item l k d h = List·getD-append l (replicate (mostCandidates - length l) blank) d k h
+
+pub filled-length : (l : List Candidate) → length l ≤ mostCandidates → length (filled l .items) ≡ mostCandidates
+unfolding filled
+filled-length l h = simp (length-append, length-replicate) (omega arith)

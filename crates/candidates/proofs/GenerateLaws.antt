@@ -1,0 +1,29 @@
+-- Which of its cases the definition of candidates is in. Assumes nothing.
+use mathlib.Core.Path.{_≡_, refl, _∙_}
+use mathlib.Core.List.{List, [], _∷_}
+use Prim.Native.Nat.{ℕ, _/_, min}
+use native.Mathlib.Omega.{arith}
+use lib.ListN.{length, getD}
+use lib.Ieee.{Float}
+use Rattle.answer.specs.declared.Point.{Point}
+use Rattle.answer.specs.declared.CutDirection.{CutDirection}
+use Rattle.cost.specs.Points.{nowhere, points}
+use Rattle.cost.proofs.PointLaws.{points-length}
+use Rattle.candidates.specs.Generate.{mostCandidates, candidatesFrom, candidatesOf}
+
+none-of : (way : CutDirection) (ps : List Point) (c : ℕ) → length ps ≡ 0 → candidatesOf way ps c ≡ []
+unfolding candidatesOf
+none-of way [] c h = refl
+none-of way (v ∷ more) c h = absurd (omega arith)
+
+some-of : (way : CutDirection) (ps : List Point) (c : ℕ) → (length ps ≡ 0 → ⊥) → candidatesOf way ps c ≡ candidatesFrom way (getD ps 0 nowhere) ps (min c mostCandidates)
+unfolding candidatesOf
+some-of way [] c h = absurd (h refl)
+some-of way (v ∷ more) c h = refl
+
+module _ (n : List Float) (way : CutDirection) (c : ℕ) where
+  pub no-vertices : length n / 2 ≡ 0 → candidatesOf way (points n) c ≡ []
+  no-vertices h = none-of way (points n) c (points-length n ∙ h)
+
+  pub some-vertices : (length n / 2 ≡ 0 → ⊥) → candidatesOf way (points n) c ≡ candidatesFrom way (getD (points n) 0 nowhere) (points n) (min c mostCandidates)
+  some-vertices h = some-of way (points n) c (rw points-length h)

@@ -1,0 +1,5 @@
+pub mod AlongLaws
+pub mod FillLaws
+pub mod GenerateLaws
+pub mod CountLaws
+pub mod Starred

@@ -1,0 +1,15 @@
+-- `candidates::none` meets its contract: eight blanks and no count. Assumes nothing.
+use borrow.Author.Needs.{needs}
+use Rattle.candidates.specs.Generate.{filled}
+use Rattle.candidates.proofs.none.Statement.{statement}
+use Rattle.candidates.proofs.none.Tie as tie
+
+blank-requires : tie.Need-blank-requires
+blank-requires c κs = search needs
+
+returns : tie.Need-returns
+unfolding filled
+returns c = rw (c .blank .ensures)
+
+pub none-spec : {M : Type 1} → statement M
+none-spec = tie.close (tie.spec blank-requires returns)

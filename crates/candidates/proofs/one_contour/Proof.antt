@@ -1,0 +1,55 @@
+-- `candidates::one_contour` meets its contract: the tests that led to each answer decide it. Assumes nothing.
+use borrow.Author.Needs.{needs}
+use Rattle.answer.specs.Stage.{firstRefusal}
+use Rattle.candidates.specs.Question.{oneContour}
+use Rattle.candidates.proofs.one_contour.Statement.{statement}
+use Rattle.candidates.proofs.one_contour.Tie as tie
+
+outside-requires : tie.Need-outside-requires
+outside-requires c κs = search needs
+
+returns : tie.Need-returns
+unfolding oneContour firstRefusal
+returns c = rw (← (c .before .outside .ensures), c .if1 .taken)
+
+add-v : tie.Need-add-v
+add-v c = search needs
+
+outside-requires-2 : tie.Need-outside-requires-2
+outside-requires-2 c κs = search needs
+
+returns-2 : tie.Need-returns-2
+unfolding oneContour firstRefusal
+returns-2 c = rw (← (c .before .before .before .outside .ensures), c .before .before .if1 .left, ← (c .before .outside2 .ensures), c .if2 .taken)
+
+first-bad-requires : tie.Need-first-bad-requires
+first-bad-requires c κs = search needs
+
+enum-known-k : tie.Need-enum-known-k
+enum-known-k c = search needs
+
+enum-told : tie.Need-enum-told
+enum-told c = search needs
+
+returns-3 : tie.Need-returns-3
+unfolding oneContour firstRefusal
+returns-3 c = rw (← (c .before .before .before .before .before .before .before .outside .ensures), c .before .before .before .before .before .before .if1 .left, ← (c .before .before .before .before .before .outside2 .ensures), c .before .before .before .before .if2 .left, ← (c .before .before .before .first-bad .ensures), c .before .k .given .1)
+
+returns-4 : tie.Need-returns-4
+unfolding oneContour firstRefusal
+returns-4 c = rw (← (c .before .before .before .before .before .before .outside .ensures), c .before .before .before .before .before .if1 .left, ← (c .before .before .before .before .outside2 .ensures), c .before .before .before .if2 .left, ← (c .before .before .first-bad .ensures), c .enum-told .given .1)
+
+pub one-contour-spec : {M : Type 1} → statement M
+one-contour-spec =
+    tie.close
+    (tie.spec
+    outside-requires
+    returns
+    add-v
+    outside-requires-2
+    returns-2
+    first-bad-requires
+    enum-known-k
+    enum-told
+    returns-3
+    returns-4)

@@ -1,0 +1,49 @@
+-- `candidates::perimeter` meets its contract. The loop's invariant: adding up from edge i with the sum so far gives the perimeter. Assumes nothing.
+use Prim.Native.Nat.{_≤_, _-_, _/_}
+use native.Mathlib.Omega.{arith}
+use borrow.Author.Needs.{needs}
+use lib.ListN.{length}
+use Rattle.candidates.proofs.AlongLaws.{Summed, summed-start, summed-step, summed-done}
+use Rattle.candidates.proofs.perimeter.Statement.{statement}
+use Rattle.candidates.proofs.perimeter.Tie as tie
+
+abbrev Inv-loop : tie.InvT-loop
+Inv-loop numbers n sum₀ i₀ sum i = (i ≤ length numbers / 2) × Summed numbers sum i
+
+abbrev μ-loop : tie.MeasureT-loop
+μ-loop numbers n sum₀ i₀ sum i = length numbers / 2 - i
+
+loop-holds : tie.Need-loop-holds Inv-loop μ-loop
+loop-holds c = (omega arith, summed-start _)
+
+edge-at-requires : tie.Need-edge-at-requires Inv-loop μ-loop
+edge-at-requires c κs = tt
+
+length-of-requires : tie.Need-length-of-requires Inv-loop μ-loop
+length-of-requires c κs = tt
+
+add-i : tie.Need-add-i Inv-loop μ-loop
+add-i c = search needs
+
+loop-less : tie.Need-loop-less Inv-loop μ-loop
+loop-less c = omega arith
+
+loop-again : tie.Need-loop-again Inv-loop μ-loop
+loop-again c = (search needs, rw (c .length-of .ensures, c .before .edge-at .ensures) (summed-step _ _ _ (c .before .before .loop-test .taken) (c .before .before .before .loop .inv .1)))
+
+returns : tie.Need-returns Inv-loop μ-loop
+returns c = summed-done _ _ _ (c .loop-test .left) (c .before .loop .inv .1)
+
+pub perimeter-spec : {M : Type 1} → statement M
+perimeter-spec =
+    tie.close
+    (tie.spec
+    Inv-loop
+    μ-loop
+    loop-holds
+    edge-at-requires
+    length-of-requires
+    add-i
+    loop-less
+    loop-again
+    returns)

@@ -1,0 +1,69 @@
+-- `candidates::spaced` meets its contract. The loop's invariant: the first k places are filled, the others blank. Assumes nothing.
+use mathlib.Core.Path.{_≡_}
+use Prim.Native.Nat.{_≤_, _-_}
+use native.Mathlib.Omega.{arith}
+use Rattle.cost.specs.Points.{points}
+use Rattle.candidates.specs.Generate.{spaced}
+use Rattle.candidates.proofs.FillLaws.{room, room-more, room-full}
+use Rattle.candidates.proofs.spaced.Statement.{statement}
+use Rattle.candidates.proofs.spaced.Tie as tie
+
+abbrev Inv-loop : tie.InvT-loop
+Inv-loop direction numbers total c items₀ k₀ items k = (k ≤ c) × (items ≡ room direction (points numbers) total c k)
+
+abbrev μ-loop : tie.MeasureT-loop
+μ-loop direction numbers total c items₀ k₀ items k = c - k
+
+blank-requires : tie.Need-blank-requires Inv-loop μ-loop
+blank-requires c κs = tt
+
+loop-holds : tie.Need-loop-holds Inv-loop μ-loop
+unfolding spaced
+loop-holds c = (omega arith, rw (c .blank .ensures))
+
+target-of-requires : tie.Need-target-of-requires Inv-loop μ-loop
+target-of-requires c κs = tt
+
+spot-at-requires : tie.Need-spot-at-requires Inv-loop μ-loop
+spot-at-requires c κs = tt
+
+candidate-at-requires : tie.Need-candidate-at-requires Inv-loop μ-loop
+candidate-at-requires c κs = tt
+
+mul-items : tie.Need-mul-items Inv-loop μ-loop
+mul-items c = omega arith
+
+array-set-from-items : tie.Need-array-set-from-items Inv-loop μ-loop
+array-set-from-items c = omega arith
+
+add-k : tie.Need-add-k Inv-loop μ-loop
+add-k c = omega arith
+
+loop-less : tie.Need-loop-less Inv-loop μ-loop
+loop-less c = omega arith
+
+loop-again : tie.Need-loop-again Inv-loop μ-loop
+loop-again c = (omega arith, rw (c .candidate-at .ensures, c .before .spot-at .ensures, c .before .before .target-of .ensures, c .before .before .before .before .loop .inv .1) (room-more _ _ _ _ _ (omega arith)))
+
+returns : tie.Need-returns Inv-loop μ-loop
+returns c =
+    let e : c .before .loop .k ≡ c .before .before .before .before .args .c = omega arith in
+    rw (c .before .loop .inv .1, e) (room-full _ _ _ _)
+
+pub spaced-spec : {M : Type 1} → statement M
+spaced-spec =
+    tie.close
+    (tie.spec
+    Inv-loop
+    μ-loop
+    blank-requires
+    loop-holds
+    target-of-requires
+    spot-at-requires
+    candidate-at-requires
+    mul-items
+    array-set-from-items
+    add-k
+    loop-less
+    loop-again
+    returns)

@@ -1,0 +1,54 @@
+-- The candidates of a contour: where on its boundary the beam may pierce. Assumes nothing.
+use mathlib.Core.Bool.{cond}
+use mathlib.Core.List.{List, [], _∷_, _++_}
+use Prim.Native.Nat.{ℕ, zero, suc, _-_, min}
+use lib.Dec.{eqb}
+use lib.IntN.{pos}
+use lib.ListN.{length, replicate}
+use lib.Ieee.{Float, binary64, mul, div, rem, lt, ofInt}
+use Rattle.answer.specs.declared.Point.{Point}
+use Rattle.answer.specs.declared.CutDirection.{CutDirection}
+use Rattle.answer.specs.declared.CutDirection.the-variants.{Ccw}
+use Rattle.cost.specs.Points.{point}
+use Rattle.cost.specs.Closest.{zero64, tiny}
+use Rattle.candidates.specs.declared.Spot.{Spot}
+use Rattle.candidates.specs.declared.Candidate.{Candidate}
+use Rattle.candidates.specs.declared.Candidates.{Candidates}
+use Rattle.candidates.specs.Along.{perimeterOf, spot, spotAt}
+
+-- the most candidates of one contour
+abbrev pub mostCandidates : ℕ
+mostCandidates = 8
+
+-- pierced at a spot and cut once around: the end point is the point
+abbrev pub candidateAt : CutDirection → Spot → Candidate
+candidateAt way s =
+    record { x = s .point .x; y = s .point .y; «end_x» = s .point .x; «end_y» = s .point .y; vertex = s .vertex; direction = way }
+
+-- how far along the way candidate k of c is
+unfoldable pub target : Float → ℕ → ℕ → Float
+target total c k = rem binary64 (mul binary64 (ofInt binary64 (pos k)) (div binary64 total (ofInt binary64 (pos c)))) total
+
+-- the next n candidates of c, from number k on
+unfoldable pub spaced : CutDirection → List Point → Float → ℕ → ℕ → ℕ → List Candidate
+spaced way ps total c k zero = []
+spaced way ps total c k (suc n) = candidateAt way (spotAt ps (target total c k)) ∷ spaced way ps total c (suc k) n
+
+-- of a contour whose first vertex is v: that vertex if one is wanted or the perimeter is under 1e-12, else c of them spaced evenly
+unfoldable pub candidatesFrom : CutDirection → Point → List Point → ℕ → List Candidate
+candidatesFrom way v ps c =
+    cond (eqb c 1) (candidateAt way (spot v 0) ∷ [])
+    (cond (lt (perimeterOf ps) tiny) (candidateAt way (spot v 0) ∷ []) (spaced way ps (perimeterOf ps) c 0 c))
+
+-- none without a vertex; more than can be held are not asked for
+unfoldable pub candidatesOf : CutDirection → List Point → ℕ → List Candidate
+candidatesOf way [] c = []
+candidatesOf way (v ∷ more) c = candidatesFrom way v (v ∷ more) (min c mostCandidates)
+
+-- what stands in the places that are not used
+abbrev pub blank : Candidate
+blank = candidateAt Ccw (spot (point zero64 zero64) 0)
+
+-- a list of candidates as it is handed out
+unfoldable pub filled : List Candidate → Candidates
+filled l = record { items = l ++ replicate (mostCandidates - length l) blank; count = length l }

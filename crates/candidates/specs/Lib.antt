@@ -1,0 +1,4 @@
+pub mod Direction
+pub mod Along
+pub mod Generate
+pub mod Question

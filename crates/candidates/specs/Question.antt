@@ -1,0 +1,41 @@
+-- The candidates of one contour, for whoever asks. Assumes nothing.
+use mathlib.Core.Bool.{Bool, _||_}
+use mathlib.Core.List.{List, [], _∷_}
+use Prim.Native.Nat.{ℕ, _+_, _/_}
+use lib.Dec.{ltb}
+use lib.ListN.{length}
+use lib.Ieee.{Float}
+use Rattle.answer.specs.declared.Check.{Check}
+use Rattle.answer.specs.declared.Check.the-variants.{Fine, Refused}
+use Rattle.answer.specs.declared.ContourType.{ContourType}
+use Rattle.answer.specs.declared.CutDirectionPreference.{CutDirectionPreference}
+use Rattle.answer.specs.Lowest.{refuseAt}
+use Rattle.answer.specs.Stage.{firstRefusal}
+use Rattle.cost.specs.Points.{points}
+use Rattle.cost.specs.Bad.{firstBad, refuseIf}
+use Rattle.candidates.specs.declared.Candidates.{Candidates}
+use Rattle.candidates.specs.declared.Offered.{Offered}
+use Rattle.candidates.specs.Direction.{directionOf}
+use Rattle.candidates.specs.Generate.{mostCandidates, candidatesOf, filled}
+
+-- the most vertices of a contour
+abbrev pub mostVertices : ℕ
+mostVertices = 30
+
+-- not from 1 to the most
+abbrev pub outside : ℕ → ℕ → Bool
+outside most n = ltb n 1 || ltb most n
+
+-- c out of range is 4 at 3; then v out of range, a part point counted, is 6 at v; then the first bad vertex is 8
+unfoldable pub oneContour : List Float → ℕ → Check
+oneContour numbers c =
+    let v = (length numbers + 1) / 2 in
+    firstRefusal (refuseIf (outside mostCandidates c) 4 3 ∷ refuseIf (outside mostVertices v) 6 v ∷ refuseAt 8 (firstBad numbers v) ∷ [])
+
+-- the candidates, unless the check refuses: then none
+abbrev pub offered : Check → Candidates → Offered
+offered Fine found = record { check = Fine; found = found }
+offered (Refused r) found = record { check = Refused r; found = filled [] }
+
+unfoldable pub offeredOf : List Float → ℕ → ContourType → CutDirectionPreference → CutDirectionPreference → Offered
+offeredOf numbers c kind exterior interior = offered (oneContour numbers c) (filled (candidatesOf (directionOf kind exterior interior) (points numbers) c))
