@@ -49,6 +49,13 @@ no-pair b a i j no' = ⊎-elim
     (λ (p : b ≡ i). rw (eq-eqb b i p, ne-eqb a j (no' p)))
     (λ (q : b ≡ i → ⊥). rw (ne-eqb b i q)) (same-or b i)
 
+-- the pair at this place has another first, or another second
+pub other-first : (l : List ℕ) (at i j : ℕ) → (getD l at 0 ≡ i → ⊥) → isPair i j (pairAt l at) ≡ false
+other-first l at i j d = no-pair (getD l at 0) (getD l (at + 1) 0) i j (λ p _. d p)
+
+pub other-second : (l : List ℕ) (at i j : ℕ) → (getD l (at + 1) 0 ≡ j → ⊥) → isPair i j (pairAt l at) ≡ false
+other-second l at i j d = no-pair (getD l at 0) (getD l (at + 1) 0) i j (λ _ q. d q)
+
 -- ---- a test of every pair, two numbers at a time
 
 -- what is left to test decides the whole

@@ -96,3 +96,42 @@ module _ (visited pairs : List ℕ) (k at : ℕ) (r : Bool) (more : at + 1 < len
 pub pairs-ready : (visited pairs : List ℕ) (k at : ℕ) → length pairs ≤ at + 1 → EveryPart (readyBy visited k) pairs at → true ≡ readyIn visited pairs k
 unfolding readyIn
 pairs-ready visited pairs k at all part = every-all (readyBy visited k) pairs at all part
+
+-- ---- the last place of one id, by walking the ids
+
+-- going on from place i with what was met gives what the whole list gives
+pub record LatestPart (id : ℕ) (ids : List ℕ) (i met : ℕ) : Type 0 where
+  pub within : i ≤ length ids
+  pub left : latest id i met (drop i ids) ≡ lastPlace ids id
+
+pub latest-none : (id : ℕ) (ids : List ℕ) → LatestPart id ids 0 0
+latest-none id ids = record { within = omega arith; left = refl }
+
+module _ (id : ℕ) (ids : List ℕ) (i met : ℕ) (more : i < length ids) (part : LatestPart id ids i met) where
+  latest-walk : latest id (suc i) (cond (eqb (getD ids i 0) id) (suc i) met) (drop (suc i) ids) ≡ lastPlace ids id
+  latest-walk = sym (latest-step id i met (getD ids i 0) (drop (suc i) ids)) ∙ (rw (drop-cons ids i 0 more) at (part .left))
+
+  pub latest-here : getD ids i 0 ≡ id → LatestPart id ids (i + 1) (i + 1)
+  latest-here e = rw (add-one i) (record { within = omega arith; left = rw (eq-eqb (getD ids i 0) id e) at latest-walk })
+
+  pub latest-other : (getD ids i 0 ≡ id → ⊥) → LatestPart id ids (i + 1) met
+  latest-other d = rw (add-one i) (record { within = omega arith; left = rw (ne-eqb (getD ids i 0) id d) at latest-walk })
+
+pub latest-all : (id : ℕ) (ids : List ℕ) (i met : ℕ) → length ids ≤ i → LatestPart id ids i met → met ≡ lastPlace ids id
+unfolding latest
+latest-all id ids i met all part = rw (drop-of-length-le ids all) at (part .left)
+
+-- ---- the ids as given keep a pair
+
+module _ (ids pairs : List ℕ) (at b a : ℕ) (r : Bool) (eb : b ≡ lastPlace ids (getD pairs at 0)) (ea : a ≡ lastPlace ids (getD pairs (at + 1) 0))
+    (more : at + 1 < length pairs) (part : EveryPart (keptIn ids) pairs at) (is : r ≡ keptAt b a) where
+  ids-answer : keptIn ids (pairAt pairs at) ≡ r
+  unfolding keptIn
+  ids-answer = sym (is ∙ rw (eb, ea))
+
+  pub ids-kept : r ≡ true → EveryPart (keptIn ids) pairs (at + 2)
+  ids-kept t = every-more (keptIn ids) pairs at more part (ids-answer ∙ t)
+
+  pub ids-broken : r ≡ false → false ≡ keepsPairs ids pairs
+  unfolding keepsPairs
+  ids-broken t = every-fails (keptIn ids) pairs at more part (ids-answer ∙ t)

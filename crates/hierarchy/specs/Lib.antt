@@ -1,1 +1,3 @@
 pub mod Keep
+pub mod Sort
+pub mod Questions

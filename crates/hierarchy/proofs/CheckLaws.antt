@@ -1,0 +1,92 @@
+-- Which refusal the first of the checks on a list of pairs gives. Assumes nothing.
+use mathlib.Core.Bool.{Bool, true, false}
+use mathlib.Core.Path.{_≡_, refl, sym, ap, _∙_}
+use mathlib.Core.Logic.{⊎-elim}
+use mathlib.Core.List.{List}
+use Prim.Native.Nat.{ℕ, _+_, _*_, _/_, _%_, _≤_, _<_}
+use native.Mathlib.Omega.{arith}
+use borrow.Author.Tests.{lt-ltb, le-ltb, eq-eqb, ne-eqb}
+use lib.ListN.{length, replicate}
+use Rattle.answer.specs.declared.Refusal.{Refusal}
+use Rattle.answer.specs.declared.Check.{Check}
+use Rattle.answer.specs.Stage.{orElse, firstRefusal}
+use Rattle.closure.specs.Limits.{CONTOURS, PAIRS}
+use Rattle.closure.proofs.PairLaws.{same-or, lt-or}
+use Rattle.hierarchy.specs.declared.Verdict.{Verdict}
+use Rattle.hierarchy.specs.declared.PairList.{PairList}
+use Rattle.hierarchy.specs.declared.Ids.{Ids}
+use Rattle.hierarchy.specs.Keep.{keepsPairs}
+use Rattle.hierarchy.specs.Questions.{refuseIf, pairsCheck, verdictOf, pairListOf, idsOf, validSequence}
+
+module _ (contours : ℕ) (pairs : List ℕ) where
+  pub check-contours : CONTOURS < contours → Check.Refused (record { number = 4; place = 1 }) ≡ pairsCheck contours pairs
+  unfolding pairsCheck firstRefusal
+  check-contours h = rw (lt-ltb CONTOURS contours h)
+
+  pub check-pairs : contours ≤ CONTOURS → PAIRS < length pairs / 2 + length pairs % 2 → Check.Refused (record { number = 4; place = 2 }) ≡ pairsCheck contours pairs
+  unfolding pairsCheck firstRefusal
+  check-pairs h l = rw (le-ltb CONTOURS contours h, lt-ltb PAIRS (length pairs / 2 + length pairs % 2) l)
+
+  pub check-half : contours ≤ CONTOURS → length pairs / 2 + length pairs % 2 ≤ PAIRS → length pairs % 2 ≡ 1 →
+      Check.Refused (record { number = 10; place = length pairs / 2 }) ≡ pairsCheck contours pairs
+  unfolding pairsCheck firstRefusal
+  check-half h l o = rw (le-ltb CONTOURS contours h, le-ltb PAIRS (length pairs / 2 + length pairs % 2) l, eq-eqb (length pairs % 2) 1 o)
+
+  pub check-fine : contours ≤ CONTOURS → length pairs / 2 + length pairs % 2 ≤ PAIRS → (length pairs % 2 ≡ 1 → ⊥) → Check.Fine ≡ pairsCheck contours pairs
+  unfolding pairsCheck firstRefusal
+  check-fine h l e = rw (le-ltb CONTOURS contours h, le-ltb PAIRS (length pairs / 2 + length pairs % 2) l, ne-eqb (length pairs % 2) 1 e)
+
+-- what passes is within the limits
+pub record Small (contours : ℕ) (pairs : List ℕ) : Type 0 where
+  pub few : contours ≤ CONTOURS
+  pub short : length pairs ≤ 2 * PAIRS
+  pub even : length pairs % 2 ≡ 0
+
+pub fine-small : (contours : ℕ) (pairs : List ℕ) → Check.Fine ≡ pairsCheck contours pairs → Small contours pairs
+fine-small contours pairs e = ⊎-elim
+    (λ (h : CONTOURS < contours). absurd (never (e ∙ sym (check-contours contours pairs h))))
+    (λ (h : contours ≤ CONTOURS). ⊎-elim
+    (λ (l : PAIRS < length pairs / 2 + length pairs % 2). absurd (never (e ∙ sym (check-pairs contours pairs h l))))
+    (λ (l : length pairs / 2 + length pairs % 2 ≤ PAIRS). ⊎-elim
+    (λ (o : length pairs % 2 ≡ 1). absurd (never (e ∙ sym (check-half contours pairs h l o))))
+    (λ (o : length pairs % 2 ≡ 1 → ⊥). record { few = h; short = omega arith; even = omega arith }) (same-or (length pairs % 2) 1))
+    (lt-or PAIRS (length pairs / 2 + length pairs % 2)))
+    (lt-or CONTOURS contours)
+  where
+    never : {r : Refusal} → Check.Fine ≡ Check.Refused r → ⊥
+    never p = let z : _≡_ {A = ℕ} 0 1 = cc in omega arith
+
+-- ---- an answer with a list: the first check refuses it, or it is what the list says
+
+module _ (check due : Check) (is : check ≡ due) (l : List ℕ) where
+  pub ids-refused : (r : Refusal) → check ≡ Check.Refused r → _≡_ {A = Ids} (record { check = check; ids = replicate PAIRS 0; count = 0 }) (idsOf due l)
+  ids-refused r e = rw (← is, e)
+
+  pub ids-fine : (a : Ids) → check ≡ Check.Fine → a ≡ idsOf Check.Fine l → a ≡ idsOf due l
+  ids-fine a e p = p ∙ ap (λ (z : Check). idsOf z l) (sym e ∙ is)
+
+  pub pair-list-refused : (r : Refusal) → check ≡ Check.Refused r → _≡_ {A = PairList} (record { check = check; ids = replicate (2 * PAIRS) 0; count = 0 }) (pairListOf due l)
+  pair-list-refused r e = rw (← is, e)
+
+  pub pair-list-fine : (a : PairList) → check ≡ Check.Fine → a ≡ pairListOf Check.Fine l → a ≡ pairListOf due l
+  pair-list-fine a e p = p ∙ ap (λ (z : Check). pairListOf z l) (sym e ∙ is)
+
+-- ---- an answer of yes or no
+
+module _ (check due : Check) (is : check ≡ due) (b : Bool) where
+  pub verdict-fine : (a : Bool) → check ≡ Check.Fine → a ≡ b → Verdict.Is a ≡ verdictOf due b
+  verdict-fine a e p = ap Verdict.Is p ∙ ap (λ (z : Check). verdictOf z b) (sym e ∙ is)
+
+  pub verdict-refused : (r : Refusal) → check ≡ Check.Refused r → Verdict.Refused r ≡ verdictOf due b
+  verdict-refused r e = ap (λ (z : Check). verdictOf z b) (sym e ∙ is)
+
+-- the checks pass, and then there are too many ids, or not
+module _ (contours : ℕ) (pairs ids : List ℕ) (check : Check) (is : check ≡ pairsCheck contours pairs) where
+  pub valid-long : check ≡ Check.Fine → CONTOURS < length ids → Verdict.Refused (record { number = 15; place = length ids }) ≡ validSequence contours pairs ids
+  valid-long e h = rw (← is, e, lt-ltb CONTOURS (length ids) h)
+
+  pub valid-told : (a : Bool) → check ≡ Check.Fine → length ids ≤ CONTOURS → a ≡ keepsPairs ids pairs → Verdict.Is a ≡ validSequence contours pairs ids
+  valid-told a e h p = rw (← is, e, le-ltb CONTOURS (length ids) h, p)
+
+  pub valid-refused : (r : Refusal) → check ≡ Check.Refused r → Verdict.Refused r ≡ validSequence contours pairs ids
+  valid-refused r e = rw (← is, e)

@@ -1,0 +1,87 @@
+-- `hierarchy::list_after` meets its contract. Assumes nothing.
+use Prim.Native.Nat.{_-_}
+use lib.ListN.{length}
+use borrow.Author.Needs.{needs}
+use borrow.Author.Tests.{eq-eqb, ne-eqb}
+use Rattle.closure.specs.Limits.{PAIRS}
+use Rattle.hierarchy.specs.Questions.{startsAt}
+use Rattle.hierarchy.proofs.FillLaws.{PickPart, pick-none, pick-yes, pick-no, pick-all, ids-of}
+use Rattle.hierarchy.proofs.list_after.Statement.{statement}
+use Rattle.hierarchy.proofs.list_after.Tie as tie
+
+abbrev Inv-loop : tie.InvT-loop
+Inv-loop pairs id ids₀ count₀ at₀ ids count at = PickPart PAIRS (startsAt id) (λ p. p .after) pairs at ids count
+
+abbrev μ-loop : tie.MeasureT-loop
+μ-loop pairs id ids₀ count₀ at₀ ids count at = length pairs - at
+
+loop-holds : tie.Need-loop-holds Inv-loop μ-loop
+loop-holds c = pick-none _ _ _ _
+
+add-loop : tie.Need-add-loop Inv-loop μ-loop
+add-loop c = search needs
+
+mul-b : tie.Need-mul-b Inv-loop μ-loop
+mul-b c = search needs
+
+shared-slice-read-b : tie.Need-shared-slice-read-b Inv-loop μ-loop
+shared-slice-read-b c = search needs
+
+add-a : tie.Need-add-a Inv-loop μ-loop
+add-a c = search needs
+
+mul-a : tie.Need-mul-a Inv-loop μ-loop
+mul-a c = search needs
+
+shared-slice-read-a : tie.Need-shared-slice-read-a Inv-loop μ-loop
+shared-slice-read-a c = search needs
+
+add-at : tie.Need-add-at Inv-loop μ-loop
+add-at c = search needs
+
+mul-ids : tie.Need-mul-ids Inv-loop μ-loop
+mul-ids c = search needs
+
+array-write-ids : tie.Need-array-write-ids Inv-loop μ-loop
+array-write-ids c = search needs
+
+add-count : tie.Need-add-count Inv-loop μ-loop
+add-count c = search needs
+
+loop-less : tie.Need-loop-less Inv-loop μ-loop
+loop-less c = search needs
+
+loop-again : tie.Need-loop-again Inv-loop μ-loop
+loop-again c = let h = c .before .before .before in pick-yes _ _ _ _ _ _ _ (h .loop-test .taken) (h .before .loop .inv) (search needs) (eq-eqb _ _ (c .if1 .taken))
+
+loop-less-2 : tie.Need-loop-less-2 Inv-loop μ-loop
+loop-less-2 c = search needs
+
+loop-again-2 : tie.Need-loop-again-2 Inv-loop μ-loop
+loop-again-2 c = let h = c .before .before .before in pick-no _ _ _ _ _ _ _ (h .loop-test .taken) (h .before .loop .inv) (ne-eqb _ _ (c .if1 .left))
+
+returns : tie.Need-returns Inv-loop μ-loop
+returns c = ids-of _ _ _ (pick-all _ _ _ _ _ _ _ (c .loop-test .left) (c .before .loop .inv))
+
+pub list-after-spec : {M : Type 1} → statement M
+list-after-spec =
+    tie.close
+    (tie.spec
+    Inv-loop
+    μ-loop
+    loop-holds
+    add-loop
+    mul-b
+    shared-slice-read-b
+    add-a
+    mul-a
+    shared-slice-read-a
+    add-at
+    mul-ids
+    array-write-ids
+    add-count
+    loop-less
+    loop-again
+    loop-less-2
+    loop-again-2
+    returns)

@@ -1,0 +1,26 @@
+-- `hierarchy::num_contours` meets its contract. Assumes nothing.
+use mathlib.Core.Path.{sym, ap, _∙_}
+use Rattle.answer.specs.declared.Check.{Check}
+use Rattle.hierarchy.specs.Questions.{countOf}
+use borrow.Author.Needs.{needs}
+use Rattle.hierarchy.proofs.num_contours.Statement.{statement}
+use Rattle.hierarchy.proofs.num_contours.Tie as tie
+
+check-pairs-requires : tie.Need-check-pairs-requires
+check-pairs-requires c κs = search needs
+
+enum-told : tie.Need-enum-told
+enum-told c = search needs
+
+enum-known-check : tie.Need-enum-known-check
+enum-known-check c = search needs
+
+returns : tie.Need-returns
+returns c = ap (λ (z : Check). countOf z (c .before .before .before .before .args .contours)) (sym (c .enum-told .given .1) ∙ c .before .before .check-pairs .ensures)
+
+returns-2 : tie.Need-returns-2
+returns-2 c = ap (λ (z : Check). countOf z (c .before .before .before .before .before .args .contours)) (sym (c .before .check .given .1) ∙ c .before .before .before .check-pairs .ensures)
+
+pub num-contours-spec : {M : Type 1} → statement M
+num-contours-spec =
+    tie.close (tie.spec check-pairs-requires enum-told enum-known-check returns returns-2)
