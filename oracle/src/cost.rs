@@ -23,17 +23,17 @@ unsafe extern "C" {
         out_x: &mut f64,
         out_y: &mut f64,
         t: &mut f64,
-        vertex: &mut u64,
+        vertex: &mut usize,
     ) -> u64;
     fn probe_rapid(x: f64, y: f64, legs: *const f64, numbers: usize, out: &mut f64) -> u64;
-    fn probe_sequence_cost(total: f64, count: u64, weight: f64, out: &mut f64) -> u64;
+    fn probe_sequence_cost(total: f64, count: usize, weight: f64, out: &mut f64) -> u64;
 }
 
 /// Code; the closest point and its place on the edge, as bits; the edge.
-type Nearest = (u64, [u64; 3], u64);
+type Nearest = (u64, [u64; 3], usize);
 
 fn ask_closest(polygon: &[f64], point: Point) -> Nearest {
-    let (mut x, mut y, mut t, mut vertex) = (doors::KEPT, doors::KEPT, doors::KEPT, u64::MAX);
+    let (mut x, mut y, mut t, mut vertex) = (doors::KEPT, doors::KEPT, doors::KEPT, usize::MAX);
     let code = unsafe {
         probe_closest(polygon.as_ptr(), polygon.len(), point.0, point.1, &mut x, &mut y, &mut t, &mut vertex)
     };
@@ -97,11 +97,11 @@ fn closest(r: &Random) -> Result<u64, String> {
     let kept = [doors::KEPT.to_bits(); 3];
     let part = polygon.len() % 2 == 1;
     let due = match first_bad(&vertices) {
-        Some(k) => (doors::refused(8, k), kept, u64::MAX),
-        None if part || bad(at) => (doors::refused(8, vertices.len() as u64), kept, u64::MAX),
+        Some(k) => (doors::refused(8, k), kept, usize::MAX),
+        None if part || bad(at) => (doors::refused(8, vertices.len() as u64), kept, usize::MAX),
         None => match cost::closest_point_on_polygon(&vertices, at) {
-            None => (NOWHERE, kept, u64::MAX),
-            Some(((x, y), vertex, t)) => (0, [x, y, t].map(f64::to_bits), vertex as u64),
+            None => (NOWHERE, kept, usize::MAX),
+            Some(((x, y), vertex, t)) => (0, [x, y, t].map(f64::to_bits), vertex),
         },
     };
     same(|| format!("closest to {at:?} of {polygon:?}"), ask_closest(&polygon, at), due)
@@ -135,8 +135,8 @@ fn sequence(r: &Random) -> Result<u64, String> {
         _ => r.unit() * 1e4,
     };
     let (total, weight) = (amount(r), amount(r));
-    let count = r.pick(&[0, 1, 40, 999, 1000, 1001, 1 << 32, u64::MAX, 7]);
-    let count = if r.one_in(2) { r.below(1002) } else { count };
+    let count = r.pick(&[0, 1, 40, 999, 1000, 1001, 1 << 32, usize::MAX, 7]);
+    let count = if r.one_in(2) { r.below(1002) as usize } else { count };
     let fine = |x: f64| x.is_finite() && x >= 0.0;
     let due = if !fine(total) {
         doors::back(14, 1)
@@ -146,7 +146,7 @@ fn sequence(r: &Random) -> Result<u64, String> {
         doors::back(14, 3)
     } else {
         let config = CuttingConfig::new().with_pierce_weight(weight);
-        doors::is(cost::sequence_cost(total, count as usize, &config))
+        doors::is(cost::sequence_cost(total, count, &config))
     };
     let ours = doors::told(|out| unsafe { probe_sequence_cost(total, count, weight, out) });
     same(|| format!("cost of {total:e}, {count}, {weight:e}"), ours, due)
