@@ -15,8 +15,12 @@ use Rattle.closure.proofs.PairLaws.{same-or, lt-or}
 use Rattle.hierarchy.specs.declared.Verdict.{Verdict}
 use Rattle.hierarchy.specs.declared.PairList.{PairList}
 use Rattle.hierarchy.specs.declared.Ids.{Ids}
+use Rattle.hierarchy.specs.declared.Order.{Order}
+use Rattle.answer.specs.declared.Found.{Found}
+use Rattle.closure.specs.Cycle.{firstOnCycle}
+use Rattle.hierarchy.specs.Sort.{sortedBy}
 use Rattle.hierarchy.specs.Keep.{keepsPairs}
-use Rattle.hierarchy.specs.Questions.{refuseIf, pairsCheck, verdictOf, pairListOf, idsOf, validSequence}
+use Rattle.hierarchy.specs.Questions.{refuseIf, pairsCheck, verdictOf, pairListOf, idsOf, orderOf, validSequence, topologicalSort}
 
 module _ (contours : ℕ) (pairs : List ℕ) where
   pub check-contours : CONTOURS < contours → Check.Refused (record { number = 4; place = 1 }) ≡ pairsCheck contours pairs
@@ -90,3 +94,17 @@ module _ (contours : ℕ) (pairs ids : List ℕ) (check : Check) (is : check ≡
 
   pub valid-refused : (r : Refusal) → check ≡ Check.Refused r → Verdict.Refused r ≡ validSequence contours pairs ids
   valid-refused r e = rw (← is, e)
+
+-- ---- the topological order: refused by the first checks, then for a cycle
+
+module _ (contours : ℕ) (pairs : List ℕ) (check : Check) (is : check ≡ pairsCheck contours pairs) where
+  pub sort-refused : (r : Refusal) → check ≡ Check.Refused r → _≡_ {A = Order} (record { check = check; positions = replicate CONTOURS 0; count = 0 }) (topologicalSort contours pairs)
+  sort-refused r e = rw (← is, e)
+
+  module _ (found : Found) (at : found ≡ firstOnCycle contours pairs) (e : check ≡ Check.Fine) where
+    pub sort-cycle : (k : ℕ) → found ≡ Found.At k →
+        _≡_ {A = Order} (record { check = Check.Refused (record { number = 12; place = k }); positions = replicate CONTOURS 0; count = 0 }) (topologicalSort contours pairs)
+    sort-cycle k f = rw (← is, e, ← at, f)
+
+    pub sort-told : (a : Order) → found ≡ Found.Absent → a ≡ orderOf Check.Fine (sortedBy contours pairs) → a ≡ topologicalSort contours pairs
+    sort-told a f p = p ∙ rw (← is, e, ← at, f)

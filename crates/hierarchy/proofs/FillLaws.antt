@@ -12,12 +12,8 @@ use Rattle.answer.specs.declared.Check.{Check}
 use Rattle.closure.specs.Limits.{PAIRS}
 use Rattle.closure.specs.Pairs.{Pair, paired}
 use Rattle.closure.proofs.PairLaws.{pairAt, paired-more, paired-end}
-use Rattle.hierarchy.specs.Questions.{padded, picked, idsOf, pairListOf}
-
--- the array holds the list, and count is its length
-pub record Filled (n : ℕ) (items : List ℕ) (count : ℕ) (l : List ℕ) : Type 0 where
-  pub holds : items ≡ padded n l
-  pub counts : count ≡ length l
+use Rattle.hierarchy.specs.Fill.{padded, Filled}
+use Rattle.hierarchy.specs.Questions.{picked, idsOf, pairListOf}
 
 pub filled-none : (n : ℕ) → Filled n (replicate n 0) 0 []
 filled-none n = record { holds = ap (λ (m : ℕ). replicate m 0) (sym (sub-zero n)); counts = refl }

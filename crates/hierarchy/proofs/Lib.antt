@@ -1,3 +1,4 @@
 pub mod PlaceLaws
 pub mod CheckLaws
 pub mod FillLaws
+pub mod SortLaws

@@ -15,6 +15,7 @@ use Rattle.hierarchy.specs.declared.Verdict.{Verdict}
 use Rattle.hierarchy.specs.declared.PairList.{PairList}
 use Rattle.hierarchy.specs.declared.Ids.{Ids}
 use Rattle.hierarchy.specs.declared.Order.{Order}
+use Rattle.hierarchy.specs.Fill.{padded}
 use Rattle.hierarchy.specs.Keep.{keepsPairs}
 use Rattle.hierarchy.specs.Sort.{sortedBy}
 
@@ -50,10 +51,6 @@ countOf (Check.Refused r) n = Count.Refused r
 abbrev pub verdictOf : Check → Bool → Verdict
 verdictOf Check.Fine b = Verdict.Is b
 verdictOf (Check.Refused r) b = Verdict.Refused r
-
--- a list in an array of n entries, the rest 0
-abbrev pub padded : ℕ → List ℕ → List ℕ
-padded n l = l ++ replicate (n - length l) 0
 
 -- a refusal's list is empty
 abbrev pub pairListOf : Check → List ℕ → PairList

@@ -6,13 +6,17 @@ use answer::Refusal;
 use closure::CONTOURS;
 use closure::PAIRS;
 ghost use mathlib.Core.Path.{_≡_};
-ghost use Prim.Native.Nat.{_*_, _≤_, _<_};
+ghost use mathlib.Core.Bool.{_&&_};
+ghost use lib.Dec.{eqb};
+ghost use Prim.Native.Nat.{_-_, _*_, _≤_, _<_};
 ghost use Rattle.answer.specs.declared.Check.{Check};
 ghost use Rattle.closure.specs.Limits.{CONTOURS, PAIRS};
 ghost use Rattle.closure.specs.Pairs.{paired, someOf, isPair};
-ghost use lib.ListN.{length, getD};
+ghost use lib.ListN.{length, getD, replicate};
 ghost use Rattle.hierarchy.specs.Keep.{PlacesOf, lastPlace, keptAt, keepsPairs, readyBy, readyIn};
-ghost use Rattle.hierarchy.specs.Questions.{pairsCheck, picked, endsAt, startsAt, pairListOf, idsOf, numContours, precedencesOf, violatesOf, predecessorsOf, successorsOf, validSequence};
+ghost use Rattle.hierarchy.specs.Questions.{pairsCheck, picked, endsAt, startsAt, pairListOf, idsOf, numContours, precedencesOf, violatesOf, predecessorsOf, successorsOf, validSequence, orderOf, topologicalSort};
+ghost use Rattle.hierarchy.specs.Fill.{Filled};
+ghost use Rattle.hierarchy.specs.Sort.{both, tallied, freeBelow, loosened, released, settled, unsettled, sortedBy, standing, Sound, Stands};
 
 // A number, or why there is none.
 pub enum Count {
@@ -354,4 +358,181 @@ pub fn is_valid_sequence(contours: usize, pairs: &[u32], ids: &[u32]) -> Verdict
         return Verdict::Is(keeps_ids(ids, pairs));
     };
     Verdict::Refused(r)
+}
+
+// A number of 32 bits as an index.
+fn wide32(x: u32) -> usize
+    ensures { λ r. ⌜ r ≡ x ⌝ }
+{
+    x as usize
+}
+
+// How many pairs hold each position back.
+fn tally(pairs: &[u32], n: usize) -> [usize; CONTOURS]
+    requires { ⌜ n ≤ CONTOURS ⌝ }
+    ensures { λ r. ⌜ r ≡ tallied n (paired (now (pairs .entry))) (replicate CONTOURS 0) ⌝ }
+{
+    let mut waits = [0usize; CONTOURS];
+    let mut at = 0;
+    while at + 1 < pairs.len() {
+        let b = wide32(pairs[at]);
+        let a = wide32(pairs[at + 1]);
+        at += 2;
+        if b < n {
+            if a < n {
+                waits[a] += 1;
+            }
+        }
+    }
+    waits
+}
+
+// The positions that nothing holds back, lowest first.
+fn list_free(waits: &[usize; CONTOURS], n: usize, order: &mut [u32; CONTOURS]) -> usize
+    requires { ⌜ (n ≤ CONTOURS) × (now order ≡ replicate CONTOURS 0) ⌝ }
+    ensures { λ r. ⌜ Filled CONTOURS (now (order .exit)) r (freeBelow (now (waits .entry)) n) ⌝ }
+{
+    let mut count = 0;
+    let mut k = 0;
+    while k < n {
+        let w = waits[k];
+        let position = k as u32;
+        k += 1;
+        if w == 0 {
+            order[count] = position;
+            count += 1;
+        }
+    }
+    count
+}
+
+// One less; 0 stays 0.
+fn less(w: usize) -> usize
+    ensures { λ r. ⌜ r ≡ w - 1 ⌝ }
+{
+    if w == 0 {
+        return 0;
+    }
+    w - 1
+}
+
+// One pair less holds a back; where it was the last one, a comes next in the order.
+fn loosen(
+    a: usize,
+    waits: &mut [usize; CONTOURS],
+    order: &mut [u32; CONTOURS],
+    count: usize,
+) -> usize
+    requires { ⌜ (a < CONTOURS) × Sound (now waits) (now order) count ⌝ }
+    ensures { λ r. ⌜ Stands (loosened (standing (now (waits .entry)) (now (order .entry)) count) a) (now (waits .exit)) (now (order .exit)) r ⌝ }
+{
+    let w = waits[a];
+    if w == 1 {
+        waits[a] = 0;
+        order[count] = a as u32;
+        return count + 1;
+    }
+    waits[a] = less(w);
+    count
+}
+
+// Whether a pair is one of x's, with both positions below n.
+fn counts(b: u32, a: u32, x: u32, n: usize) -> bool
+    ensures { λ r. ⌜ r ≡ (eqb b x && both n (record { before = b; after = a })) ⌝ }
+{
+    if b != x {
+        return false;
+    }
+    if wide32(b) < n {
+        return wide32(a) < n;
+    }
+    false
+}
+
+// x is taken: its pairs hold nothing back any more.
+fn release(
+    pairs: &[u32],
+    n: usize,
+    x: u32,
+    waits: &mut [usize; CONTOURS],
+    order: &mut [u32; CONTOURS],
+    before: usize,
+) -> usize
+    requires { ⌜ (n ≤ CONTOURS) × Sound (now waits) (now order) before ⌝ }
+    ensures { λ r. ⌜ Stands (released n x (paired (now (pairs .entry))) (standing (now (waits .entry)) (now (order .entry)) before)) (now (waits .exit)) (now (order .exit)) r ⌝ }
+{
+    let mut count = before;
+    let mut at = 0;
+    while at + 1 < pairs.len() {
+        let b = pairs[at];
+        let a = pairs[at + 1];
+        at += 2;
+        if counts(b, a, x, n) {
+            count = loosen(wide32(a), waits, order, count);
+        }
+    }
+    count
+}
+
+// The positions of the order are taken one after the other, and those that come free join it.
+fn settle(
+    pairs: &[u32],
+    n: usize,
+    waits: &mut [usize; CONTOURS],
+    order: &mut [u32; CONTOURS],
+    free: usize,
+) -> usize
+    requires { ⌜ (n ≤ CONTOURS) × Sound (now waits) (now order) free ⌝ }
+    ensures { λ r. ⌜ Stands (settled CONTOURS n (paired (now (pairs .entry))) 0 (standing (now (waits .entry)) (now (order .entry)) free)) (now (waits .exit)) (now (order .exit)) r ⌝ }
+{
+    let mut count = free;
+    let mut i = 0;
+    while i < count {
+        let x = order[i];
+        count = release(pairs, n, x, waits, order, count);
+        i += 1;
+    }
+    count
+}
+
+// The topological order of n positions between which there is no cycle.
+fn sorted(n: usize, pairs: &[u32]) -> Order
+    requires { ⌜ n ≤ CONTOURS ⌝ }
+    ensures { λ r. ⌜ r ≡ orderOf Check.Fine (sortedBy n (now (pairs .entry))) ⌝ }
+{
+    let mut waits = tally(pairs, n);
+    let mut order = [0u32; CONTOURS];
+    let free = list_free(&waits, n, &mut order);
+    let count = settle(pairs, n, &mut waits, &mut order, free);
+    Order {
+        check: Check::Fine,
+        positions: order,
+        count,
+    }
+}
+
+// The positions in topological order; refused at the lowest position on a cycle.
+pub fn topological_sort(contours: usize, pairs: &[u32]) -> Order
+    ensures { λ r. ⌜ r ≡ topologicalSort contours (now (pairs .entry)) ⌝ }
+{
+    let check = check_pairs(contours, pairs);
+    let Check::Fine = check else {
+        return Order {
+            check,
+            positions: [0u32; CONTOURS],
+            count: 0,
+        };
+    };
+    let found = closure::first_on_cycle_wide(contours, pairs);
+    let Found::At(k) = found else {
+        return sorted(contours, pairs);
+    };
+    Order {
+        check: Check::Refused(Refusal {
+            number: 12,
+            place: k,
+        }),
+        positions: [0u32; CONTOURS],
+        count: 0,
+    }
 }

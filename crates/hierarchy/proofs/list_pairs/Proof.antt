@@ -6,7 +6,8 @@ use Prim.Native.Nat.{_*_, _≤_}
 use mathlib.Core.Path.{refl}
 use lib.ListN.{take}
 use Rattle.closure.specs.Limits.{PAIRS}
-use Rattle.hierarchy.proofs.FillLaws.{Filled, filled-none, copy-more, pairs-of}
+use Rattle.hierarchy.specs.Fill.{Filled}
+use Rattle.hierarchy.proofs.FillLaws.{filled-none, copy-more, pairs-of}
 use Rattle.hierarchy.proofs.list_pairs.Statement.{statement}
 use Rattle.hierarchy.proofs.list_pairs.Tie as tie
 

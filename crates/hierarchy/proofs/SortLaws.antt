@@ -1,0 +1,327 @@
+-- The arrays of the topological order, step by step. Assumes nothing.
+use mathlib.Core.Bool.{Bool, true, false, cond, _&&_, and-false}
+use mathlib.Core.Path.{_≡_, refl, sym, ap, _∙_, subst}
+use mathlib.Core.Logic.{_⊎_, inl, inr, ⊎-elim}
+use mathlib.Core.List.{List, [], _∷_, _++_, append-nil}
+use Prim.Native.Nat.{ℕ, zero, suc, _+_, _-_, _*_, _≤_, _<_}
+use native.Mathlib.Numerals.{add-one}
+use native.Mathlib.Omega.{arith}
+use lib.Dec.{eqb, ltb}
+use borrow.Author.Tests.{eq-eqb, ne-eqb, lt-ltb, le-ltb}
+use lib.ListN.{length, getD, set, take, drop, replicate, length-set, length-append, length-replicate, length-take, length-drop, take-append-drop}
+use lib.Seq.{getD-set-same, getD-set-other, take-suc, take-suc-set, take-at, getD-take}
+use Rattle.closure.specs.Limits.{CONTOURS}
+use Rattle.closure.specs.Pairs.{Pair, paired}
+use Rattle.closure.proofs.PairLaws.{same-or, lt-or, pairAt, paired-more, paired-end}
+use Rattle.hierarchy.specs.Fill.{padded, Filled}
+use Rattle.hierarchy.specs.Sort.{Sorting, both, heldBack, tallied, freeBelow, loosened, released, settled, unsettled, sortedBy, heldCount, standing, Sound, Stands}
+use Rattle.answer.specs.declared.Check.{Check}
+use Rattle.hierarchy.specs.declared.Order.{Order}
+use Rattle.hierarchy.specs.Questions.{orderOf}
+use Rattle.hierarchy.proofs.FillLaws.{filled-none, filled-more}
+
+pub both-yes : (n : ℕ) (p : Pair) → p .before < n → p .after < n → both n p ≡ true
+both-yes n p hb ha = rw (lt-ltb (p .before) n hb, lt-ltb (p .after) n ha)
+
+pub both-no : (n : ℕ) (p : Pair) → (p .before < n → p .after < n → ⊥) → both n p ≡ false
+both-no n p out = ⊎-elim
+    (λ (h : p .before < n). ⊎-elim (λ (l : p .after < n). absurd (out h l)) (λ (l : n ≤ p .after). rw (lt-ltb (p .before) n h, le-ltb (p .after) n l)) (lt-or (p .after) n))
+    (λ (h : n ≤ p .before). rw (le-ltb (p .before) n h)) (lt-or (p .before) n)
+
+-- ---- the tally
+
+-- an array of zeros reads 0 everywhere
+pub zeros : (n a : ℕ) → getD {A = ℕ} (replicate n 0) a 0 ≡ 0
+zeros zero a = refl
+zeros (suc n) zero = refl
+zeros (suc n) (suc a) = zeros n a
+
+-- what is left to tally decides the whole, and no entry is above the numbers passed
+pub record TallyPart (n : ℕ) (pairs : List ℕ) (at : ℕ) (w : List ℕ) : Type 0 where
+  pub size : length w ≡ CONTOURS
+  pub within : at ≤ length pairs
+  pub small : (a : ℕ) → getD w a 0 ≤ at
+  pub left : tallied n (paired (drop at pairs)) w ≡ tallied n (paired pairs) (replicate CONTOURS 0)
+
+pub tally-none : (n : ℕ) (pairs : List ℕ) → TallyPart n pairs 0 (replicate CONTOURS 0)
+tally-none n pairs = record { size = length-replicate {A = ℕ} CONTOURS 0; within = omega arith; small = λ a. omega (arith, zeros CONTOURS a); left = refl }
+
+module _ (n : ℕ) (pairs : List ℕ) (at : ℕ) (w : List ℕ) (more : at + 1 < length pairs) (part : TallyPart n pairs at w) where
+  tally-walk : tallied n (paired (drop (at + 2) pairs)) (cond (both n (pairAt pairs at)) (heldBack w (getD pairs (at + 1) 0)) w) ≡ tallied n (paired pairs) (replicate CONTOURS 0)
+  unfolding tallied
+  tally-walk = rw (paired-more pairs at more) at (part .left)
+
+  tally-small : (a : ℕ) → a < CONTOURS → (x : ℕ) → getD (heldBack w a) x 0 ≤ at + 2
+  tally-small a h x = ⊎-elim
+      (λ (e : x ≡ a). rw (e, getD-set-same w a (getD w a 0 + 1) 0 (omega (arith, part .size))) (omega (arith, part .small a)))
+      (λ (d : x ≡ a → ⊥). rw (getD-set-other w a x (getD w a 0 + 1) 0 d) (omega (arith, part .small x))) (same-or x a)
+
+  pub tally-hit : (b a : ℕ) → b ≡ getD pairs at 0 → a ≡ getD pairs (at + 1) 0 → b < n → a < n → n ≤ CONTOURS → TallyPart n pairs (at + 2) (set w a (getD w a 0 + 1))
+  tally-hit b a p q hb ha low = record {
+    size = length-set w a (getD w a 0 + 1) ∙ part .size;
+    within = omega arith;
+    small = tally-small a (omega arith);
+    left = rw q (rw (both-yes n (pairAt pairs at) (rw p at hb) (rw q at ha)) at tally-walk);
+  }
+
+  pub tally-miss : (getD pairs at 0 < n → getD pairs (at + 1) 0 < n → ⊥) → TallyPart n pairs (at + 2) w
+  tally-miss out = record {
+    size = part .size;
+    within = omega arith;
+    small = λ a. omega (arith, part .small a);
+    left = rw (both-no n (pairAt pairs at) out) at tally-walk;
+  }
+
+pub tally-all : (n : ℕ) (pairs : List ℕ) (at : ℕ) (w : List ℕ) → length pairs ≤ at + 1 → TallyPart n pairs at w → w ≡ tallied n (paired pairs) (replicate CONTOURS 0)
+unfolding tallied
+tally-all n pairs at w all part = rw (paired-end pairs at all) at (part .left)
+
+-- ---- the positions that are free at first
+
+pub record FreePart (w : List ℕ) (n k : ℕ) (order : List ℕ) (count : ℕ) : Type 0 where
+  pub within : k ≤ n
+  pub few : count ≤ k
+  pub filled : Filled CONTOURS order count (freeBelow w k)
+
+pub free-none : (w : List ℕ) (n : ℕ) (order : List ℕ) → order ≡ replicate CONTOURS 0 → FreePart w n 0 order 0
+unfolding freeBelow
+free-none w n order e = record { within = omega arith; few = omega arith; filled = rw e (filled-none CONTOURS) }
+
+module _ (w : List ℕ) (n k : ℕ) (order : List ℕ) (count : ℕ) (low : n ≤ CONTOURS) (more : k < n) (part : FreePart w n k order count) where
+  pub free-yes : getD w k 0 ≡ 0 → FreePart w n (k + 1) (set order count k) (count + 1)
+  unfolding freeBelow
+  free-yes e = record {
+    within = omega arith;
+    few = omega (arith, part .few);
+    filled = rw (add-one k, eq-eqb (getD w k 0) 0 e) (filled-more CONTOURS order count (freeBelow w k) k (omega (arith, part .few)) (part .filled));
+  }
+
+  pub free-no : (getD w k 0 ≡ 0 → ⊥) → FreePart w n (k + 1) order count
+  unfolding freeBelow
+  free-no d = record {
+    within = omega arith;
+    few = omega (arith, part .few);
+    filled = rw (add-one k, ne-eqb (getD w k 0) 0 d, append-nil (freeBelow w k)) (part .filled);
+  }
+
+pub free-all : (w : List ℕ) (n k : ℕ) (order : List ℕ) (count : ℕ) → n ≤ k → FreePart w n k order count → Filled CONTOURS order count (freeBelow w n)
+free-all w n k order count all part = let e : k ≡ n = omega (arith, part .within) in subst (λ (z : ℕ). Filled CONTOURS order count (freeBelow w z)) e (part .filled)
+
+-- ---- one position held back less
+
+-- whether one is held back, as a number
+abbrev held : ℕ → ℕ
+held w = cond (eqb w 0) 0 1
+
+held-set : (w : List ℕ) (a v : ℕ) → a < length w → heldCount (set w a v) + held (getD w a 0) ≡ heldCount w + held v
+unfolding heldCount
+held-set [] a v h = absurd (omega arith)
+held-set (x ∷ w) zero v h = omega arith
+held-set (x ∷ w) (suc a) v h = let e : heldCount (set w a v) + held (getD w a 0) ≡ heldCount w + held v = held-set w a v (omega arith) in omega arith
+
+held-no : (w : ℕ) → w ≡ 0 → held w ≡ 0
+held-no w e = rw (eq-eqb w 0 e)
+
+held-yes : (w : ℕ) → (w ≡ 0 → ⊥) → held w ≡ 1
+held-yes w d = rw (ne-eqb w 0 d)
+
+-- the array is as long as the limit
+sound-length : (w o : List ℕ) (k : ℕ) → Sound w o k → length o ≡ CONTOURS
+sound-length w o k s =
+    let e : length o ≡ length (padded CONTOURS (take k o)) = ap length (s .filled .holds) in
+    let f : length (padded CONTOURS (take k o)) ≡ length (take k o) + (CONTOURS - length (take k o)) = length-append (take k o) (replicate (CONTOURS - length (take k o)) 0) ∙ ap (λ (z : ℕ). length (take k o) + z) (length-replicate {A = ℕ} (CONTOURS - length (take k o)) 0) in
+    omega (arith, s .filled .counts, s .room)
+
+module _ (w o : List ℕ) (k a : ℕ) (sound : Sound w o k) (ha : a < CONTOURS) where
+  in-waits : a < length w
+  in-waits = omega (arith, sound .size)
+
+  -- there is a place left for a position that one pair holds back
+  pub room-left : getD w a 0 ≡ 1 → k < CONTOURS
+  room-left e =
+      let h : heldCount (set w a 0) + held (getD w a 0) ≡ heldCount w + held 0 = held-set w a 0 in-waits in
+      omega (arith, held-yes (getD w a 0) (omega arith), held-no 0 refl, sound .room)
+
+  pub loosen-last : getD w a 0 ≡ 1 → Stands (loosened (standing w o k) a) (set w a 0) (set o k a) (k + 1)
+  unfolding loosened
+  loosen-last e = record {
+    sound = record {
+      size = length-set w a 0 ∙ sound .size;
+      filled = rw longer (filled-more CONTOURS o k (take k o) a (room-left e) (sound .filled));
+      room =
+          let h : heldCount (set w a 0) + held (getD w a 0) ≡ heldCount w + held 0 = held-set w a 0 in-waits in
+          omega (arith, held-yes (getD w a 0) (omega arith), held-no 0 refl, sound .room);
+    };
+    is = rw (longer, e);
+  }
+    where
+      longer : take (k + 1) (set o k a) ≡ take k o ++ (a ∷ [])
+      longer = rw (add-one k) (take-suc-set o k a (omega (arith, sound-length w o k sound, room-left e)))
+
+  pub loosen-one : (v : ℕ) → v ≡ getD w a 0 - 1 → (getD w a 0 ≡ 1 → ⊥) → Stands (loosened (standing w o k) a) (set w a v) o k
+  unfolding loosened
+  loosen-one v p d = record {
+    sound = record {
+      size = length-set w a v ∙ sound .size;
+      filled = sound .filled;
+      room =
+          let h : heldCount (set w a v) + held (getD w a 0) ≡ heldCount w + held v = held-set w a v in-waits in
+          ⊎-elim
+          (λ (z : getD w a 0 ≡ 0). omega (arith, held-no (getD w a 0) z, held-no v (omega arith), sound .room))
+          (λ (z : getD w a 0 ≡ 0 → ⊥). omega (arith, held-yes (getD w a 0) z, held-yes v (omega arith), sound .room)) (same-or (getD w a 0) 0);
+    };
+    is = rw (p, ne-eqb (getD w a 0) 1 d, append-nil (take k o));
+  }
+
+-- ---- which pairs count
+
+module _ (b a x n : ℕ) where
+  pub counts-other : (b ≡ x → ⊥) → false ≡ (eqb b x && both n (record { before = b; after = a }))
+  counts-other d = rw (ne-eqb b x d)
+
+  pub counts-low : (v w : ℕ) → b ≡ x → v ≡ b → w ≡ a → v < n → ltb w n ≡ (eqb b x && both n (record { before = b; after = a }))
+  counts-low v w e p q h = rw (eq-eqb b x e, lt-ltb b n (omega arith), q)
+
+  pub counts-high : (v : ℕ) → b ≡ x → v ≡ b → n ≤ v → false ≡ (eqb b x && both n (record { before = b; after = a }))
+  counts-high v e p h = rw (eq-eqb b x e, le-ltb b n (omega arith))
+
+-- ---- all pairs of one position
+
+pub record ReleasePart (n x : ℕ) (pairs : List ℕ) (at : ℕ) (s : Sorting) (w o : List ℕ) (k : ℕ) : Type 0 where
+  pub within : at ≤ length pairs
+  pub sound : Sound w o k
+  pub left : released n x (paired (drop at pairs)) (standing w o k) ≡ released n x (paired pairs) s
+
+pub release-none : (n x : ℕ) (pairs w o : List ℕ) (k : ℕ) → Sound w o k → ReleasePart n x pairs 0 (standing w o k) w o k
+release-none n x pairs w o k sound = record { within = omega arith; sound = sound; left = refl }
+
+module _ (n x : ℕ) (pairs : List ℕ) (at : ℕ) (s : Sorting) (w o : List ℕ) (k : ℕ) (r : Bool) (more : at + 1 < length pairs) (part : ReleasePart n x pairs at s w o k)
+    (is : r ≡ (eqb (getD pairs at 0) x && both n (pairAt pairs at))) where
+  release-walk : released n x (paired (drop (at + 2) pairs)) (cond r (loosened (standing w o k) (getD pairs (at + 1) 0)) (standing w o k)) ≡ released n x (paired pairs) s
+  unfolding released
+  release-walk = rw is (rw (paired-more pairs at more) at (part .left))
+
+  pub release-hit : (a : ℕ) (w' o' : List ℕ) (k' : ℕ) → a ≡ getD pairs (at + 1) 0 → r ≡ true → Stands (loosened (standing w o k) a) w' o' k' → ReleasePart n x pairs (at + 2) s w' o' k'
+  release-hit a w' o' k' p t stands = record {
+    within = omega arith;
+    sound = stands .sound;
+    left = rw (stands .is, p) (rw t at release-walk);
+  }
+
+  pub release-miss : r ≡ false → ReleasePart n x pairs (at + 2) s w o k
+  release-miss t = record { within = omega arith; sound = part .sound; left = rw t at release-walk }
+
+  -- a pair that counts has its second below the limit
+  pub release-low : (a : ℕ) → a ≡ getD pairs (at + 1) 0 → n ≤ CONTOURS → r ≡ true → a < CONTOURS
+  release-low a p low t = ⊎-elim
+      (λ (h : a < n). omega arith)
+      (λ (h : n ≤ a). absurd (let z : _≡_ {A = ℕ} 0 1 = cc (sym t ∙ is ∙ none h) in omega arith)) (lt-or a n)
+    where
+      none : n ≤ a → (eqb (getD pairs at 0) x && both n (pairAt pairs at)) ≡ false
+      none h = rw (both-no n (pairAt pairs at) (λ _ l. omega (arith, rw (← p) at l))) (and-false (eqb (getD pairs at 0) x))
+
+pub release-all : (n x : ℕ) (pairs : List ℕ) (at : ℕ) (s : Sorting) (w o : List ℕ) (k : ℕ) → length pairs ≤ at + 1 → ReleasePart n x pairs at s w o k → Stands (released n x (paired pairs) s) w o k
+unfolding released
+release-all n x pairs at s w o k all part = record { sound = part .sound; is = rw (paired-end pairs at all) at (part .left) }
+
+-- ---- one position of the order after the other
+
+pub record SettlePart (n : ℕ) (pairs : List ℕ) (i : ℕ) (s : Sorting) (w o : List ℕ) (k : ℕ) : Type 0 where
+  pub sound : Sound w o k
+  pub left : settled (CONTOURS - i) n (paired pairs) i (standing w o k) ≡ settled CONTOURS n (paired pairs) 0 s
+
+pub settle-none : (n : ℕ) (pairs w o : List ℕ) (k : ℕ) → Sound w o k → SettlePart n pairs 0 (standing w o k) w o k
+settle-none n pairs w o k sound = record { sound = sound; left = refl }
+
+settled-step : (most n : ℕ) (ps : List Pair) (i : ℕ) (s : Sorting) → i < length (s .order) → settled (suc most) n ps i s ≡ settled most n ps (suc i) (released n (getD (s .order) i 0) ps s)
+unfolding settled
+settled-step most n ps i s h = rw (lt-ltb i (length (s .order)) h)
+
+settled-end : (most n : ℕ) (ps : List Pair) (i : ℕ) (s : Sorting) → length (s .order) ≤ i → settled most n ps i s ≡ s
+unfolding settled
+settled-end zero n ps i s h = refl
+settled-end (suc most) n ps i s h = rw (le-ltb i (length (s .order)) h)
+
+pub settle-more : (n : ℕ) (pairs : List ℕ) (i : ℕ) (s : Sorting) (w o : List ℕ) (k x : ℕ) (w' o' : List ℕ) (k' : ℕ) → i < k → x ≡ getD o i 0 → SettlePart n pairs i s w o k →
+    Stands (released n x (paired pairs) (standing w o k)) w' o' k' → SettlePart n pairs (i + 1) s w' o' k'
+settle-more n pairs i s w o k x w' o' k' h e part stands = record {
+  sound = stands .sound;
+  left =
+      let c : k ≡ length (take k o) = part .sound .filled .counts in
+      let f : CONTOURS - i ≡ suc (CONTOURS - (i + 1)) = omega (arith, part .sound .room) in
+      rw (stands .is, e, add-one i) (sym (ap (λ (z : ℕ). released-on z) (getD-take k o i 0 h)) ∙ sym (settled-step (CONTOURS - suc i) n (paired pairs) i (standing w o k) (omega arith)) ∙ (rw (f, add-one i) at (part .left)));
+}
+  where
+    released-on : ℕ → Sorting
+    released-on z = settled (CONTOURS - suc i) n (paired pairs) (suc i) (released n z (paired pairs) (standing w o k))
+
+pub settle-all : (n : ℕ) (pairs : List ℕ) (i : ℕ) (s : Sorting) (w o : List ℕ) (k : ℕ) → k ≤ i → SettlePart n pairs i s w o k → Stands (settled CONTOURS n (paired pairs) 0 s) w o k
+settle-all n pairs i s w o k h part = record {
+  sound = part .sound;
+  is = sym (settled-end (CONTOURS - i) n (paired pairs) i (standing w o k) (omega (arith, part .sound .filled .counts))) ∙ part .left;
+}
+
+-- ---- how it stands at first
+
+held-append : (a b : List ℕ) → heldCount (a ++ b) ≡ heldCount a + heldCount b
+unfolding heldCount
+held-append [] b = omega arith
+held-append (x ∷ a) b = let e : heldCount (a ++ b) ≡ heldCount a + heldCount b = held-append a b in omega arith
+
+held-le : (l : List ℕ) → heldCount l ≤ length l
+unfolding heldCount
+held-le [] = omega arith
+held-le (x ∷ l) = let h : heldCount l ≤ length l = held-le l in
+    ⊎-elim (λ (z : x ≡ 0). omega (arith, held-no x z)) (λ (z : x ≡ 0 → ⊥). omega (arith, held-yes x z)) (same-or x 0)
+
+held-one : (x : ℕ) → heldCount (x ∷ []) ≡ held x
+unfolding heldCount
+held-one x = omega arith
+
+free-take : (w : List ℕ) (n : ℕ) → n ≤ length w → length (freeBelow w n) + heldCount (take n w) ≡ n
+unfolding freeBelow heldCount
+free-take w zero h = omega arith
+free-take w (suc n) h =
+    let i : length (freeBelow w n) + heldCount (take n w) ≡ n = free-take w n (omega arith) in
+    let t : heldCount (take (suc n) w) ≡ heldCount (take n w) + held (getD w n 0) = ap heldCount (take-suc w n 0 h) ∙ held-append (take n w) (getD w n 0 ∷ []) ∙ ap (λ (z : ℕ). heldCount (take n w) + z) (held-one (getD w n 0)) in
+    ⊎-elim
+    (λ (z : getD w n 0 ≡ 0). let f : length (freeBelow w (suc n)) ≡ length (freeBelow w n) + 1 = rw (eq-eqb (getD w n 0) 0 z) (length-append (freeBelow w n) (n ∷ [])) in omega (arith, held-no (getD w n 0) z))
+    (λ (z : getD w n 0 ≡ 0 → ⊥). let f : length (freeBelow w (suc n)) ≡ length (freeBelow w n) = rw (ne-eqb (getD w n 0) 0 z, append-nil (freeBelow w n)) in omega (arith, held-yes (getD w n 0) z)) (same-or (getD w n 0) 0)
+
+free-room : (w : List ℕ) (n : ℕ) → n ≤ length w → length (freeBelow w n) + heldCount w ≤ length w
+free-room w n h =
+    let e : heldCount w ≡ heldCount (take n w) + heldCount (drop n w) = ap heldCount (sym (take-append-drop n w)) ∙ held-append (take n w) (drop n w) in
+    omega (arith, free-take w n h, held-le (drop n w), length-drop n w)
+
+tallied-length : (n : ℕ) (ps : List Pair) (w : List ℕ) → length (tallied n ps w) ≡ length w
+unfolding tallied
+tallied-length n [] w = refl
+tallied-length n (p ∷ more) w = tallied-length n more (cond (both n p) (heldBack w (p .after)) w) ∙ go (both n p)
+  where
+    go : (b : Bool) → length (cond b (heldBack w (p .after)) w) ≡ length w
+    go true = length-set w (p .after) (getD w (p .after) 0 + 1)
+    go false = refl
+
+pub stands-first : (n : ℕ) (pairs w o : List ℕ) (k : ℕ) → n ≤ CONTOURS → w ≡ tallied n (paired pairs) (replicate CONTOURS 0) → Filled CONTOURS o k (freeBelow w n) → Stands (unsettled n (paired pairs)) w o k
+unfolding unsettled
+stands-first n pairs w o k low e f = record {
+  sound = record { size = size; filled = rw is (f); room = omega (arith, f .counts, free-room w n (omega (arith, size)), size) };
+  is = rw (is, e);
+}
+  where
+    size : length w ≡ CONTOURS
+    size = ap length e ∙ tallied-length n (paired pairs) (replicate CONTOURS 0)
+
+    is : take k o ≡ freeBelow w n
+    is = ap (take k) (f .holds) ∙ take-at (freeBelow w n) (replicate (CONTOURS - length (freeBelow w n)) 0) k (sym (f .counts))
+
+order-of : (items : List ℕ) (count : ℕ) (l : List ℕ) → Filled CONTOURS items count l → _≡_ {A = Order} (record { check = Check.Fine; positions = items; count = count }) (orderOf Check.Fine l)
+order-of items count l f = rw (f .holds, f .counts)
+
+-- the whole order, as the code hands it back
+pub sorted-is : (n : ℕ) (pairs w o : List ℕ) (k : ℕ) (w' o' : List ℕ) (k' : ℕ) → Stands (unsettled n (paired pairs)) w o k → Stands (settled CONTOURS n (paired pairs) 0 (standing w o k)) w' o' k' →
+    _≡_ {A = Order} (record { check = Check.Fine; positions = o'; count = k' }) (orderOf Check.Fine (sortedBy n pairs))
+unfolding sortedBy
+sorted-is n pairs w o k w' o' k' first last =
+    let e : take k' o' ≡ (settled CONTOURS n (paired pairs) 0 (unsettled n (paired pairs))) .order = ap (λ (s : Sorting). s .order) (last .is ∙ ap (settled CONTOURS n (paired pairs) 0) (first .is)) in
+    order-of o' k' (settled CONTOURS n (paired pairs) 0 (unsettled n (paired pairs)) .order) (rw e at (last .sound .filled))

@@ -1,0 +1,77 @@
+-- `hierarchy::list_free` meets its contract. Assumes nothing.
+use Prim.Native.Nat.{_-_}
+use lib.ListN.{length}
+use borrow.Author.Needs.{needs}
+use native.Mathlib.Omega.{arith}
+use Rattle.hierarchy.proofs.SortLaws.{FreePart, free-none, free-yes, free-no, free-all}
+use Rattle.hierarchy.proofs.list_free.Statement.{statement}
+use Rattle.hierarchy.proofs.list_free.Tie as tie
+
+abbrev Inv-loop : tie.InvT-loop
+Inv-loop waits n order₀ count₀ k₀ order count k = FreePart waits n k order count
+
+abbrev μ-loop : tie.MeasureT-loop
+μ-loop waits n order₀ count₀ k₀ order count k = n - k
+
+loop-holds : tie.Need-loop-holds Inv-loop μ-loop
+loop-holds c = free-none _ _ _ (c .pre .1)
+
+mul-w : tie.Need-mul-w Inv-loop μ-loop
+mul-w c = search needs
+
+element-copy-out-w : tie.Need-element-copy-out-w Inv-loop μ-loop
+element-copy-out-w c = search needs
+
+cast-position : tie.Need-cast-position Inv-loop μ-loop
+cast-position c = search needs
+
+add-k : tie.Need-add-k Inv-loop μ-loop
+add-k c = search needs
+
+mul-order : tie.Need-mul-order Inv-loop μ-loop
+mul-order c = search needs
+
+element-write-order : tie.Need-element-write-order Inv-loop μ-loop
+element-write-order c = search needs
+
+add-count : tie.Need-add-count Inv-loop μ-loop
+add-count c = search needs
+
+loop-less : tie.Need-loop-less Inv-loop μ-loop
+loop-less c = search needs
+
+loop-again : tie.Need-loop-again Inv-loop μ-loop
+loop-again c =
+    let h = c .before .before in
+    free-yes _ _ _ _ _ (search needs) (h .loop-test .taken) (h .before .loop .inv) (c .if1 .taken)
+
+loop-less-2 : tie.Need-loop-less-2 Inv-loop μ-loop
+loop-less-2 c = search needs
+
+loop-again-2 : tie.Need-loop-again-2 Inv-loop μ-loop
+loop-again-2 c =
+    let h = c .before .before in
+    free-no _ _ _ _ _ (search needs) (h .loop-test .taken) (h .before .loop .inv) (c .if1 .left)
+
+returns : tie.Need-returns Inv-loop μ-loop
+returns c = free-all _ _ _ _ _ (c .loop-test .left) (c .before .loop .inv)
+
+pub list-free-spec : {M : Type 1} → statement M
+list-free-spec =
+    tie.close
+    (tie.spec
+    Inv-loop
+    μ-loop
+    loop-holds
+    mul-w
+    element-copy-out-w
+    cast-position
+    add-k
+    mul-order
+    element-write-order
+    add-count
+    loop-less
+    loop-again
+    loop-less-2
+    loop-again-2
+    returns)
