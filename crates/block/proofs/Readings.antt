@@ -4,9 +4,10 @@ use mathlib.Core.Path.{_≡_, refl, sym, ap, _∙_}
 use mathlib.Core.Bool.{Bool, true, false, _&&_}
 use mathlib.Core.List.{List, [], _∷_}
 use Prim.Native.Nat.{ℕ, zero, suc, _+_, _≤_, _<_, min, suc-le-suc}
-use native.Mathlib.Nat.{add-assoc, zero-lt-suc}
+use native.Mathlib.Nat.{add-zero, add-assoc, zero-lt-suc}
 use native.Mathlib.Omega.{arith}
 use lib.Dec.{eqb, ltb}
+use lib.Ieee.{Float}
 use lib.ListN.{length, take, drop, getD, length-take}
 use lib.Seq.{getD-take, getD-drop}
 use borrow.Author.Tests.{eqb-true, eq-eqb, ltb-true, ltb-false}
@@ -114,3 +115,24 @@ module _ (s : List ℕ) (a : ℕ) where
   pub cut-f64 : (i : ℕ) → f64At s (min a (length s) + i) ≡ f64At s (a + i)
   unfolding f64At
   cut-f64 i = rw (cut-u64 i)
+
+-- ---- a field that was read at such a place
+
+module _ (s : List ℕ) (a at : ℕ) (cut : at ≡ min a (length s)) where
+  pub byte-of : (r : ℕ) → r ≡ byteAt s at → r ≡ byteAt s a
+  byte-of r e = e ∙ ap (byteAt s) (cut ∙ sym (add-zero (min a (length s)))) ∙ cut-byte s a 0 ∙ ap (byteAt s) (add-zero a)
+
+  pub u16-of : (r : ℕ) → r ≡ u16At s at → r ≡ u16At s a
+  u16-of r e = e ∙ ap (u16At s) (cut ∙ sym (add-zero (min a (length s)))) ∙ cut-u16 s a 0 ∙ ap (u16At s) (add-zero a)
+
+  pub u32-of : (r : ℕ) → r ≡ u32At s at → r ≡ u32At s a
+  u32-of r e = e ∙ ap (u32At s) (cut ∙ sym (add-zero (min a (length s)))) ∙ cut-u32 s a 0 ∙ ap (u32At s) (add-zero a)
+
+  pub u32-on : (i r : ℕ) → r ≡ u32At s (at + i) → r ≡ u32At s (a + i)
+  u32-on i r e = e ∙ ap (λ (x : ℕ). u32At s (x + i)) cut ∙ cut-u32 s a i
+
+  pub f64-of : (r : Float) → r ≡ f64At s at → r ≡ f64At s a
+  f64-of r e = e ∙ ap (f64At s) (cut ∙ sym (add-zero (min a (length s)))) ∙ cut-f64 s a 0 ∙ ap (f64At s) (add-zero a)
+
+  pub f64-on : (i : ℕ) (r : Float) → r ≡ f64At s (at + i) → r ≡ f64At s (a + i)
+  f64-on i r e = e ∙ ap (λ (x : ℕ). f64At s (x + i)) cut ∙ cut-f64 s a i

@@ -1,0 +1,7 @@
+pub mod ValueLaws
+pub mod LoopLaws
+pub mod FaultLaws
+pub mod SpareLaws
+pub mod FarLaws
+pub mod NameLaws
+pub mod GroupLaws

@@ -1,0 +1,180 @@
+-- What a lookup of an id tells of repeats and of pairs, and the pairs' positions one pair at a time. Assumes nothing.
+use mathlib.Core.Path.{_≡_, refl, sym, ap, _∙_}
+use mathlib.Core.Logic.{⊎-elim}
+use mathlib.Core.Bool.{Bool, true, false, not, _||_}
+use mathlib.Core.List.{List, [], _∷_, _++_, append-assoc}
+use Prim.Native.Nat.{ℕ, zero, suc, _+_, _*_, _-_, _≤_, _<_}
+use native.Mathlib.Nat.{eq-or-lt-of-le, not-suc-le-zero, le-of-suc-le-suc}
+use native.Mathlib.Numerals.{add-one}
+use native.Mathlib.Omega.{arith}
+use lib.Dec.{eqb}
+use borrow.Author.Tests.{lt-ltb, le-ltb}
+use lib.ListN.{length, take, getD, set, replicate, length-append, length-replicate, List·getD-append}
+use lib.Seq.{take-at, set-at, getD-at, getD-append-add}
+use Rattle.answer.specs.declared.Found.{Found}
+use Rattle.answer.specs.declared.Found.the-variants.{At, Absent}
+use Rattle.answer.specs.declared.Check.{Check}
+use Rattle.answer.specs.declared.Check.the-variants.{Fine, Refused}
+use Rattle.answer.specs.Lowest.{lowest, refuseAt}
+use Rattle.answer.proofs.LowestLaws.{Nowhere, is-at}
+use Rattle.card.specs.declared.Named.{Named}
+use Rattle.closure.specs.Limits.{CONTOURS, PAIRS}
+use Rattle.card.specs.Layout.{idOf, tagOf, contoursOf, pairsOf, beforeIdOf, beforeTagOf, afterIdOf, afterTagOf}
+use Rattle.card.specs.Stages.{isAt, seekOf, repeats, positionOf, unnamed, nameFault, seat, beforeOf, afterOf, otherTag}
+use Rattle.card.specs.Names.{seatsOf, padded, upTo, namedPairs, namedOf}
+use Rattle.card.proofs.LoopLaws.{found-here, none-found}
+
+-- ---- repeats
+
+module _ (s : List ℕ) (k id : ℕ) (f : Found) (own : id ≡ idOf s k) (sought : f ≡ seekOf s k id) where
+  pub id-repeats : (j : ℕ) → f ≡ At j → repeats s k ≡ true
+  id-repeats j e = rw (← own, ← sought, e)
+
+  pub id-is-new : f ≡ Absent → repeats s k ≡ false
+  id-is-new e = rw (← own, ← sought, e)
+
+-- ---- the two contours of a pair
+
+-- a position that was found is a contour's
+pub position-below : (s : List ℕ) (id k : ℕ) (f : Found) → f ≡ positionOf s id → f ≡ At k → k < contoursOf s
+unfolding seekOf
+position-below s id k f e h = is-at _ (contoursOf s) k (sym e ∙ h) .within
+
+or-true : (a : Bool) → a || true ≡ true
+or-true true = refl
+or-true false = refl
+
+module _ (s : List ℕ) (q : ℕ) where
+  pub first-unknown : (id : ℕ) (f : Found) → id ≡ beforeIdOf s q → f ≡ positionOf s id → f ≡ Absent → unnamed s q ≡ true
+  first-unknown id f own sought e = rw (← own, ← sought, e)
+
+  pub second-unknown : (id : ℕ) (f : Found) → id ≡ afterIdOf s q → f ≡ positionOf s id → f ≡ Absent → unnamed s q ≡ true
+  second-unknown id f own sought e = rw (← own, ← sought, e, or-true (not (isAt (positionOf s (beforeIdOf s q)))))
+
+  module _ (b a : ℕ) (f g : Found) (x y : ℕ)
+      (own : x ≡ beforeIdOf s q) (found : f ≡ positionOf s x) (is : f ≡ At b)
+      (own′ : y ≡ afterIdOf s q) (found′ : g ≡ positionOf s y) (is′ : g ≡ At a) where
+    pub both-known : unnamed s q ≡ false
+    both-known = rw (← own, ← found, is, ← own′, ← found′, is′)
+
+    pub before-is : b ≡ beforeOf s q
+    before-is = rw (← own, ← found, is)
+
+    pub after-is : a ≡ afterOf s q
+    after-is = rw (← own′, ← found′, is′)
+
+-- ---- the positions of the first q pairs
+
+pub seats-length : (s : List ℕ) (q : ℕ) → length (seatsOf s q) ≡ 2 * q
+unfolding seatsOf
+seats-length s zero = refl
+seats-length s (suc q) =
+    omega (arith, length-append (seatsOf s q) (beforeOf s q ∷ afterOf s q ∷ []), seats-length s q)
+
+pub padded-none : (s : List ℕ) → replicate (2 * PAIRS) 0 ≡ padded (seatsOf s 0)
+unfolding padded seatsOf
+padded-none s = refl
+
+pub padded-length : (s : List ℕ) (q : ℕ) → q ≤ PAIRS → length (padded (seatsOf s q)) ≡ 2 * PAIRS
+unfolding padded
+padded-length s q h =
+    let r = 2 * PAIRS - length (seatsOf s q) in
+    omega (arith, length-append (seatsOf s q) (replicate r 0), length-replicate {A = ℕ} r 0, seats-length s q)
+
+pub padded-front : (s : List ℕ) (q : ℕ) → take (2 * q) (padded (seatsOf s q)) ≡ seatsOf s q
+unfolding padded
+padded-front s q = take-at (seatsOf s q) (replicate (2 * PAIRS - length (seatsOf s q)) 0) (2 * q) (seats-length s q)
+
+-- two more places are filled
+two-more : (l : List ℕ) (r k b a : ℕ) → length l ≡ k → set (set (l ++ replicate (suc (suc r)) 0) k b) (k + 1) a ≡ (l ++ (b ∷ a ∷ [])) ++ replicate r 0
+two-more l r k b a e =
+    rw (set-at l 0 (0 ∷ replicate r 0) b k e, append-assoc l (b ∷ a ∷ []) (replicate r 0))
+    (ap (λ (z : List ℕ). set z (k + 1) a) (sym (append-assoc l (b ∷ []) (0 ∷ replicate r 0)))
+    ∙ set-at (l ++ (b ∷ [])) 0 (replicate r 0) a (k + 1) (omega (arith, length-append l (b ∷ [])))
+    ∙ append-assoc l (b ∷ []) (a ∷ replicate r 0))
+
+fill-more : (l : List ℕ) (q b a : ℕ) → length l ≡ 2 * q → q < PAIRS → set (set (padded l) (2 * q) b) (2 * q + 1) a ≡ padded (l ++ (b ∷ a ∷ []))
+unfolding padded
+fill-more l q b a e h =
+    let n : 2 * PAIRS - length (l ++ (b ∷ a ∷ [])) ≡ 2 * PAIRS - (2 * q + 2) = omega (arith, length-append l (b ∷ a ∷ [])) in
+    let u : 2 * PAIRS - length l ≡ suc (suc (2 * PAIRS - (2 * q + 2))) = omega arith in
+    ap (λ (r : ℕ). set (set (l ++ replicate r 0) (2 * q) b) (2 * q + 1) a) u
+    ∙ two-more l (2 * PAIRS - (2 * q + 2)) (2 * q) b a e
+    ∙ ap (λ (r : ℕ). (l ++ (b ∷ a ∷ [])) ++ replicate r 0) (sym n)
+
+seats-more : (s : List ℕ) (q : ℕ) → seatsOf s (q + 1) ≡ seatsOf s q ++ (beforeOf s q ∷ afterOf s q ∷ [])
+unfolding seatsOf
+seats-more s q = rw (add-one q)
+
+pub padded-more : (s p : List ℕ) (q b a : ℕ) → q < PAIRS → p ≡ padded (seatsOf s q) → b ≡ beforeOf s q → a ≡ afterOf s q
+    → set (set p (2 * q) b) (2 * q + 1) a ≡ padded (seatsOf s (q + 1))
+padded-more s p q b a h e f g = rw (e, f, g, seats-more s q) (fill-more (seatsOf s q) q (beforeOf s q) (afterOf s q) (seats-length s q) h)
+
+-- ---- what the loop hands out
+
+module _ (s p : List ℕ) (q : ℕ) (check : Check) (before : Nowhere (unnamed s) q) (filled : p ≡ padded (seatsOf s q)) where
+  pub named-until : q < pairsOf s → unnamed s q ≡ true → check ≡ Refused (record { number = 10; place = q })
+      → _≡_ {A = Named} (record { check = check; places = p }) (namedPairs s)
+  unfolding namedPairs nameFault
+  named-until h e f = rw (← found-here (unnamed s) (pairsOf s) q h before e, filled, f)
+
+  pub named-all : pairsOf s ≤ q → q ≤ pairsOf s → check ≡ Fine → _≡_ {A = Named} (record { check = check; places = p }) (namedPairs s)
+  unfolding namedPairs nameFault
+  named-all h g f =
+      let e : pairsOf s ≡ q = omega arith in
+      rw (← none-found (unnamed s) (pairsOf s) q h before, filled, f, e)
+
+-- ---- a pair's two places
+
+-- the pairs after the first q do not change what stands before them
+earlier : (s : List ℕ) (m i : ℕ) → i < 2 * m → getD (seatsOf s (suc m)) i 0 ≡ getD (seatsOf s m) i 0
+unfolding seatsOf
+earlier s m i h = List·getD-append (seatsOf s m) (beforeOf s m ∷ afterOf s m ∷ []) 0 i (omega (arith, seats-length s m))
+
+last-before : (s : List ℕ) (m : ℕ) → getD (seatsOf s (suc m)) (2 * m) 0 ≡ beforeOf s m
+unfolding seatsOf
+last-before s m = getD-at (seatsOf s m) (beforeOf s m) (afterOf s m ∷ []) 0 (2 * m) (seats-length s m)
+
+last-after : (s : List ℕ) (m : ℕ) → getD (seatsOf s (suc m)) (2 * m + 1) 0 ≡ afterOf s m
+unfolding seatsOf
+last-after s m =
+    rw (← seats-length s m) (getD-append-add (seatsOf s m) (beforeOf s m ∷ afterOf s m ∷ []) 1 0)
+
+pub seat-before : (s : List ℕ) (m q : ℕ) → q < m → getD (seatsOf s m) (2 * q) 0 ≡ beforeOf s q
+seat-before s zero q h = absurd (not-suc-le-zero h)
+seat-before s (suc m) q h = ⊎-elim (λ e. rw e (last-before s m)) (λ g. earlier s m (2 * q) (omega arith) ∙ seat-before s m q g) (eq-or-lt-of-le (le-of-suc-le-suc h))
+
+pub seat-after : (s : List ℕ) (m q : ℕ) → q < m → getD (seatsOf s m) (2 * q + 1) 0 ≡ afterOf s q
+seat-after s zero q h = absurd (not-suc-le-zero h)
+seat-after s (suc m) q h = ⊎-elim (λ e. rw e (last-after s m)) (λ g. earlier s m (2 * q + 1) (omega arith) ∙ seat-after s m q g) (eq-or-lt-of-le (le-of-suc-le-suc h))
+
+-- ---- the two tags of a pair, looked up at its two places
+
+pub tags-compared : (s p : List ℕ) (m q b a tb pb ta pa : ℕ) → p ≡ seatsOf s m → q < m
+    → b ≡ getD p (2 * q) 0 → a ≡ getD p (2 * q + 1) 0
+    → tb ≡ tagOf s b → pb ≡ beforeTagOf s q → ta ≡ tagOf s a → pa ≡ afterTagOf s q
+    → otherTag s q ≡ (not (eqb tb pb) || not (eqb ta pa))
+tags-compared s p m q b a tb pb ta pa e h eb ea etb epb eta epa =
+    let x : b ≡ beforeOf s q = eb ∙ ap (λ (l : List ℕ). getD l (2 * q) 0) e ∙ seat-before s m q h in
+    let y : a ≡ afterOf s q = ea ∙ ap (λ (l : List ℕ). getD l (2 * q + 1) 0) e ∙ seat-after s m q h in
+    rw (etb, epb, eta, epa, x, y)
+
+pub seats-handed : (s p : List ℕ) (m : ℕ) → p ≡ seatsOf s m → length p ≡ 2 * m
+seats-handed s p m e = ap length e ∙ seats-length s m
+
+-- ---- more contours or pairs than a card takes
+
+pub too-many-contours : (s : List ℕ) (check : Check) → CONTOURS < contoursOf s → check ≡ Refused (record { number = 4; place = 1 })
+    → _≡_ {A = Named} (record { check = check; places = replicate (2 * PAIRS) 0 }) (namedOf s)
+unfolding namedOf
+too-many-contours s check h e = rw (lt-ltb CONTOURS (contoursOf s) h, e)
+
+module _ (s : List ℕ) (few : contoursOf s ≤ CONTOURS) where
+  pub too-many-pairs : (check : Check) → PAIRS < pairsOf s → check ≡ Refused (record { number = 4; place = 2 })
+      → _≡_ {A = Named} (record { check = check; places = replicate (2 * PAIRS) 0 }) (namedOf s)
+  unfolding namedOf
+  too-many-pairs check h e = rw (le-ltb CONTOURS (contoursOf s) few, lt-ltb PAIRS (pairsOf s) h, e)
+
+  pub few-enough : (r : Named) → pairsOf s ≤ PAIRS → r ≡ namedPairs s → r ≡ namedOf s
+  unfolding namedOf
+  few-enough r h e = rw (le-ltb CONTOURS (contoursOf s) few, le-ltb PAIRS (pairsOf s) h) e

@@ -1,0 +1,95 @@
+-- `card::far_vertex` meets its contract. Assumes nothing.
+use mathlib.Core.Path.{_≡_, _∙_}
+use Prim.Native.Nat.{_≤_, _<_, _-_, _+_, min}
+use native.Mathlib.Omega.{arith}
+use lib.ListN.{length}
+use denote.Ref.{now}
+use Rattle.answer.proofs.LowestLaws.{Nowhere}
+use Rattle.block.proofs.Readings.{u16-of}
+use Rattle.card.specs.Layout.{payload, vertexPlace, vertexCountOf}
+use Rattle.card.specs.Stages.{farPoint, farVertex}
+use Rattle.card.proofs.LoopLaws.{none-yet, one-more, found-here, none-found}
+use Rattle.card.proofs.FarLaws.{vertex-looked-at}
+use Rattle.card.proofs.far_vertex.Statement.{statement}
+use Rattle.card.proofs.far_vertex.Tie as tie
+
+abbrev Inv-loop : tie.InvT-loop
+Inv-loop card k start v j₀ j = (start ≡ min (payload (k + 1) + 12) (length card)) × (v ≡ vertexCountOf card k) × (v < 65536) × (j ≤ v) × Nowhere (λ i. farPoint card (vertexPlace k i)) j
+
+abbrev μ-loop : tie.MeasureT-loop
+μ-loop card k start v j₀ j = v - j
+
+contour-place-requires : tie.Need-contour-place-requires Inv-loop μ-loop
+contour-place-requires c κs = tt
+
+contour-place-requires-2 : tie.Need-contour-place-requires-2 Inv-loop μ-loop
+contour-place-requires-2 c κs = tt
+
+u16-at-requires : tie.Need-u16-at-requires Inv-loop μ-loop
+u16-at-requires c κs = tt
+
+cast-v : tie.Need-cast-v Inv-loop μ-loop
+cast-v c = omega arith
+
+loop-holds : tie.Need-loop-holds Inv-loop μ-loop
+loop-holds c = let a = c .before .before .before .before .args in
+    (c .before .before .contour-place .ensures, u16-of _ _ _ (c .before .contour-place2 .ensures) _ (c .u16-at .ensures), omega arith, omega arith, none-yet (λ i. farPoint (now (a .card)) (vertexPlace (a .k) i)))
+
+mul-far-point : tie.Need-mul-far-point Inv-loop μ-loop
+mul-far-point c = omega arith
+
+add-far-point : tie.Need-add-far-point Inv-loop μ-loop
+add-far-point c = omega arith
+
+far-point-requires : tie.Need-far-point-requires Inv-loop μ-loop
+far-point-requires c κs = omega arith
+
+returns : tie.Need-returns Inv-loop μ-loop
+unfolding farVertex
+returns c = let a = c .before .before .before .before .before .before .before .before .args in
+    let i = c .before .before .before .loop .inv in
+    found-here (λ i. farPoint (now (a .card)) (vertexPlace (a .k) i)) (vertexCountOf (now (a .card)) (a .k)) _ (omega arith) (i .4)
+    (vertex-looked-at (now (a .card)) (payload (a .k + 1) + 12) _ _ _ (i .0) (c .before .far-point .ensures) ∙ c .if1 .taken)
+
+add-j : tie.Need-add-j Inv-loop μ-loop
+add-j c = omega arith
+
+loop-less : tie.Need-loop-less Inv-loop μ-loop
+loop-less c = omega arith
+
+loop-again : tie.Need-loop-again Inv-loop μ-loop
+loop-again c = let a = c .before .before .before .before .before .before .before .before .args in
+    let i = c .before .before .before .loop .inv in (
+      i .0,
+      i .1,
+      i .2,
+      omega arith,
+      one-more (λ i. farPoint (now (a .card)) (vertexPlace (a .k) i)) _ (i .4)
+          (vertex-looked-at (now (a .card)) (payload (a .k + 1) + 12) _ _ _ (i .0) (c .before .far-point .ensures) ∙ c .if1 .left),
+    )
+
+returns-2 : tie.Need-returns-2 Inv-loop μ-loop
+unfolding farVertex
+returns-2 c = let a = c .before .before .before .before .before .before .args in
+    let i = c .before .loop .inv in
+    none-found (λ i. farPoint (now (a .card)) (vertexPlace (a .k) i)) (vertexCountOf (now (a .card)) (a .k)) _ (omega arith) (i .4)
+
+pub far-vertex-spec : {M : Type 1} → statement M
+far-vertex-spec =
+    tie.close
+    (tie.spec
+    Inv-loop
+    μ-loop
+    contour-place-requires
+    contour-place-requires-2
+    u16-at-requires
+    cast-v
+    loop-holds
+    mul-far-point
+    add-far-point
+    far-point-requires
+    returns
+    add-j
+    loop-less
+    loop-again
+    returns-2)

@@ -1,0 +1,152 @@
+-- `card::named_pairs` meets its contract. Assumes nothing.
+use mathlib.Core.Path.{_≡_, refl}
+use Prim.Native.Nat.{_≤_, _-_}
+use native.Mathlib.Omega.{arith}
+use denote.Ref.{now}
+use borrow.Author.Needs.{needs}
+use Rattle.answer.proofs.LowestLaws.{Nowhere}
+use Rattle.card.specs.Layout.{pairsOf}
+use Rattle.card.specs.Stages.{unnamed}
+use Rattle.card.specs.Names.{seatsOf, padded}
+use Rattle.card.proofs.LoopLaws.{none-yet, one-more}
+use Rattle.card.proofs.NameLaws.{position-below, first-unknown, second-unknown, both-known, before-is, after-is, padded-none, padded-more, named-until, named-all}
+use Rattle.card.proofs.named_pairs.Statement.{statement}
+use Rattle.card.proofs.named_pairs.Tie as tie
+
+abbrev Inv-loop : tie.InvT-loop
+Inv-loop card m places₀ q₀ places q = (m ≡ pairsOf card) × (q ≤ m) × Nowhere (unnamed card) q × (places ≡ padded (seatsOf card q))
+
+abbrev μ-loop : tie.MeasureT-loop
+μ-loop card m places₀ q₀ places q = m - q
+
+pairs-requires : tie.Need-pairs-requires Inv-loop μ-loop
+pairs-requires c κs = tt
+
+loop-holds : tie.Need-loop-holds Inv-loop μ-loop
+loop-holds c = let s = now (c .before .before .args .card) in
+    (c .pairs .ensures, omega arith, none-yet (unnamed s), padded-none s)
+
+before-id-requires : tie.Need-before-id-requires Inv-loop μ-loop
+before-id-requires c κs = tt
+
+position-of-requires : tie.Need-position-of-requires Inv-loop μ-loop
+position-of-requires c κs = tt
+
+enum-known-before : tie.Need-enum-known-before Inv-loop μ-loop
+enum-known-before c = search needs
+
+enum-told : tie.Need-enum-told Inv-loop μ-loop
+enum-told c = search needs
+
+refusal-requires : tie.Need-refusal-requires Inv-loop μ-loop
+refusal-requires c κs = tt
+
+returns : tie.Need-returns Inv-loop μ-loop
+returns c = let p = c .before .before .before in
+    let l = p .before .before .before in
+    let s = now (l .before .before .before .args .card) in
+    let i = l .loop .inv in
+    named-until s _ _ _ (i .2) (i .3) (omega arith) (first-unknown s _ _ _ (p .before .before-id .ensures) (p .position-of .ensures) (c .before .enum-told .given .1)) (c .refusal .ensures)
+
+after-id-requires : tie.Need-after-id-requires Inv-loop μ-loop
+after-id-requires c κs = tt
+
+position-of-requires-2 : tie.Need-position-of-requires-2 Inv-loop μ-loop
+position-of-requires-2 c κs = tt
+
+enum-known-after : tie.Need-enum-known-after Inv-loop μ-loop
+enum-known-after c = search needs
+
+enum-told-2 : tie.Need-enum-told-2 Inv-loop μ-loop
+enum-told-2 c = search needs
+
+refusal-requires-2 : tie.Need-refusal-requires-2 Inv-loop μ-loop
+refusal-requires-2 c κs = tt
+
+returns-2 : tie.Need-returns-2 Inv-loop μ-loop
+returns-2 c = let p = c .before .before .before in
+    let l = p .before .before .before .before .before .before .before .before in
+    let s = now (l .before .before .before .args .card) in
+    let i = l .loop .inv in
+    named-until s _ _ _ (i .2) (i .3) (omega (arith, l)) (second-unknown s _ _ _ (p .before .after-id .ensures) (p .position-of2 .ensures) (c .before .enum-told2 .given .1)) (c .refusal2 .ensures)
+
+cast-places : tie.Need-cast-places Inv-loop μ-loop
+cast-places c = let k = c .before .before .before .before .before .before in
+    let p = k .before .before in
+    omega (arith, p .before .before .before .before .before .before .pre, position-below _ _ _ _ (p .position-of .ensures) (k .before2 .given .1))
+
+mul-places : tie.Need-mul-places Inv-loop μ-loop
+mul-places c = omega arith
+
+array-write-places : tie.Need-array-write-places Inv-loop μ-loop
+array-write-places c = omega arith
+
+cast-places-2 : tie.Need-cast-places-2 Inv-loop μ-loop
+cast-places-2 c = let k = c .before in
+    let p = k .before .before in
+    omega (arith, c .before .before .before .before .before .before .before .before .before .before .before .before .before .before .pre, position-below _ _ _ _ (p .position-of2 .ensures) (k .after .given .1))
+
+mul-places-2 : tie.Need-mul-places-2 Inv-loop μ-loop
+mul-places-2 c = omega arith
+
+add-places : tie.Need-add-places Inv-loop μ-loop
+add-places c = omega arith
+
+array-write-places-2 : tie.Need-array-write-places-2 Inv-loop μ-loop
+array-write-places-2 c = omega arith
+
+add-q : tie.Need-add-q Inv-loop μ-loop
+add-q c = omega arith
+
+loop-less : tie.Need-loop-less Inv-loop μ-loop
+loop-less c = omega arith
+
+loop-again : tie.Need-loop-again Inv-loop μ-loop
+loop-again c = let k′ = c .before in
+    let p′ = k′ .before .before in
+    let k = p′ .before .before .before in
+    let p = k .before .before in
+    let l = p .before .before .before in
+    let s = now (l .before .before .before .args .card) in
+    let i = l .loop .inv in
+    let known = both-known s (l .loop .q) _ _ _ _ _ _ (p .before .before-id .ensures) (p .position-of .ensures) (k .before2 .given .1) (p′ .before .after-id .ensures) (p′ .position-of2 .ensures) (k′ .after .given .1) in
+    let b = before-is s (l .loop .q) _ _ _ _ _ _ (p .before .before-id .ensures) (p .position-of .ensures) (k .before2 .given .1) (p′ .before .after-id .ensures) (p′ .position-of2 .ensures) (k′ .after .given .1) in
+    let a = after-is s (l .loop .q) _ _ _ _ _ _ (p .before .before-id .ensures) (p .position-of .ensures) (k .before2 .given .1) (p′ .before .after-id .ensures) (p′ .position-of2 .ensures) (k′ .after .given .1) in
+    (i .0, omega arith, one-more (unnamed s) _ (i .2) known, padded-more s _ _ _ _ (omega (arith, l .before .before .before .pre)) (i .3) b a)
+
+returns-3 : tie.Need-returns-3 Inv-loop μ-loop
+returns-3 c = let s = now (c .before .before .before .before .args .card) in
+    let i = c .before .loop .inv in
+    named-all s _ _ _ (i .2) (i .3) (omega arith) (omega arith) refl
+
+pub named-pairs-spec : {M : Type 1} → statement M
+named-pairs-spec =
+    tie.close
+    (tie.spec
+    Inv-loop
+    μ-loop
+    pairs-requires
+    loop-holds
+    before-id-requires
+    position-of-requires
+    enum-known-before
+    enum-told
+    refusal-requires
+    returns
+    after-id-requires
+    position-of-requires-2
+    enum-known-after
+    enum-told-2
+    refusal-requires-2
+    returns-2
+    cast-places
+    mul-places
+    array-write-places
+    cast-places-2
+    mul-places-2
+    add-places
+    array-write-places-2
+    add-q
+    loop-less
+    loop-again
+    returns-3)

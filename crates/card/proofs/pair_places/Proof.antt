@@ -1,0 +1,46 @@
+-- `card::pair_places` meets its contract. Assumes nothing.
+use native.Mathlib.Omega.{arith}
+use denote.Ref.{now}
+use borrow.Author.Needs.{needs}
+use Rattle.card.proofs.NameLaws.{too-many-contours, too-many-pairs, few-enough}
+use Rattle.card.proofs.pair_places.Statement.{statement}
+use Rattle.card.proofs.pair_places.Tie as tie
+
+contours-requires : tie.Need-contours-requires
+contours-requires c κs = search needs
+
+refusal-requires : tie.Need-refusal-requires
+refusal-requires c κs = search needs
+
+returns : tie.Need-returns
+returns c = too-many-contours (now (c .before .before .before .before .args .card)) _ (omega arith) (c .refusal .ensures)
+
+pairs-requires : tie.Need-pairs-requires
+pairs-requires c κs = search needs
+
+refusal-requires-2 : tie.Need-refusal-requires-2
+refusal-requires-2 c κs = search needs
+
+returns-2 : tie.Need-returns-2
+returns-2 c = let s = now (c .before .before .before .before .before .before .args .card) in
+    too-many-pairs s (omega arith) _ (omega arith) (c .refusal2 .ensures)
+
+named-pairs-requires : tie.Need-named-pairs-requires
+named-pairs-requires c κs = search needs
+
+returns-3 : tie.Need-returns-3
+returns-3 c = let s = now (c .before .before .before .before .before .before .args .card) in
+    few-enough s (omega arith) _ (omega arith) (c .named-pairs .ensures)
+
+pub pair-places-spec : {M : Type 1} → statement M
+pair-places-spec =
+    tie.close
+    (tie.spec
+    contours-requires
+    refusal-requires
+    returns
+    pairs-requires
+    refusal-requires-2
+    returns-2
+    named-pairs-requires
+    returns-3)

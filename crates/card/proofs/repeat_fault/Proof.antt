@@ -1,0 +1,78 @@
+-- `card::repeat_fault` meets its contract. Assumes nothing.
+use mathlib.Core.Path.{_≡_}
+use Prim.Native.Nat.{_≤_, _-_}
+use native.Mathlib.Omega.{arith}
+use denote.Ref.{now}
+use borrow.Author.Needs.{needs}
+use Rattle.card.proofs.NameLaws.{id-repeats, id-is-new}
+use Rattle.answer.proofs.LowestLaws.{Nowhere}
+use Rattle.card.specs.Layout.{contoursOf}
+use Rattle.card.specs.Stages.{repeats, repeatFault}
+use Rattle.card.proofs.LoopLaws.{none-yet, one-more, found-here, none-found}
+use Rattle.card.proofs.repeat_fault.Statement.{statement}
+use Rattle.card.proofs.repeat_fault.Tie as tie
+
+abbrev Inv-loop : tie.InvT-loop
+Inv-loop card n k₀ k = (n ≡ contoursOf card) × (k ≤ n) × Nowhere (repeats card) k
+
+abbrev μ-loop : tie.MeasureT-loop
+μ-loop card n k₀ k = n - k
+
+contours-requires : tie.Need-contours-requires Inv-loop μ-loop
+contours-requires c κs = tt
+
+loop-holds : tie.Need-loop-holds Inv-loop μ-loop
+loop-holds c = (c .contours .ensures, omega arith, none-yet (repeats (now (c .before .before .args .card))))
+
+id-requires : tie.Need-id-requires Inv-loop μ-loop
+id-requires c κs = tt
+
+seek-requires : tie.Need-seek-requires Inv-loop μ-loop
+seek-requires c κs = tt
+
+enum-told : tie.Need-enum-told Inv-loop μ-loop
+enum-told c = search needs
+
+enum-told-2 : tie.Need-enum-told-2 Inv-loop μ-loop
+enum-told-2 c = search needs
+
+returns : tie.Need-returns Inv-loop μ-loop
+unfolding repeatFault
+returns c = let s = now (c .before .before .before .before .before .before .before .before .args .card) in
+    let i = c .before .before .before .before .before .loop .inv in
+    found-here (repeats s) (contoursOf s) _ (omega arith) (i .2) (id-repeats s _ _ _ (c .before .before .before .id .ensures) (c .before .before .seek .ensures) _ (c .enum-told2 .given .1))
+
+add-k : tie.Need-add-k Inv-loop μ-loop
+add-k c = omega arith
+
+loop-less : tie.Need-loop-less Inv-loop μ-loop
+loop-less c = omega arith
+
+loop-again : tie.Need-loop-again Inv-loop μ-loop
+loop-again c = let s = now (c .before .before .before .before .before .before .before .before .args .card) in
+    let i = c .before .before .before .before .before .loop .inv in
+    (i .0, omega arith, one-more (repeats s) _ (i .2) (id-is-new s _ _ _ (c .before .before .before .id .ensures) (c .before .before .seek .ensures) (c .enum-told .given .1)))
+
+returns-2 : tie.Need-returns-2 Inv-loop μ-loop
+unfolding repeatFault
+returns-2 c = let s = now (c .before .before .before .before .args .card) in
+    let i = c .before .loop .inv in
+    none-found (repeats s) (contoursOf s) _ (omega arith) (i .2)
+
+pub repeat-fault-spec : {M : Type 1} → statement M
+repeat-fault-spec =
+    tie.close
+    (tie.spec
+    Inv-loop
+    μ-loop
+    contours-requires
+    loop-holds
+    id-requires
+    seek-requires
+    enum-told
+    enum-told-2
+    returns
+    add-k
+    loop-less
+    loop-again
+    returns-2)

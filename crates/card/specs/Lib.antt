@@ -1,0 +1,6 @@
+pub mod Limits
+pub mod Layout
+pub mod Values
+pub mod Stages
+pub mod Names
+pub mod Verdict

@@ -1,0 +1,178 @@
+-- When a card goes back: a stage for each row of the table, in the order in which they are looked at. A stage finds the lowest place at
+-- which its test holds. Assumes nothing.
+use mathlib.Core.Bool.{Bool, true, false, not, cond, _||_}
+use mathlib.Core.List.{List, [], _∷_}
+use Prim.Native.Nat.{ℕ, zero, suc, _+_, _*_, _-_, _/_, _%_, min}
+use lib.ListN.{length, getD}
+use lib.Dec.{eqb, ltb, leb}
+use Rattle.answer.specs.declared.Found.{Found}
+use Rattle.answer.specs.declared.Found.the-variants.{At, Absent}
+use Rattle.answer.specs.Lowest.{orFurther, lowest}
+use Rattle.block.specs.Field.{u64At}
+use Rattle.block.specs.Block.{blockBytes, checked, starts, zerosAt}
+use Rattle.closure.specs.Limits.{CONTOURS, PAIRS}
+use Rattle.card.specs.Limits.{cardBytes, perContourLimit, candidateLimit, passLimit, vertexLimit, pairsABlock, payloadBytes, farthest}
+use Rattle.card.specs.Layout.{blocksOf, payload, contoursOf, pairsOf, perContourOf, passesOf, homePlace, exteriorOf, interiorOf, idOf, tagOf, vertexCountOf, typeOf, fillerOf, vertexPlace, beforeIdOf, beforeTagOf, afterIdOf, afterTagOf}
+
+-- this place, if the test holds
+abbrev pub foundIf : Bool → ℕ → Found
+foundIf b k = orFurther b k Absent
+
+-- whether a place was found
+abbrev pub isAt : Found → Bool
+isAt (At k) = true
+isAt Absent = false
+
+-- below the least or above the most
+abbrev pub outside : ℕ → ℕ → ℕ → Bool
+outside least most x = ltb x least || ltb most x
+
+-- ---- 1: the length
+
+abbrev pub badLength : List ℕ → Bool
+badLength s = eqb (length s) 0 || (not (eqb (length s % blockBytes) 0) || ltb cardBytes (length s))
+
+unfoldable pub lengthFault : List ℕ → Found
+lengthFault s = foundIf (badLength s) (min (length s) (cardBytes + 1))
+
+-- ---- 2: the checks
+
+abbrev pub badCheck : List ℕ → ℕ → Bool
+badCheck s b = not (checked s (blockBytes * b))
+
+unfoldable pub checkFault : List ℕ → Found
+unfolding lowest
+checkFault s = lowest (badCheck s) (blocksOf s)
+
+-- ---- 3: the starts, of the first count blocks
+
+-- the head is of kind 1, a contour of kind 2, pairs of kind 3
+abbrev pub kindDue : List ℕ → ℕ → ℕ
+kindDue s b = cond (eqb b 0) 1 (cond (leb b (contoursOf s)) 2 3)
+
+abbrev pub badStart : List ℕ → ℕ → Bool
+badStart s b = not (starts s (blockBytes * b) (kindDue s b) 1 b)
+
+unfoldable pub startFault : List ℕ → ℕ → Found
+unfolding lowest
+startFault s count = lowest (badStart s) count
+
+-- ---- 4: the head's fields, by the number that the table gives each; there is no field 0
+
+abbrev pub headFaults : List ℕ → List Bool
+headFaults s =
+    false
+    ∷ ltb CONTOURS (contoursOf s)
+    ∷ ltb PAIRS (pairsOf s)
+    ∷ outside 1 perContourLimit (perContourOf s)
+    ∷ ltb passLimit (passesOf s)
+    ∷ ltb 2 (exteriorOf s)
+    ∷ ltb 2 (interiorOf s)
+    ∷ ltb candidateLimit (contoursOf s * perContourOf s)
+    ∷ []
+
+unfoldable pub headFault : List ℕ → Found
+unfolding lowest
+headFault s = lowest (λ f. getD (headFaults s) f false) 8
+
+-- ---- 5: the count of blocks
+
+abbrev pub blocksDue : List ℕ → ℕ
+blocksDue s = 1 + contoursOf s + (pairsOf s + (pairsABlock - 1)) / pairsABlock
+
+unfoldable pub countFault : List ℕ → Found
+countFault s = foundIf (not (eqb (blocksOf s) (blocksDue s))) (blocksOf s)
+
+-- ---- 6: each contour's vertex count, type and filler
+
+abbrev pub badContour : List ℕ → ℕ → Bool
+badContour s k = outside 1 vertexLimit (vertexCountOf s k) || (ltb 1 (typeOf s k) || not (eqb (fillerOf s k) 0))
+
+unfoldable pub contourFault : List ℕ → Found
+unfolding lowest
+contourFault s = lowest (badContour s) (contoursOf s)
+
+-- ---- 7: the payload's spare bytes
+
+-- the pairs in block b, which stands after the contours
+abbrev pub pairsIn : List ℕ → ℕ → ℕ
+pairsIn s b = min pairsABlock (pairsOf s - pairsABlock * (b - (contoursOf s + 1)))
+
+-- how many bytes of block b's payload are fields
+abbrev pub usedIn : List ℕ → ℕ → ℕ
+usedIn s b = cond (eqb b 0) 34 (cond (leb b (contoursOf s)) (12 + 16 * vertexCountOf s (b - 1)) (16 * pairsIn s b))
+
+abbrev pub badSpare : List ℕ → ℕ → Bool
+badSpare s b = not (zerosAt s (payload b + usedIn s b) (payloadBytes - usedIn s b))
+
+unfoldable pub spareFault : List ℕ → Found
+unfolding lowest
+spareFault s = lowest (badSpare s) (blocksOf s)
+
+-- ---- 8: the coordinates, home as place 0, contour k as place k + 1
+
+-- the bits, without their sign, of a number above the largest, of infinity or of no number
+abbrev pub tooFar : ℕ → Bool
+tooFar bits = ltb farthest (bits % 0x8000_0000_0000_0000)
+
+abbrev pub farPoint : List ℕ → ℕ → Bool
+farPoint s at = tooFar (u64At s at) || tooFar (u64At s (at + 8))
+
+unfoldable pub farVertex : List ℕ → ℕ → Found
+unfolding lowest
+farVertex s k = lowest (λ j. farPoint s (vertexPlace k j)) (vertexCountOf s k)
+
+abbrev pub farPlace : List ℕ → ℕ → Bool
+farPlace s zero = farPoint s homePlace
+farPlace s (suc k) = isAt (farVertex s k)
+
+unfoldable pub farFault : List ℕ → Found
+unfolding lowest
+farFault s = lowest (farPlace s) (contoursOf s + 1)
+
+-- ---- 9: ids that repeat an earlier one
+
+-- where an id stands among the first count contours
+unfoldable pub seekOf : List ℕ → ℕ → ℕ → Found
+unfolding lowest
+seekOf s count id = lowest (λ k. eqb (idOf s k) id) count
+
+abbrev pub repeats : List ℕ → ℕ → Bool
+repeats s k = isAt (seekOf s k (idOf s k))
+
+unfoldable pub repeatFault : List ℕ → Found
+unfolding lowest
+repeatFault s = lowest (repeats s) (contoursOf s)
+
+-- ---- 10: pairs that name an id no contour has
+
+-- the contour that has an id
+abbrev pub positionOf : List ℕ → ℕ → Found
+positionOf s id = seekOf s (contoursOf s) id
+
+abbrev pub unnamed : List ℕ → ℕ → Bool
+unnamed s q = not (isAt (positionOf s (beforeIdOf s q))) || not (isAt (positionOf s (afterIdOf s q)))
+
+unfoldable pub nameFault : List ℕ → Found
+unfolding lowest
+nameFault s = lowest (unnamed s) (pairsOf s)
+
+-- ---- 11: pairs whose tag is not their contour's
+
+-- the position found; 0 where there is none
+abbrev pub seat : Found → ℕ
+seat (At k) = k
+seat Absent = 0
+
+abbrev pub beforeOf : List ℕ → ℕ → ℕ
+beforeOf s q = seat (positionOf s (beforeIdOf s q))
+
+abbrev pub afterOf : List ℕ → ℕ → ℕ
+afterOf s q = seat (positionOf s (afterIdOf s q))
+
+abbrev pub otherTag : List ℕ → ℕ → Bool
+otherTag s q = not (eqb (tagOf s (beforeOf s q)) (beforeTagOf s q)) || not (eqb (tagOf s (afterOf s q)) (afterTagOf s q))
+
+unfoldable pub tagFault : List ℕ → Found
+unfolding lowest
+tagFault s = lowest (otherTag s) (pairsOf s)
