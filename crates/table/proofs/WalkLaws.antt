@@ -1,14 +1,14 @@
 -- A walk taken leg by leg, as a loop over the tour's places takes it. Assumes nothing.
-use mathlib.Core.Path.{_≡_, refl, sym, ap, _∙_}
 use mathlib.Core.List.{List, [], _∷_}
+use mathlib.Core.Path.{_≡_, refl}
 use Prim.Native.Nat.{ℕ, suc, _+_, _≤_, _<_}
 use native.Mathlib.Numerals.{add-one}
 use native.Mathlib.Omega.{arith}
+use lib.Ieee.{Float, binary64, ofBits, add}
 use lib.ListN.{length, getD, drop, drop-of-length-le}
 use lib.Seq.{drop-cons}
-use lib.Ieee.{Float, binary64, ofBits, add}
-use Rattle.table.specs.Walk.{legs, walk}
 use Rattle.table.specs.Evaluate.{homeAt, distanceAt, addLeg, lengthOf}
+use Rattle.table.specs.Walk.{legs, walk}
 
 -- the length that comes out when the walk stands at a stop, before place i of the tour, with a total so far
 pub onward : (table : List Float) (t : ℕ) (tour : List ℕ) (i at : ℕ) (total : Float) → Float

@@ -14,6 +14,16 @@ pub fn float_at(s: &[f64], i: usize) -> f64
     0.0 / 0.0
 }
 
+// The byte at a place, and 0 past the end.
+pub fn byte_at(s: &[u8], i: usize) -> u8
+    ensures { λ r. ⌜ r ≡ getD (now (s .entry)) i 0 ⌝ }
+{
+    if i < s.len() {
+        return s[i];
+    }
+    0
+}
+
 // How far candidate a is from home.
 pub fn home_at(home: &[f64], a: u8) -> f64
     ensures { λ r. ⌜ r ≡ homeAt (now (home .entry)) a ⌝ }

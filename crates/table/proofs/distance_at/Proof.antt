@@ -1,7 +1,7 @@
 -- `table::distance_at` meets its contract: the place of three bytes fits. Assumes nothing.
-use Rattle.table.proofs.PlaceLaws.{row-small}
 use native.Mathlib.Omega.{arith}
 use borrow.Author.Needs.{needs}
+use Rattle.table.proofs.PlaceLaws.{row-small}
 use Rattle.table.proofs.distance_at.Statement.{statement}
 use Rattle.table.proofs.distance_at.Tie as tie
 

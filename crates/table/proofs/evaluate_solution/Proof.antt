@@ -1,11 +1,11 @@
 -- `table::evaluate_solution` meets its contract. The invariant: walking on from here gives the whole length. Assumes nothing.
-use Rattle.table.proofs.WalkLaws.{onward, length-none, length-first, leg-more, legs-done}
-use Rattle.table.specs.Evaluate.{lengthOf}
-use lib.ListN.{length}
-use native.Mathlib.Omega.{arith}
-use borrow.Author.Needs.{needs}
 use mathlib.Core.Path.{_≡_}
 use Prim.Native.Nat.{_≤_, _-_}
+use native.Mathlib.Omega.{arith}
+use borrow.Author.Needs.{needs}
+use lib.ListN.{length}
+use Rattle.table.specs.Evaluate.{lengthOf}
+use Rattle.table.proofs.WalkLaws.{onward, length-none, length-first, leg-more, legs-done}
 use Rattle.table.proofs.evaluate_solution.Statement.{statement}
 use Rattle.table.proofs.evaluate_solution.Tie as tie
 

@@ -1,7 +1,7 @@
 -- `table::float_at` meets its contract: past the end the quotient of two zeros is no number. Assumes nothing.
+use borrow.Author.Needs.{needs}
 use lib.Ieee.{nan, div, ofBits, ofFields, odd}
 use lib.ListN.{List·getD-eq-default}
-use borrow.Author.Needs.{needs}
 use Rattle.table.proofs.float_at.Statement.{statement}
 use Rattle.table.proofs.float_at.Tie as tie
 

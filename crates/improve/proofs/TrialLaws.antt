@@ -1,0 +1,186 @@
+-- What one trial does to a search that goes on, and that it leaves an ended one alone. Assumes nothing.
+use mathlib.Core.Bool.{Bool, true, false, cond, _&&_, _||_}
+use mathlib.Core.List.{List, _++_}
+use mathlib.Core.Path.{_≡_, refl, sym, ap, _∙_}
+use Prim.Native.Nat.{ℕ, suc, _+_, _-_, _<_}
+use native.Mathlib.Numerals.{add-one}
+use native.Mathlib.Omega.{arith}
+use borrow.Author.Tests.{eq-eqb, ne-eqb}
+use lib.Dec.{eqb}
+use lib.Ieee.{Float}
+use lib.ListN.{length, getD, set, take, drop}
+use Rattle.bytes.specs.Bytes.{rev, slice}
+use Rattle.improve.specs.Code.{Judged, Taken, going, stateOf}
+use Rattle.improve.specs.Each.{each}
+use Rattle.improve.specs.Search.{State, shorter, judged, atLimit, tried, contourOf, givenBack, swap, alternative, turn, turned, reversed, flip, reversal, row}
+use Rattle.improve.specs.declared.Progress.{Progress}
+use Rattle.improve.specs.declared.Tried.{Tried}
+use Rattle.improve.proofs.EachLaws.{Idle, each-idle}
+use Rattle.improve.proofs.ReversalLaws.{turned-twice}
+
+-- ---- ended
+
+tried-idle : (limit : ℕ) (trial : State → State) (s : State) → s .cut ≡ true → tried limit trial s ≡ s
+unfolding tried
+tried-idle limit trial s e = rw e
+
+module _ (long : List ℕ → Float) where
+  pub alternative-idle : (limit p held : ℕ) → Idle (alternative long limit p held)
+  unfolding alternative
+  alternative-idle limit p held a s e = go (eqb a held)
+    where
+      go : (b : Bool) → cond b s (tried limit (swap long p held a) s) ≡ s
+      go true = refl
+      go false = tried-idle limit (swap long p held a) s e
+
+  pub turn-idle : (owner first : List ℕ) (limit : ℕ) → Idle (turn long owner first limit)
+  unfolding turn
+  turn-idle owner first limit p s e = each-idle _ (alternative-idle limit p (getD (s .tour) p 0)) _ _ s e
+
+  module _ (allowed : List ℕ → Bool) where
+    pub reversal-idle : (limit i : ℕ) → Idle (reversal long allowed limit i)
+    unfolding reversal
+    reversal-idle limit i j s e = tried-idle limit (flip long allowed i j) s e
+
+    pub row-idle : (limit n : ℕ) → Idle (row long allowed limit n)
+    unfolding row
+    row-idle limit n i s e = each-idle _ (reversal-idle limit i) _ _ s e
+
+-- ---- at the limit
+
+-- the search has ended with this tour
+abbrev pub ended : List ℕ → Float → Bool → ℕ → State
+ended tour cost better moves = record { tour = tour; cost = cost; better = better; moves = moves; cut = true }
+
+tried-stops : (limit : ℕ) (trial : State → State) (tour : List ℕ) (cost : Float) (better : Bool) (moves : ℕ)
+    → atLimit limit moves ≡ true → tried limit trial (going tour cost better moves) ≡ ended tour cost better moves
+unfolding tried
+tried-stops limit trial tour cost better moves e = rw e
+
+tried-goes : (limit : ℕ) (trial : State → State) (tour : List ℕ) (cost : Float) (better : Bool) (moves : ℕ)
+    → atLimit limit moves ≡ false → tried limit trial (going tour cost better moves) ≡ trial (going tour cost better moves)
+unfolding tried
+tried-goes limit trial tour cost better moves e = rw e
+
+judged-is : (accepted : Bool) (new : List ℕ) (length : Float) (back tour after : List ℕ) (cost : Float) (better : Bool) (moves : ℕ) (r : Tried)
+    → Judged accepted new length back cost r after
+    → judged accepted new length back (going tour cost better moves) ≡ going after (r .cost) (better || r .accepted) (moves + 1)
+unfolding judged
+judged-is accepted new length back tour after cost better moves r w = rw (w .accepts, w .counts, w .holds, add-one moves)
+
+-- the candidate held when the turn began is passed over
+pub alternative-held : (long : List ℕ → Float) (limit p held a : ℕ) (s : State) → a ≡ held → alternative long limit p held a s ≡ s
+unfolding alternative
+alternative-held long limit p held a s e = rw (eq-eqb a held e)
+
+module _ (long : List ℕ → Float) (limit p held a : ℕ) (tour : List ℕ) (cost : Float) (better : Bool) (moves : ℕ) (flag : Bool)
+    (other : a ≡ held → ⊥) (asked : flag ≡ atLimit limit moves) where
+  -- at the limit, another candidate ends the search
+  pub alternative-stops : flag ≡ true → alternative long limit p held a (going tour cost better moves) ≡ ended tour cost better moves
+  unfolding alternative
+  alternative-stops e = rw (ne-eqb a held other) (tried-stops limit (swap long p held a) tour cost better moves (sym asked ∙ e))
+
+  -- before it, another candidate is tried
+  pub alternative-goes : (r : Tried) (after : List ℕ) → flag ≡ false
+      → Judged (shorter (long (set tour p a)) cost) (set tour p a) (long (set tour p a)) (givenBack p held tour) cost r after
+      → alternative long limit p held a (going tour cost better moves) ≡ going after (r .cost) (better || r .accepted) (moves + 1)
+  unfolding alternative swap
+  alternative-goes r after e w =
+      rw (ne-eqb a held other)
+      (tried-goes limit (swap long p held a) tour cost better moves (sym asked ∙ e) ∙ judged-is _ _ _ _ tour after cost better moves r w)
+
+module _ (long : List ℕ → Float) (allowed : List ℕ → Bool) (limit i j : ℕ) (tour : List ℕ) (cost : Float) (better : Bool) (moves : ℕ) (flag : Bool)
+    (asked : flag ≡ atLimit limit moves) where
+  -- at the limit, a reversal ends the search
+  pub reversal-stops : flag ≡ true → reversal long allowed limit i j (going tour cost better moves) ≡ ended tour cost better moves
+  unfolding reversal
+  reversal-stops e = tried-stops limit (flip long allowed i j) tour cost better moves (sym asked ∙ e)
+
+  -- before it, the stretch is tried the other way round
+  pub reversal-goes : (r : Tried) (after : List ℕ) → flag ≡ false
+      → Judged (shorter (long (reversed i j tour)) cost && allowed (reversed i j tour)) (reversed i j tour) (long (reversed i j tour)) tour cost r after
+      → reversal long allowed limit i j (going tour cost better moves) ≡ going after (r .cost) (better || r .accepted) (moves + 1)
+  unfolding reversal flip
+  reversal-goes r after e w =
+      tried-goes limit (flip long allowed i j) tour cost better moves (sym asked ∙ e) ∙ judged-is _ _ _ _ tour after cost better moves r w
+
+-- ---- turns
+
+-- a turn is told by what is read for it
+pub turn-is : (long : List ℕ → Float) (owner first : List ℕ) (limit p : ℕ) (s after : State) (k from end : ℕ)
+    → k ≡ contourOf owner (getD (s .tour) p 0) → from ≡ getD first k 0 → end ≡ getD first (k + 1) 0
+    → after ≡ each (alternative long limit p (getD (s .tour) p 0)) (end - from) from s → after ≡ turn long owner first limit p s
+unfolding turn
+turn-is long owner first limit p s after k from end e f g h = rw (← e, ← add-one k, ← f, ← g) h
+
+-- a search that has not ended goes on
+pub goes-on : (tour : List ℕ) (r : Progress) (s : State) → stateOf tour r ≡ s → r .cut ≡ false → s ≡ going tour (r .cost) (r .better) (r .moves)
+goes-on tour r s e h = sym e ∙ rw h
+
+-- ---- how a trial is judged
+
+-- a tour that is shorter is accepted
+pub accepts : (new : List ℕ) (back : List ℕ) (length measured cost : Float) (flag : Bool) → measured ≡ length → flag ≡ shorter measured cost → flag ≡ true
+    → Judged (shorter length cost) new length back cost (record { cost = measured; accepted = true }) new
+accepts new back length measured cost flag m e q =
+    let t : shorter length cost ≡ true = ap (λ (x : Float). shorter x cost) (sym m) ∙ sym e ∙ q in
+    record { accepts = sym t; counts = rw (t, m); holds = rw t }
+
+-- any other is not, and the tour goes back
+pub rejects : (new : List ℕ) (back after : List ℕ) (length measured cost : Float) (flag : Bool) → measured ≡ length → flag ≡ shorter measured cost → flag ≡ false
+    → after ≡ back → Judged (shorter length cost) new length back cost (record { cost = cost; accepted = false }) after
+rejects new back after length measured cost flag m e q h =
+    let t : shorter length cost ≡ false = ap (λ (x : Float). shorter x cost) (sym m) ∙ sym e ∙ q in
+    record { accepts = sym t; counts = rw t; holds = rw (t, h) }
+
+-- a reversed tour that is shorter and legal is accepted
+pub weighs-in : (length measured cost : Float) (kept flag lawful : Bool) → measured ≡ length → flag ≡ shorter measured cost → flag ≡ true
+    → lawful ≡ kept → lawful ≡ true → Taken (shorter length cost && kept) length cost (record { cost = measured; accepted = true })
+weighs-in length measured cost kept flag lawful m e q l k =
+    let t : shorter length cost ≡ true = ap (λ (x : Float). shorter x cost) (sym m) ∙ sym e ∙ q in
+    let u : kept ≡ true = sym l ∙ k in
+    record { accepts = rw (t, u); counts = rw (t, u, m) }
+
+-- one that is shorter and not legal is not
+pub weighs-illegal : (length measured cost : Float) (kept flag lawful : Bool) → measured ≡ length → flag ≡ shorter measured cost → flag ≡ true
+    → lawful ≡ kept → lawful ≡ false → Taken (shorter length cost && kept) length cost (record { cost = cost; accepted = false })
+weighs-illegal length measured cost kept flag lawful m e q l k =
+    let t : shorter length cost ≡ true = ap (λ (x : Float). shorter x cost) (sym m) ∙ sym e ∙ q in
+    let u : kept ≡ false = sym l ∙ k in
+    record { accepts = rw (t, u); counts = rw (t, u) }
+
+-- nor is one that is not shorter
+pub weighs-out : (length measured cost : Float) (kept flag : Bool) → measured ≡ length → flag ≡ shorter measured cost → flag ≡ false
+    → Taken (shorter length cost && kept) length cost (record { cost = cost; accepted = false })
+weighs-out length measured cost kept flag m e q =
+    let t : shorter length cost ≡ false = ap (λ (x : Float). shorter x cost) (sym m) ∙ sym e ∙ q in
+    record { accepts = rw t; counts = rw t }
+
+-- ---- a reversal, weighed
+
+-- what a reversal in place leaves
+abbrev flipped : ℕ → ℕ → List ℕ → List ℕ
+flipped i j tour = take (i + 1) tour ++ (rev (slice (i + 1) (j + 1) tour) ++ drop (j + 1) tour)
+
+flipped-is : (i j : ℕ) (tour : List ℕ) → flipped i j tour ≡ reversed i j tour
+unfolding turned
+flipped-is i j tour = rw (add-one i, add-one j)
+
+module _ (long : List ℕ → Float) (kept : List ℕ → Bool) (i j : ℕ) (tour after : List ℕ) (cost : Float) (r : Tried)
+    (turns : after ≡ flipped i j tour) (weighed : Taken (shorter (long after) cost && kept after) (long after) cost r) where
+  -- accepted, it is held
+  pub reversal-held : r .accepted ≡ true
+      → Judged (shorter (long (reversed i j tour)) cost && kept (reversed i j tour)) (reversed i j tour) (long (reversed i j tour)) tour cost r after
+  reversal-held q =
+      let e : after ≡ reversed i j tour = turns ∙ flipped-is i j tour in
+      let t : (shorter (long after) cost && kept after) ≡ true = sym (weighed .accepts) ∙ q in
+      rw (← e) (record { accepts = weighed .accepts; counts = weighed .counts; holds = rw t })
+
+  -- rejected, the stretch is reversed again, and the tour is as it was
+  pub reversal-back : (undone : List ℕ) → i < j → j < length tour → undone ≡ flipped i j after → r .accepted ≡ false
+      → Judged (shorter (long (reversed i j tour)) cost && kept (reversed i j tour)) (reversed i j tour) (long (reversed i j tour)) tour cost r undone
+  reversal-back undone h g u q =
+      let e : after ≡ reversed i j tour = turns ∙ flipped-is i j tour in
+      let t : (shorter (long after) cost && kept after) ≡ false = sym (weighed .accepts) ∙ q in
+      let b : undone ≡ tour = u ∙ flipped-is i j after ∙ ap (reversed i j) e ∙ turned-twice (suc i) (suc j) tour (omega arith) (omega arith) in
+      rw (← e) (record { accepts = weighed .accepts; counts = weighed .counts; holds = rw (t, b) })

@@ -1,0 +1,163 @@
+-- Constrained 2-opt with a counted limit: what each trial does, and in which order they come. Assumes nothing.
+use mathlib.Core.Bool.{Bool, true, false, not, cond, _&&_, _||_}
+use mathlib.Core.List.{List, map, _++_}
+use Prim.Native.Nat.{ℕ, zero, suc, _+_, _-_}
+use lib.Dec.{ltb, leb, eqb}
+use lib.Ieee.{Float, binary64, ofBits, sub, lt}
+use lib.ListN.{length, getD, set, take, drop}
+use Rattle.bytes.specs.Bytes.{rev, slice}
+use Rattle.closure.specs.Limits.{CONTOURS}
+use Rattle.hierarchy.specs.Keep.{keepsPairs}
+use Rattle.table.specs.Evaluate.{lengthOf}
+use Rattle.improve.specs.Each.{each}
+
+-- what a search reads: the distances from home and between the t candidates, the contour that each candidate belongs to,
+-- the number of each contour's first candidate with the number of all at the end, and which contours come before which
+pub record Sheet : Type 0 where
+  pub home : List Float
+  pub table : List Float
+  pub t : ℕ
+  pub owner : List ℕ
+  pub first : List ℕ
+  pub pairs : List ℕ
+
+-- where a search stands: the tour held, the length last accepted, whether this pass accepted a trial, the trials so far,
+-- and whether the limit has ended the search
+pub record State : Type 0 where
+  pub tour : List ℕ
+  pub cost : Float
+  pub better : Bool
+  pub moves : ℕ
+  pub cut : Bool
+
+-- ---- what is asked of a trial
+
+-- how long a tour is
+abbrev pub lengthIn : Sheet → List ℕ → Float
+lengthIn sheet tour = lengthOf (sheet .home) (sheet .table) (sheet .t) tour
+
+-- the contour of a candidate
+abbrev pub contourOf : List ℕ → ℕ → ℕ
+contourOf owner a = getD owner a 0
+
+-- the contours in the order in which a tour meets them
+unfoldable pub contours : List ℕ → List ℕ → List ℕ
+contours owner tour = map (contourOf owner) tour
+
+-- no pair is turned round
+abbrev pub legal : Sheet → List ℕ → Bool
+legal sheet tour = keepsPairs (contours (sheet .owner) tour) (sheet .pairs)
+
+-- 1e-10
+abbrev pub margin : Float
+margin = ofBits binary64 0x3ddb_7cdf_d9d7_bdbb
+
+-- shorter by more than the margin, in floats: the difference is rounded before it is compared
+unfoldable pub shorter : Float → Float → Bool
+shorter new current = lt new (sub binary64 current margin)
+
+-- ---- one trial
+
+-- what a trial leaves behind: the new tour and its length where it is accepted, else the tour given back; it counts either way
+unfoldable pub judged : Bool → List ℕ → Float → List ℕ → State → State
+judged accepted new length back s = record {
+  tour = cond accepted new back;
+  cost = cond accepted length (s .cost);
+  better = s .better || accepted;
+  moves = suc (s .moves);
+  cut = s .cut;
+}
+
+-- with a limit above 0, no trial begins once so many were made
+unfoldable pub atLimit : ℕ → ℕ → Bool
+atLimit limit moves = ltb 0 limit && leb limit moves
+
+-- the search ends here
+abbrev pub stopped : State → State
+stopped s = record { tour = s .tour; cost = s .cost; better = s .better; moves = s .moves; cut = true }
+
+-- a trial, if it may begin: a search that has ended stays as it is, and one that has reached its limit ends
+unfoldable pub tried : ℕ → (State → State) → State → State
+tried limit trial s = let after = trial s in cond (s .cut) s (cond (atLimit limit (s .moves)) (stopped s) after)
+
+-- ---- another candidate of the same contour
+
+-- the tour that a rejected candidate gives back: with the candidate that was held when the turn began
+abbrev pub givenBack : ℕ → ℕ → List ℕ → List ℕ
+givenBack p held tour = set tour p held
+
+-- candidate a at position p
+unfoldable pub swap : (List ℕ → Float) → ℕ → ℕ → ℕ → State → State
+swap long p held a s =
+    let new = set (s .tour) p a in
+    let length = long new in
+    judged (shorter length (s .cost)) new length (givenBack p held (s .tour)) s
+
+-- a contour's candidates are tried one by one, but for the one held when the turn began
+unfoldable pub alternative : (List ℕ → Float) → ℕ → ℕ → ℕ → ℕ → State → State
+alternative long limit p held a s = let after = tried limit (swap long p held a) s in cond (eqb a held) s after
+
+-- the turn of position p: the other candidates of the contour that it holds
+unfoldable pub turn : (List ℕ → Float) → List ℕ → List ℕ → ℕ → ℕ → State → State
+turn long owner first limit p s =
+    let held = getD (s .tour) p 0 in
+    let k = contourOf owner held in
+    let from = getD first k 0 in
+    each (alternative long limit p held) (getD first (suc k) 0 - from) from s
+
+-- ---- a stretch of the tour the other way round
+
+-- a list with its stretch from f up to, not including, t reversed
+unfoldable pub turned : ℕ → ℕ → List ℕ → List ℕ
+turned f t l = take f l ++ (rev (slice f t l) ++ drop t l)
+
+-- a tour with its stretch from i+1 to j reversed
+abbrev pub reversed : ℕ → ℕ → List ℕ → List ℕ
+reversed i j tour = turned (suc i) (suc j) tour
+
+-- the stretch from i+1 to j, if that is allowed
+unfoldable pub flip : (List ℕ → Float) → (List ℕ → Bool) → ℕ → ℕ → State → State
+flip long allowed i j s =
+    let new = reversed i j (s .tour) in
+    let length = long new in
+    judged (shorter length (s .cost) && allowed new) new length (s .tour) s
+
+-- that as a trial
+unfoldable pub reversal : (List ℕ → Float) → (List ℕ → Bool) → ℕ → ℕ → ℕ → State → State
+reversal long allowed limit i j s = tried limit (flip long allowed i j) s
+
+-- every j from i+2 on, in a tour of n
+unfoldable pub row : (List ℕ → Float) → (List ℕ → Bool) → ℕ → ℕ → ℕ → State → State
+row long allowed limit n i s = each (reversal long allowed limit i) (n - (i + 2)) (i + 2) s
+
+-- ---- passes
+
+-- a pass begins: it has accepted nothing
+abbrev pub fresh : State → State
+fresh s = record { tour = s .tour; cost = s .cost; better = false; moves = s .moves; cut = s .cut }
+
+-- a pass over a tour of n: each position's turn, then the reversals
+unfoldable pub pass : Sheet → ℕ → ℕ → State → State
+pass sheet limit n s =
+    each (row (lengthIn sheet) (legal sheet) limit n) (n - 1) 0 (each (turn (lengthIn sheet) (sheet .owner) (sheet .first) limit) n 0 (fresh s))
+
+-- pass after pass, while the last accepted something and the search goes on, at most k of them
+unfoldable pub repeated : Sheet → ℕ → ℕ → ℕ → State → State
+repeated sheet limit n zero s = s
+repeated sheet limit n (suc k) s = let after = repeated sheet limit n k (pass sheet limit n s) in cond (s .better && not (s .cut)) after s
+
+-- ---- the whole search
+
+-- a search begins with the tour handed in and its length
+abbrev pub begun : Sheet → List ℕ → State
+begun sheet tour = record { tour = tour; cost = lengthIn sheet tour; better = true; moves = 0; cut = false }
+
+-- there is something to improve: a pass is allowed, and the tour has three contours or more (and no more than a card has)
+abbrev pub worthwhile : ℕ → ℕ → Bool
+worthwhile most n = ltb 0 most && (leb 3 n && leb n CONTOURS)
+
+-- at most so many passes and so many trials from a tour on
+unfoldable pub searched : Sheet → ℕ → ℕ → List ℕ → State
+searched sheet most limit tour =
+    let after = repeated sheet limit (length tour) most (begun sheet tour) in
+    cond (worthwhile most (length tour)) after (begun sheet tour)
