@@ -79,6 +79,7 @@ fn refusal(contours: usize, pairs: &[u32]) -> Option<u64> {
     }
 }
 
+#[cfg(has_order)]
 /// The lowest position that pairs of positions below the count lead back to.
 fn on_cycle(contours: usize, pairs: &[u32]) -> Option<u64> {
     let mut leads = vec![vec![false; contours]; contours];
@@ -136,14 +137,24 @@ fn one(q: &Asked) -> Result<u64, String> {
         word(dag.is_valid_sequence(&sequence))
     };
     same(what, ours, valid)?;
+    Ok(6 + order(q, &dag)?)
+}
+
+#[cfg(not(has_order))]
+fn order(_: &Asked, _: &CuttingDag) -> Result<u64, String> {
+    Ok(0)
+}
+
+#[cfg(has_order)]
+fn order(q: &Asked, dag: &CuttingDag) -> Result<u64, String> {
+    let (at, length) = (q.pairs.as_ptr(), q.pairs.len());
     let ours = list(|ids, count| unsafe { probe_topological_sort(q.contours, at, length, ids, count) });
-    let theirs = match (refuses, dag.topological_sort()) {
+    let theirs = match (refusal(q.contours, q.pairs), dag.topological_sort()) {
         (Some(code), _) => Err(code),
         (None, Some(order)) => Ok(narrow(&order)),
         (None, None) => Err(refused(12, on_cycle(q.contours, q.pairs).expect("the original met a cycle"))),
     };
-    same(what, ours, theirs)?;
-    Ok(7)
+    same(|| format!("order of {} by {:?}", q.contours, q.pairs), ours, theirs)
 }
 
 /// Lists of pairs of every kind: without and with cycles, ids beyond the count, and the limits from both sides.
