@@ -5,10 +5,11 @@ use std::path::PathBuf;
 use std::{env, fs};
 
 /// The parts of the comparison, and a door that each needs.
-const PARTS: [(&str, &str, &str); 9] = [
+const PARTS: [(&str, &str, &str); 10] = [
     ("root", "probe", "probe_root"),
     ("cost", "probe", "probe_sequence_cost"),
-    ("hierarchy", "probe", "probe_topological_sort"),
+    ("hierarchy", "probe", "probe_is_valid_sequence"),
+    ("order", "probe", "probe_topological_sort"),
     ("candidates", "probe", "probe_candidates"),
     ("table", "probe", "probe_evaluate"),
     ("start", "probe", "probe_start"),

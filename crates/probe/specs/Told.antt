@@ -1,4 +1,5 @@
 -- How a door tells an answer: one number, and what is lent afterwards. Assumes nothing.
+use mathlib.Core.Bool.{cond}
 use Prim.Native.Nat.{ℕ}
 use lib.Ieee.{Float}
 use Rattle.answer.specs.declared.Check.the-variants.{Refused}
@@ -10,6 +11,10 @@ use Rattle.cost.specs.declared.Measured.the-variants.{Is as LengthIs, Refused a
 use Rattle.cost.specs.declared.Nearest.{Nearest}
 use Rattle.cost.specs.declared.Closest.{Closest}
 use Rattle.cost.specs.declared.Closest.the-variants.{At, Nowhere, Refused as ClosestRefused}
+use Rattle.hierarchy.specs.declared.Count.{Count}
+use Rattle.hierarchy.specs.declared.Count.the-variants.{Is as CountIs, Refused as CountRefused}
+use Rattle.hierarchy.specs.declared.Verdict.{Verdict}
+use Rattle.hierarchy.specs.declared.Verdict.the-variants.{Is as VerdictIs, Refused as VerdictRefused}
 
 -- a root: 0, or the refusal
 abbrev pub rootCode : Rooted → ℕ
@@ -42,3 +47,18 @@ abbrev pub nearestOr : {A : Type 0} → Closest → (Nearest → A) → A → A
 nearestOr (At n) part kept = part n
 nearestOr Nowhere part kept = kept
 nearestOr (ClosestRefused r) part kept = kept
+
+-- a count: 0, or the refusal
+abbrev pub countCode : Count → ℕ
+countCode (CountIs x) = 0
+countCode (CountRefused r) = codeOf (Refused r)
+
+-- the number lent for it, afterwards
+abbrev pub countOr : Count → ℕ → ℕ
+countOr (CountIs x) kept = x
+countOr (CountRefused r) kept = kept
+
+-- a verdict: 1 for yes, 0 for no, or the refusal
+abbrev pub verdictCode : Verdict → ℕ
+verdictCode (VerdictIs b) = cond b 1 0
+verdictCode (VerdictRefused r) = codeOf (Refused r)

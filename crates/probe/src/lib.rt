@@ -1,17 +1,22 @@
 // Test doors: inner functions under plain names for C and Rust, for comparisons and speed runs only. A door forwards, and
 // promises what the function behind it promises: it answers 0 and writes, or answers the refusal as one number and keeps all it is lent.
 ghost use mathlib.Core.Path.{_≡_};
-ghost use Rattle.probe.specs.Told.{rootCode, rootOr, lengthCode, lengthOr, closestCode, nearestOr};
+ghost use Rattle.probe.specs.Told.{rootCode, rootOr, lengthCode, lengthOr, closestCode, nearestOr, countCode, countOr, verdictCode};
 ghost use Rattle.root.specs.Root.{sqrtOf, rootOf};
 ghost use Rattle.cost.specs.Points.{point};
 ghost use Rattle.cost.specs.Distance.{distanceOf, pointDistanceOf, pointDistanceSqOf};
 ghost use Rattle.cost.specs.Closest.{closestOnPolygonOf};
 ghost use Rattle.cost.specs.Rapid.{totalRapidOf};
 ghost use Rattle.cost.specs.Sequence.{sequenceCostOf};
+ghost use Rattle.answer.specs.Code.{codeOf};
+ghost use Rattle.hierarchy.specs.Questions.{numContours, precedencesOf, violatesOf, predecessorsOf, successorsOf, validSequence};
 use answer::Check;
 use answer::Point;
+use closure::PAIRS;
 use cost::Closest;
 use cost::Measured;
+use hierarchy::Count;
+use hierarchy::Verdict;
 use root::Rooted;
 
 // Tells a root.
@@ -148,4 +153,115 @@ pub extern "C" fn probe_closest(
         t,
         vertex,
     )
+}
+
+// Tells a number of things.
+fn tell_count(a: Count, out: &mut usize) -> u64
+    ensures { λ r. ⌜ r ≡ countCode a ⌝ }
+    ensures { λ _. ⌜ now (out .exit) ≡ countOr a (now (out .entry)) ⌝ }
+{
+    match a {
+        Count::Is(x) => {
+            *out = x;
+            0
+        }
+        Count::Refused(r) => answer::code(Check::Refused(r)),
+    }
+}
+
+#[no_mangle]
+pub extern "C" fn probe_num_contours(contours: usize, pairs: &[u32], out: &mut usize) -> u64
+    ensures { λ r. ⌜ r ≡ countCode (numContours contours (now (pairs .entry))) ⌝ }
+    ensures { λ _. ⌜ now (out .exit) ≡ countOr (numContours contours (now (pairs .entry))) (now (out .entry)) ⌝ }
+{
+    tell_count(hierarchy::num_contours(contours, pairs), out)
+}
+
+// Tells yes as 1 and no as 0.
+fn tell_verdict(a: Verdict) -> u64
+    ensures { λ r. ⌜ r ≡ verdictCode a ⌝ }
+{
+    match a {
+        Verdict::Is(yes) => {
+            if yes {
+                return 1;
+            }
+            0
+        }
+        Verdict::Refused(r) => answer::code(Check::Refused(r)),
+    }
+}
+
+#[no_mangle]
+pub extern "C" fn probe_violates(contours: usize, pairs: &[u32], a: u32, b: u32) -> u64
+    ensures { λ r. ⌜ r ≡ verdictCode (violatesOf contours (now (pairs .entry)) a b) ⌝ }
+{
+    tell_verdict(hierarchy::violates(contours, pairs, a, b))
+}
+
+#[no_mangle]
+pub extern "C" fn probe_is_valid_sequence(contours: usize, pairs: &[u32], ids: &[u32]) -> u64
+    ensures { λ r. ⌜ r ≡ verdictCode (validSequence contours (now (pairs .entry)) (now (ids .entry))) ⌝ }
+{
+    tell_verdict(hierarchy::is_valid_sequence(contours, pairs, ids))
+}
+
+// A list comes as the whole array that it stands in, and its length.
+#[no_mangle]
+pub extern "C" fn probe_precedences(
+    contours: usize,
+    pairs: &[u32],
+    ids: &mut [u32; 2 * PAIRS],
+    count: &mut usize,
+) -> u64
+    ensures { λ r. ⌜ r ≡ codeOf (precedencesOf contours (now (pairs .entry)) .check) ⌝ }
+    ensures { λ _. ⌜ now (ids .exit) ≡ precedencesOf contours (now (pairs .entry)) .ids ⌝ }
+    ensures { λ _. ⌜ now (count .exit) ≡ precedencesOf contours (now (pairs .entry)) .count ⌝ }
+{
+    let a = hierarchy::precedences(contours, pairs);
+    let list = a.ids;
+    *ids = list;
+    *count = a.count;
+    let check = a.check;
+    answer::code(check)
+}
+
+#[no_mangle]
+pub extern "C" fn probe_predecessors(
+    contours: usize,
+    pairs: &[u32],
+    id: u32,
+    ids: &mut [u32; PAIRS],
+    count: &mut usize,
+) -> u64
+    ensures { λ r. ⌜ r ≡ codeOf (predecessorsOf contours (now (pairs .entry)) id .check) ⌝ }
+    ensures { λ _. ⌜ now (ids .exit) ≡ predecessorsOf contours (now (pairs .entry)) id .ids ⌝ }
+    ensures { λ _. ⌜ now (count .exit) ≡ predecessorsOf contours (now (pairs .entry)) id .count ⌝ }
+{
+    let a = hierarchy::predecessors(contours, pairs, id);
+    let list = a.ids;
+    *ids = list;
+    *count = a.count;
+    let check = a.check;
+    answer::code(check)
+}
+
+#[no_mangle]
+pub extern "C" fn probe_successors(
+    contours: usize,
+    pairs: &[u32],
+    id: u32,
+    ids: &mut [u32; PAIRS],
+    count: &mut usize,
+) -> u64
+    ensures { λ r. ⌜ r ≡ codeOf (successorsOf contours (now (pairs .entry)) id .check) ⌝ }
+    ensures { λ _. ⌜ now (ids .exit) ≡ successorsOf contours (now (pairs .entry)) id .ids ⌝ }
+    ensures { λ _. ⌜ now (count .exit) ≡ successorsOf contours (now (pairs .entry)) id .count ⌝ }
+{
+    let a = hierarchy::successors(contours, pairs, id);
+    let list = a.ids;
+    *ids = list;
+    *count = a.count;
+    let check = a.check;
+    answer::code(check)
 }

@@ -3,10 +3,15 @@
 //! on from seed to seed until the time is over.
 
 use oracle::run::Wanted;
-use oracle::{check, cost, root, tour};
+use oracle::{check, cost, hierarchy, root, tour};
 
-const PARTS: [(&str, fn(Wanted) -> bool); 4] =
-    [("root", root::compare), ("cost", cost::compare), ("check", check::compare), ("tour", tour::compare)];
+const PARTS: [(&str, fn(Wanted) -> bool); 5] = [
+    ("root", root::compare),
+    ("cost", cost::compare),
+    ("hierarchy", hierarchy::compare),
+    ("check", check::compare),
+    ("tour", tour::compare),
+];
 
 fn main() {
     let mut wanted = Wanted { seed: 1, percent: 100 };
