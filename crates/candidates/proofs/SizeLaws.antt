@@ -1,0 +1,197 @@
+-- The candidates of a contour with good coordinates lie where every distance is finite. Assumes nothing.
+use mathlib.Core.Path.{_≡_, refl, sym}
+use mathlib.Core.Bool.{Bool, true, false, cond}
+use mathlib.Core.List.{List, [], _∷_}
+use Prim.Native.Nat.{ℕ, zero, suc, _+_, _-_, _*_, _≤_, _<_, min}
+use native.Mathlib.Nat.{le-trans, le-of-eq, mul-one, one-mul, mul-le-mul-right, not-suc-le-zero, le-of-suc-le-suc, zero-lt-suc}
+use Prim.Native.Nat.{suc-le-suc}
+use native.Mathlib.Omega.{arith}
+use lib.Dec.{eqb, lit≤}
+use lib.IntN.{pos}
+use lib.ListN.{length, getD}
+use lib.Ieee.{Float, nan, inf, fin, binary64, down, add, sub, mul, div, lt, ofInt, ofBits}
+use lib.Ieee.Exact.{HasValue}
+use lib.Ieee.Back.{round-whole}
+use Rattle.answer.specs.declared.Point.{Point}
+use Rattle.answer.specs.declared.CutDirection.{CutDirection}
+use Rattle.answer.specs.declared.Found.the-variants.{Absent}
+use Rattle.answer.proofs.LowestLaws.{is-absent}
+use Rattle.cost.specs.declared.Ends.{Ends}
+use Rattle.cost.specs.Points.{point, nowhere, points, closing, edges}
+use Rattle.cost.specs.Bad.{badPoint, badAt, firstBad}
+use Rattle.cost.specs.Closest.{zero64, tiny, alongOf}
+use Rattle.cost.proofs.PointLaws.{edges-length}
+use Rattle.cost.proofs.SizeLaws.{Under, Plus, Over, Near, under-more, plus-under, plus-more, near-more, add-under, sub-under, add-plus, mul-under, div-under, rem-under, distance-plus, good-near, not-tiny}
+use Rattle.candidates.specs.declared.Spot.{Spot}
+use Rattle.candidates.specs.declared.Candidate.{Candidate}
+use Rattle.candidates.specs.Along.{lengthOf, around, perimeterOf, spot, reaches, onEdge, spotFrom, lastSpot, spotAt}
+use Rattle.candidates.specs.Generate.{mostCandidates, candidateAt, blank, target, spaced, candidatesFrom, candidatesOf}
+use Rattle.candidates.specs.Question.{mostVertices}
+use Rattle.candidates.proofs.FillLaws.{spaced-length}
+
+-- ---- every vertex is good, so is every edge's end
+
+abbrev pub AllGood : List Point → Type 0
+AllGood ps = (j : ℕ) → j < length ps → badPoint (getD ps j nowhere) ≡ false
+
+pub all-good : (numbers : List Float) (count : ℕ) → firstBad numbers count ≡ Absent → length (points numbers) ≤ count → AllGood (points numbers)
+unfolding firstBad badAt
+all-good numbers count e h j l = is-absent (badAt numbers) count e j (omega arith)
+
+abbrev Ended : Ends → Type 0
+Ended e = Near 20 (e .start) × Near 20 (e .finish)
+
+abbrev AllEnded : List Ends → Type 0
+AllEnded [] = Unit
+AllEnded (e ∷ more) = Ended e × AllEnded more
+
+closing-ended : (first p : Point) (rest : List Point) → Near 20 first → Near 20 p → AllGood rest → AllEnded (closing first p rest)
+unfolding closing
+closing-ended first p [] f n good = ((n, f), tt)
+closing-ended first p (q ∷ more) f n good =
+    let m = good-near q (good 0 (zero-lt-suc (length more))) in
+    ((n, m), closing-ended first q more f m (λ j h. good (suc j) (suc-le-suc h)))
+
+edges-ended : (ps : List Point) → AllGood ps → AllEnded (edges ps)
+unfolding edges
+edges-ended [] good = tt
+edges-ended (p ∷ more) good =
+    let n = good-near p (good 0 (zero-lt-suc (length more))) in
+    closing-ended p p more n n (λ j h. good (suc j) (suc-le-suc h))
+
+length-plus : (e : Ends) → Ended e → Plus 25 (lengthOf e)
+length-plus e n = distance-plus 20 (e .start) (e .finish) (lit≤ tt) (n .0) (n .1)
+
+-- ---- the way around
+
+around-plus : (sum : Float) (es : List Ends) (j : ℕ) → AllEnded es → 25 ≤ j → j + 2 * length es ≤ 1000 → Plus j sum → Plus (j + 2 * length es) (around sum es)
+unfolding around
+around-plus sum [] j n low high u = plus-more sum (omega arith) u
+around-plus sum (e ∷ more) j n low high u =
+    let w = add-plus j sum (lengthOf e) (omega arith) u (plus-more (lengthOf e) low (length-plus e (n .0))) in
+    plus-more (around (add binary64 sum (lengthOf e)) more) (omega arith) (around-plus (add binary64 sum (lengthOf e)) more (suc (suc j)) (n .1) (omega arith) (omega arith) w)
+
+zero-plus : Plus 25 zero64
+unfolding ofBits
+zero-plus = (refl, lit≤ tt)
+
+perimeter-plus : (ps : List Point) → AllGood ps → length ps ≤ mostVertices → Plus 85 (perimeterOf ps)
+unfolding perimeterOf
+perimeter-plus ps good few =
+    let e = edges-length ps in
+    plus-more (around zero64 (edges ps)) (omega arith) (around-plus zero64 (edges ps) 25 (edges-ended ps good) (lit≤ tt) (omega arith) zero-plus)
+
+-- ---- how far along
+
+-- small whole numbers are themselves
+whole-under : (x : Float) (c : ℕ) → HasValue x false c 1 → c ≤ 8 → Under 4 x
+whole-under nan c v h = absurd v
+whole-under (inf s) c v h = absurd v
+whole-under (fin s m e) c v h = le-trans (le-of-eq (rw mul-one at (v .1))) (mul-le-mul-right (down e) (le-trans h (lit≤ tt)))
+
+whole-over : (x : Float) (c : ℕ) → HasValue x false c 1 → 0 < c → Over 0 x
+whole-over nan c v h = absurd v
+whole-over (inf s) c v h = absurd v
+whole-over (fin s m e) c v h = le-trans (le-of-eq (one-mul-back (down e))) (le-trans (mul-le-mul-right (down e) h) (le-of-eq (sym (v .1))))
+  where
+    one-mul-back : (d : ℕ) → d ≡ 1 * d
+    one-mul-back d = sym (one-mul d)
+
+int-value : (c : ℕ) → c ≤ 8 → HasValue (ofInt binary64 (pos c)) false c 1
+unfolding ofInt
+int-value c h = round-whole binary64 false c (le-trans h (lit≤ tt))
+
+target-under : (total : Float) (c k : ℕ) → Plus 85 total → lt total tiny ≡ false → 0 < c → c ≤ 8 → k < c → Under 92 (target total c k)
+unfolding target
+target-under total c k u h low high less =
+    let w = not-tiny 85 total u h in
+    let spacing = div-under 85 0 total (ofInt binary64 (pos c)) (lit≤ tt) (plus-under 85 total u) (whole-over (ofInt binary64 (pos c)) c (int-value c high) low) in
+    let far = mul-under 4 86 (ofInt binary64 (pos k)) (div binary64 total (ofInt binary64 (pos c))) (lit≤ tt) (whole-under (ofInt binary64 (pos k)) k (int-value k (omega arith)) (omega arith)) spacing in
+    rem-under 91 40 (mul binary64 (ofInt binary64 (pos k)) (div binary64 total (ofInt binary64 (pos c)))) total (lit≤ tt) far w
+
+-- ---- the place on an edge
+
+along-near : (e : Ends) (t : Float) → Ended e → Under 135 t → Near 160 (alongOf e t)
+unfolding alongOf
+along-near e t n u = record {
+  x-under = coordinate (e .start .x) (e .finish .x) (n .0 .x-under) (n .1 .x-under);
+  y-under = coordinate (e .start .y) (e .finish .y) (n .0 .y-under) (n .1 .y-under);
+}
+  where
+    coordinate : (a b : Float) → Under 20 a → Under 20 b → Under 160 (add binary64 a (mul binary64 t (sub binary64 b a)))
+    coordinate a b v w =
+        add-under 158 a (mul binary64 t (sub binary64 b a)) (lit≤ tt) (under-more a (lit≤ {m = 20} {n = 158} tt) v)
+        (mul-under 135 22 t (sub binary64 b a) (lit≤ tt) u (sub-under 20 b a (lit≤ tt) w v))
+
+edge-near : (d : Float) (i : ℕ) (before : Float) (e : Ends) → Under 92 d → Under 92 before → Ended e → Near 160 (onEdge d i before e .point)
+unfolding onEdge
+edge-near d i before e u w n = go (lt (lengthOf e) tiny) refl
+  where
+    go : (b : Bool) → lt (lengthOf e) tiny ≡ b → Near 160 (cond b (spot (e .start) i) (spot (alongOf e (div binary64 (sub binary64 d before) (lengthOf e))) i) .point)
+    go true h = near-more 20 160 (e .start) (lit≤ tt) (n .0)
+    go false h =
+        along-near e (div binary64 (sub binary64 d before) (lengthOf e)) n
+        (div-under 94 40 (sub binary64 d before) (lengthOf e) (lit≤ tt) (sub-under 92 d before (lit≤ tt) u w) (not-tiny 25 (lengthOf e) (length-plus e n) h))
+
+spot-near : (last : Spot) (d : Float) (i : ℕ) (before : Float) (es : List Ends) (j : ℕ)
+    → Near 160 (last .point) → Under 92 d → AllEnded es → 25 ≤ j → j + 2 * length es ≤ 85 → Plus j before → Near 160 (spotFrom last d i before es .point)
+unfolding spotFrom
+spot-near last d i before [] j l u n low high w = l
+spot-near last d i before (e ∷ more) j l u n low high w =
+    go (reaches d before after)
+    (spot-near last d (suc i) after more (suc (suc j)) l u (n .1) (omega arith) (omega arith) (add-plus j before (lengthOf e) (omega arith) w (plus-more (lengthOf e) low (length-plus e (n .0)))))
+  where
+    after : Float
+    after = add binary64 before (lengthOf e)
+
+    go : (b : Bool) → Near 160 (spotFrom last d (suc i) after more .point) → Near 160 (cond b (onEdge d i before e) (spotFrom last d (suc i) after more) .point)
+    go true f = edge-near d i before e u (under-more before (omega arith) (plus-under j before w)) (n .0)
+    go false f = f
+
+-- ---- the candidates
+
+module _ (ps : List Point) (good : AllGood ps) (few : length ps ≤ mostVertices) (some : 0 < length ps) where
+  vertex-near : (j : ℕ) → j < length ps → Near 160 (getD ps j nowhere)
+  vertex-near j h = near-more 20 160 (getD ps j nowhere) (lit≤ tt) (good-near (getD ps j nowhere) (good j h))
+
+  spot-at-near : (d : Float) → Under 92 d → Near 160 (spotAt ps d .point)
+  unfolding spotAt lastSpot
+  spot-at-near d u =
+      let e = edges-length ps in
+      spot-near (lastSpot ps) d 0 zero64 (edges ps) 25 (vertex-near (length ps - 1) (omega arith)) u (edges-ended ps good) (lit≤ tt) (omega arith) zero-plus
+
+  spaced-near : (way : CutDirection) (c k n : ℕ) → lt (perimeterOf ps) tiny ≡ false → 0 < c → c ≤ 8 → k + n ≤ c
+      → (j : ℕ) → j < n → Near 160 (point (getD (spaced way ps (perimeterOf ps) c k n) j blank .x) (getD (spaced way ps (perimeterOf ps) c k n) j blank .y))
+  unfolding spaced
+  spaced-near way c k zero h low high fit j less = absurd (not-suc-le-zero less)
+  spaced-near way c k (suc n) h low high fit zero less =
+      spot-at-near (target (perimeterOf ps) c k) (target-under (perimeterOf ps) c k (perimeter-plus ps good few) h low high (omega arith))
+  spaced-near way c k (suc n) h low high fit (suc j) less = spaced-near way c (suc k) n h low high (omega arith) j (le-of-suc-le-suc less)
+
+  from-near : (way : CutDirection) (v : Point) (c : ℕ) → Near 160 v → c ≤ 8
+      → (j : ℕ) → j < length (candidatesFrom way v ps c) → Near 160 (point (getD (candidatesFrom way v ps c) j blank .x) (getD (candidatesFrom way v ps c) j blank .y))
+  unfolding candidatesFrom
+  from-near way v c n high = go (eqb c 1) (lt (perimeterOf ps) tiny) refl
+    where
+      whole : Bool → Bool → List Candidate
+      whole p q = cond p (candidateAt way (spot v 0) ∷ []) (cond q (candidateAt way (spot v 0) ∷ []) (spaced way ps (perimeterOf ps) c 0 c))
+
+      one : (j : ℕ) → j < 1 → Near 160 (point (getD (candidateAt way (spot v 0) ∷ []) j blank .x) (getD (candidateAt way (spot v 0) ∷ []) j blank .y))
+      one zero h = n
+      one (suc j) h = absurd (not-suc-le-zero (le-of-suc-le-suc h))
+
+      go : (p q : Bool) → lt (perimeterOf ps) tiny ≡ q → (j : ℕ) → j < length (whole p q) → Near 160 (point (getD (whole p q) j blank .x) (getD (whole p q) j blank .y))
+      go true q e j h = one j h
+      go false true e j h = one j h
+      go false false e j h =
+          let l = spaced-length way ps (perimeterOf ps) c 0 c in
+          spaced-near way c 0 c e (omega arith) high (omega arith) j (omega arith)
+
+-- every candidate of a contour that was not refused lies within 2^160, so its distance to any other such point, home too, is finite (`distance-below`)
+pub each-near : (way : CutDirection) (ps : List Point) (c : ℕ) → AllGood ps → length ps ≤ mostVertices
+    → (k : ℕ) → k < length (candidatesOf way ps c) → Near 160 (point (getD (candidatesOf way ps c) k blank .x) (getD (candidatesOf way ps c) k blank .y))
+unfolding candidatesOf
+each-near way [] c good few k h = absurd (not-suc-le-zero h)
+each-near way (v ∷ more) c good few k h =
+    let some = zero-lt-suc (length more) in
+    from-near (v ∷ more) good few some way v (min c mostCandidates) (vertex-near (v ∷ more) good few some 0 some) (omega arith) k h
