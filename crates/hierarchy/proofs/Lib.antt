@@ -2,3 +2,4 @@ pub mod PlaceLaws
 pub mod CheckLaws
 pub mod FillLaws
 pub mod SortLaws
+pub mod CountLaws
