@@ -103,6 +103,7 @@ leads-on link (suc k) i m j h p q = go (eq-or-lt-of-le (le-of-suc-le-suc h)) (le
     parts rec l (inl a) (inr b) = through link k i j (rec i m k l a (and-first (leads link k m k) (leads link k k j) b)) (and-second (leads link k m k) (leads link k k j) b)
     parts rec l (inr a) (inl b) = through link k i j (and-first (leads link k i k) (leads link k k m) a) (rec k m j l (and-second (leads link k i k) (leads link k k m) a) b)
     parts rec l (inr a) (inr b) = through link k i j (and-first (leads link k i k) (leads link k k m) a) (and-second (leads link k m k) (leads link k k j) b)
+
     go : (m ≡ k) ⊎ (m < k) → ((i m j : ℕ) → m < k → leads link k i m ≡ true → leads link k m j ≡ true → leads link k i j ≡ true) → leads link (suc k) i j ≡ true
     go (inl e) rec = through link k i j (leads-to link k i (rw e at p)) (leads-from link k j (rw e at q))
     go (inr l) rec = parts rec l (ways link k i m p) (ways link k m j q)

@@ -139,9 +139,12 @@ different-count : (n : ℕ) (l : List ℕ) (m : ℕ) → Different n l m → m �
 different-count n l zero d = omega arith
 different-count n l (suc m) d =
     let rec : m ≤ count (met l m) n = different-count n l m (fewer n l (suc m) m (omega arith) d) in
-    omega (arith, count-more (met l m) (met l (suc m)) n (getD l m 0)
-    (λ j h t. let f = met-at l m j t in met-is l (suc m) j (f .0) (omega (arith, f .1)) (f .2))
-    (d .within m (omega arith)) (met-not n l (suc m) m (omega arith) d) (met-is l (suc m) (getD l m 0) m (omega arith) refl))
+    omega (
+      arith,
+      count-more (met l m) (met l (suc m)) n (getD l m 0)
+          (λ j h t. let f = met-at l m j t in met-is l (suc m) j (f .0) (omega (arith, f .1)) (f .2))
+          (d .within m (omega arith)) (met-not n l (suc m) m (omega arith) d) (met-is l (suc m) (getD l m 0) m (omega arith) refl),
+    )
 
 -- there are at most n of them
 pub different-few : (n : ℕ) (l : List ℕ) (m : ℕ) → Different n l m → m ≤ n
