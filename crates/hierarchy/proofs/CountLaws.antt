@@ -89,7 +89,7 @@ module _ (n : ℕ) (link : ℕ → ℕ → Bool) (low : Within n link) (free : (
 -- ---- n different positions below n are all of them
 
 -- some place below m passes the test
-pub anyBelow : (ℕ → Bool) → ℕ → Bool
+unfoldable pub anyBelow : (ℕ → Bool) → ℕ → Bool
 anyBelow test zero = false
 anyBelow test (suc m) = anyBelow test m || test m
 
@@ -156,3 +156,45 @@ different-all n l d k h = ⊎-elim
     (λ (t : met l n k ≡ true). t)
     (λ (f : met l n k ≡ false). absurd (let m : count (met l n) n < count (λ _. true) n = count-more (met l n) (λ _. true) n k (λ j i t. refl) h f refl in omega (arith, different-count n l n d, count-le (λ _. true) n)))
     (yes-or-no (met l n k))
+
+-- ---- a list that has all n positions has at least n entries
+
+bit-or : (a b : Bool) → bit (a || b) ≤ bit a + bit b
+unfolding bit
+bit-or true b = omega arith
+bit-or false b = omega arith
+
+count-or : (test other : ℕ → Bool) (n : ℕ) → count (λ j. test j || other j) n ≤ count test n + count other n
+unfolding count
+count-or test other zero = omega arith
+count-or test other (suc n) = omega (arith, count-or test other n, bit-or (test n) (other n))
+
+count-none : (x n : ℕ) → n ≤ x → count (λ j. eqb x j) n ≡ 0
+unfolding count bit
+count-none x zero h = refl
+count-none x (suc n) h = rw (count-none x n (omega arith), ne-eqb x n (omega arith)) (omega arith)
+
+count-one : (x n : ℕ) → count (λ j. eqb x j) n ≤ 1
+unfolding count bit
+count-one x zero = omega arith
+count-one x (suc n) = ⊎-elim
+    (λ (e : x ≡ n). rw (count-none x n (omega arith)) (omega (arith, bit-le (eqb x n))))
+    (λ (d : x ≡ n → ⊥). rw (ne-eqb x n d) (omega (arith, count-one x n))) (same-or x n)
+
+count-false : (n : ℕ) → count (λ _. false) n ≤ 0
+unfolding count bit
+count-false zero = omega arith
+count-false (suc n) = omega (arith, count-false n)
+
+count-met : (l : List ℕ) (m n : ℕ) → count (met l m) n ≤ m
+unfolding anyBelow
+count-met l zero n = count-false n
+count-met l (suc m) n = omega (arith, count-or (met l m) (λ j. eqb (getD l m 0) j) n, count-met l m n, count-one (getD l m 0) n)
+
+count-all : (test : ℕ → Bool) (n : ℕ) → ((j : ℕ) → j < n → test j ≡ true) → n ≤ count test n
+unfolding count bit
+count-all test zero h = omega arith
+count-all test (suc n) h = rw (h n (omega arith)) (omega (arith, count-all test n (λ j l. h j (omega arith))))
+
+pub all-many : (n : ℕ) (l : List ℕ) (m : ℕ) → ((k : ℕ) → k < n → met l m k ≡ true) → n ≤ m
+all-many n l m h = omega (arith, count-all (met l m) n h, count-met l m n)

@@ -4,3 +4,4 @@ pub mod FillLaws
 pub mod SortLaws
 pub mod CountLaws
 pub mod OrderLaws
+pub mod SortedLaws
