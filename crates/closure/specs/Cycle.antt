@@ -2,7 +2,7 @@
 use mathlib.Core.Bool.{Bool, true, false, _&&_, _||_}
 use mathlib.Core.Path.{_≡_}
 use mathlib.Core.List.{List, [], _∷_}
-use Prim.Native.Nat.{ℕ, zero, suc, min}
+use Prim.Native.Nat.{ℕ, zero, suc, _<_, min}
 use lib.Dec.{ltb}
 use Rattle.answer.specs.declared.Found.{Found}
 use Rattle.answer.specs.Lowest.{lowest, lowestFrom}
@@ -18,6 +18,10 @@ linked n pairs i j = ltb i n && (ltb j n && someOf (isPair i j) (paired pairs))
 pub data Reaches (link : ℕ → ℕ → Bool) : ℕ → ℕ → Type 0 where
   step : {i j : ℕ} → link i j ≡ true → Reaches link i j
   onward : {i m j : ℕ} → link i m ≡ true → Reaches link m j → Reaches link i j
+
+-- no position below n reaches itself
+abbrev pub Acyclic : ℕ → List ℕ → Type 0
+Acyclic n pairs = (i : ℕ) → i < n → Reaches (linked n pairs) i i → ⊥
 
 -- links lead from i to j, through positions below k on the way
 unfoldable pub leads : (ℕ → ℕ → Bool) → ℕ → ℕ → ℕ → Bool

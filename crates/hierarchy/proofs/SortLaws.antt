@@ -233,11 +233,11 @@ pub record SettlePart (n : ℕ) (pairs : List ℕ) (i : ℕ) (s : Sorting) (w o 
 pub settle-none : (n : ℕ) (pairs w o : List ℕ) (k : ℕ) → Sound w o k → SettlePart n pairs 0 (standing w o k) w o k
 settle-none n pairs w o k sound = record { sound = sound; left = refl }
 
-settled-step : (most n : ℕ) (ps : List Pair) (i : ℕ) (s : Sorting) → i < length (s .order) → settled (suc most) n ps i s ≡ settled most n ps (suc i) (released n (getD (s .order) i 0) ps s)
+pub settled-step : (most n : ℕ) (ps : List Pair) (i : ℕ) (s : Sorting) → i < length (s .order) → settled (suc most) n ps i s ≡ settled most n ps (suc i) (released n (getD (s .order) i 0) ps s)
 unfolding settled
 settled-step most n ps i s h = rw (lt-ltb i (length (s .order)) h)
 
-settled-end : (most n : ℕ) (ps : List Pair) (i : ℕ) (s : Sorting) → length (s .order) ≤ i → settled most n ps i s ≡ s
+pub settled-end : (most n : ℕ) (ps : List Pair) (i : ℕ) (s : Sorting) → length (s .order) ≤ i → settled most n ps i s ≡ s
 unfolding settled
 settled-end zero n ps i s h = refl
 settled-end (suc most) n ps i s h = rw (le-ltb i (length (s .order)) h)
@@ -293,7 +293,7 @@ free-room w n h =
     let e : heldCount w ≡ heldCount (take n w) + heldCount (drop n w) = ap heldCount (sym (take-append-drop n w)) ∙ held-append (take n w) (drop n w) in
     omega (arith, free-take w n h, held-le (drop n w), length-drop n w)
 
-tallied-length : (n : ℕ) (ps : List Pair) (w : List ℕ) → length (tallied n ps w) ≡ length w
+pub tallied-length : (n : ℕ) (ps : List Pair) (w : List ℕ) → length (tallied n ps w) ≡ length w
 unfolding tallied
 tallied-length n [] w = refl
 tallied-length n (p ∷ more) w = tallied-length n more (cond (both n p) (heldBack w (p .after)) w) ∙ go (both n p)

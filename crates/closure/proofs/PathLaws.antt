@@ -1,0 +1,134 @@
+-- `leads` says yes exactly where a path is: links that lead from one position to another. Assumes nothing.
+use mathlib.Core.Bool.{Bool, true, false, _&&_, _||_}
+use mathlib.Core.Path.{_≡_, refl, sym, ap, _∙_, subst}
+use mathlib.Core.Logic.{_⊎_, inl, inr, ⊎-elim, _↔_}
+use mathlib.Core.List.{List}
+use Prim.Native.Nat.{ℕ, zero, suc, _≤_, _<_}
+use native.Mathlib.Nat.{eq-or-lt-of-le, le-of-suc-le-suc, not-suc-le-zero}
+use native.Mathlib.Omega.{arith}
+use lib.Dec.{ltb}
+use borrow.Author.Tests.{ltb-true}
+use Rattle.answer.specs.declared.Found.{Found}
+use Rattle.answer.specs.Lowest.{lowest}
+use Rattle.answer.proofs.LowestLaws.{LowestAt, Nowhere, at-is, absent-is, is-at, is-absent}
+use Rattle.closure.specs.Pairs.{paired, someOf, isPair}
+use Rattle.closure.specs.Cycle.{linked, Reaches, step, onward, leads, onCycle, Acyclic}
+
+-- ---- yes and no
+
+pub or-cases : (a b : Bool) → (a || b) ≡ true → (a ≡ true) ⊎ (b ≡ true)
+or-cases true b e = inl refl
+or-cases false b e = inr e
+
+pub or-left : (a b : Bool) → a ≡ true → (a || b) ≡ true
+or-left a b e = rw e
+
+pub or-right : (a b : Bool) → b ≡ true → (a || b) ≡ true
+or-right true b e = refl
+or-right false b e = e
+
+pub and-first : (a b : Bool) → (a && b) ≡ true → a ≡ true
+and-first true b e = refl
+and-first false b e = e
+
+pub and-second : (a b : Bool) → (a && b) ≡ true → b ≡ true
+and-second true b e = e
+and-second false b e = let z : _≡_ {A = ℕ} 0 1 = cc in absurd (omega arith)
+
+pub both-true : (a b : Bool) → a ≡ true → b ≡ true → (a && b) ≡ true
+both-true a b p q = rw (p, q)
+
+pub yes-or-no : (b : Bool) → (b ≡ true) ⊎ (b ≡ false)
+yes-or-no true = inl refl
+yes-or-no false = inr refl
+
+pub true-false : {b : Bool} → b ≡ true → b ≡ false → ⊥
+true-false p q = let z : _≡_ {A = ℕ} 0 1 = cc in omega arith
+
+-- ---- paths
+
+pub reaches-on : {link : ℕ → ℕ → Bool} {i m j : ℕ} → Reaches link i m → Reaches link m j → Reaches link i j
+reaches-on (step e) r = onward e r
+reaches-on (onward e q) r = onward e (reaches-on q r)
+
+-- what leads says yes to has a path
+pub leads-reaches : (link : ℕ → ℕ → Bool) (k i j : ℕ) → leads link k i j ≡ true → Reaches link i j
+unfolding leads
+leads-reaches link zero i j e = step e
+leads-reaches link (suc k) i j e =
+    go (or-cases (leads link k i j) (leads link k i k && leads link k k j) e) (leads-reaches link k i j) (leads-reaches link k i k) (leads-reaches link k k j)
+  where
+    go : (leads link k i j ≡ true) ⊎ ((leads link k i k && leads link k k j) ≡ true) → (leads link k i j ≡ true → Reaches link i j) → (leads link k i k ≡ true → Reaches link i k) → (leads link k k j ≡ true → Reaches link k j) → Reaches link i j
+    go (inl p) direct to from = direct p
+    go (inr q) direct to from = reaches-on (to (and-first (leads link k i k) (leads link k k j) q)) (from (and-second (leads link k i k) (leads link k k j) q))
+
+-- a way through fewer positions is a way through more
+leads-grows : (link : ℕ → ℕ → Bool) (k i j : ℕ) → leads link k i j ≡ true → leads link (suc k) i j ≡ true
+unfolding leads
+leads-grows link k i j e = or-left (leads link k i j) (leads link k i k && leads link k k j) e
+
+leads-link : (link : ℕ → ℕ → Bool) (k i j : ℕ) → link i j ≡ true → leads link k i j ≡ true
+unfolding leads
+leads-link link zero i j e = e
+leads-link link (suc k) i j e = leads-grows link k i j (leads-link link k i j e)
+
+-- to k itself, or from it, k is no help on the way
+leads-to : (link : ℕ → ℕ → Bool) (k i : ℕ) → leads link (suc k) i k ≡ true → leads link k i k ≡ true
+unfolding leads
+leads-to link k i e = ⊎-elim (λ (p : leads link k i k ≡ true). p) (λ (q : (leads link k i k && leads link k k k) ≡ true). and-first (leads link k i k) (leads link k k k) q) (or-cases (leads link k i k) (leads link k i k && leads link k k k) e)
+
+leads-from : (link : ℕ → ℕ → Bool) (k j : ℕ) → leads link (suc k) k j ≡ true → leads link k k j ≡ true
+unfolding leads
+leads-from link k j e = ⊎-elim (λ (p : leads link k k j ≡ true). p) (λ (q : (leads link k k k && leads link k k j) ≡ true). and-second (leads link k k k) (leads link k k j) q) (or-cases (leads link k k j) (leads link k k k && leads link k k j) e)
+
+through : (link : ℕ → ℕ → Bool) (k i j : ℕ) → leads link k i k ≡ true → leads link k k j ≡ true → leads link (suc k) i j ≡ true
+unfolding leads
+through link k i j p q = or-right (leads link k i j) (leads link k i k && leads link k k j) (both-true (leads link k i k) (leads link k k j) p q)
+
+-- a way through positions up to k goes round k or by way of it
+abbrev Ways : (ℕ → ℕ → Bool) → ℕ → ℕ → ℕ → Type 0
+Ways link k a b = (leads link k a b ≡ true) ⊎ ((leads link k a k && leads link k k b) ≡ true)
+
+ways : (link : ℕ → ℕ → Bool) (k a b : ℕ) → leads link (suc k) a b ≡ true → Ways link k a b
+unfolding leads
+ways link k a b e = or-cases (leads link k a b) (leads link k a k && leads link k k b) e
+
+-- what is reached by way of a position below k is reached
+pub leads-on : (link : ℕ → ℕ → Bool) (k i m j : ℕ) → m < k → leads link k i m ≡ true → leads link k m j ≡ true → leads link k i j ≡ true
+leads-on link zero i m j h p q = absurd (not-suc-le-zero h)
+leads-on link (suc k) i m j h p q = go (eq-or-lt-of-le (le-of-suc-le-suc h)) (leads-on link k)
+  where
+    parts : (rec : (i m j : ℕ) → m < k → leads link k i m ≡ true → leads link k m j ≡ true → leads link k i j ≡ true) → m < k → Ways link k i m → Ways link k m j → leads link (suc k) i j ≡ true
+    parts rec l (inl a) (inl b) = leads-grows link k i j (rec i m j l a b)
+    parts rec l (inl a) (inr b) = through link k i j (rec i m k l a (and-first (leads link k m k) (leads link k k j) b)) (and-second (leads link k m k) (leads link k k j) b)
+    parts rec l (inr a) (inl b) = through link k i j (and-first (leads link k i k) (leads link k k m) a) (rec k m j l (and-second (leads link k i k) (leads link k k m) a) b)
+    parts rec l (inr a) (inr b) = through link k i j (and-first (leads link k i k) (leads link k k m) a) (and-second (leads link k m k) (leads link k k j) b)
+
+    go : (m ≡ k) ⊎ (m < k) → ((i m j : ℕ) → m < k → leads link k i m ≡ true → leads link k m j ≡ true → leads link k i j ≡ true) → leads link (suc k) i j ≡ true
+    go (inl e) rec = through link k i j (leads-to link k i (rw e at p)) (leads-from link k j (rw e at q))
+    go (inr l) rec = parts rec l (ways link k i m p) (ways link k m j q)
+
+-- links lead to positions below n only
+abbrev pub Within : ℕ → (ℕ → ℕ → Bool) → Type 0
+Within n link = (i j : ℕ) → link i j ≡ true → (i < n) × (j < n)
+
+-- where there is a path, leads says yes
+pub reaches-leads : (n : ℕ) (link : ℕ → ℕ → Bool) → Within n link → {i j : ℕ} → Reaches link i j → leads link n i j ≡ true
+reaches-leads n link low (step {i} {j} e) = leads-link link n i j e
+reaches-leads n link low (onward {i} {m} {j} e r) = leads-on link n i m j (low i m e .1) (leads-link link n i m e) (reaches-leads n link low r)
+
+pub linked-within : (n : ℕ) (pairs : List ℕ) → Within n (linked n pairs)
+unfolding linked
+linked-within n pairs i j e =
+    (ltb-true i n (and-first (ltb i n) (ltb j n && someOf (isPair i j) (paired pairs)) e), ltb-true j n (and-first (ltb j n) (someOf (isPair i j) (paired pairs)) (and-second (ltb i n) (ltb j n && someOf (isPair i j) (paired pairs)) e)))
+
+-- ---- the cycle question
+
+-- a position is on a cycle exactly where pairs lead from it back to it
+pub cycle-exactly : (n : ℕ) (pairs : List ℕ) (i : ℕ) → (onCycle n pairs i ≡ true) ↔ Reaches (linked n pairs) i i
+cycle-exactly n pairs i = (leads-reaches (linked n pairs) n i i, reaches-leads n (linked n pairs) (linked-within n pairs))
+
+-- none is found exactly where no position reaches itself
+pub absent-exactly : (n : ℕ) (pairs : List ℕ) → (lowest (onCycle n pairs) n ≡ Found.Absent) ↔ Acyclic n pairs
+absent-exactly n pairs =
+    ((λ e i h r. true-false (reaches-leads n (linked n pairs) (linked-within n pairs) r) (is-absent (onCycle n pairs) n e i h)), (λ free. absent-is (onCycle n pairs) n (λ i h. ⊎-elim (λ (t : onCycle n pairs i ≡ true). absurd (free i h (leads-reaches (linked n pairs) n i i t))) (λ (f : onCycle n pairs i ≡ false). f) (yes-or-no (onCycle n pairs i)))))

@@ -1,0 +1,190 @@
+-- Legal orders: none where a position reaches itself, one is always ready where none does, and `keepsPairs` says yes exactly to them. Assumes nothing.
+use mathlib.Core.Bool.{Bool, true, false, not, _&&_, _||_, or-true}
+use mathlib.Core.Path.{_≡_, refl, sym, ap, _∙_, subst}
+use mathlib.Core.Logic.{_⊎_, inl, inr, ⊎-elim, _↔_}
+use mathlib.Core.List.{List, [], _∷_}
+use Prim.Native.Nat.{ℕ, zero, suc, _+_, _≤_, _<_}
+use native.Mathlib.Nat.{not-suc-le-zero, le-of-suc-le-suc, zero-lt-suc, add-zero, add-suc, suc-add}
+use Prim.Native.Nat.{suc-le-suc}
+use native.Mathlib.Omega.{arith}
+use lib.Dec.{eqb, ltb}
+use borrow.Author.Tests.{eq-eqb, ne-eqb, eqb-true, lt-ltb, le-ltb, ltb-true}
+use lib.ListN.{length, getD}
+use Rattle.answer.specs.declared.Check.{Check}
+use Rattle.closure.specs.Limits.{CONTOURS}
+use Rattle.closure.specs.Pairs.{Pair, paired, every, someOf, isPair}
+use Rattle.closure.specs.Cycle.{linked, Reaches, step, onward, Acyclic}
+use Rattle.closure.proofs.PairLaws.{same-or, lt-or, is-pair}
+use Rattle.closure.proofs.FlagLaws.{linked-is}
+use Rattle.closure.proofs.PathLaws.{or-cases, or-left, or-right, and-first, and-second, both-true, yes-or-no, true-false, linked-within}
+use Rattle.hierarchy.specs.declared.Verdict.{Verdict}
+use Rattle.hierarchy.specs.Keep.{latest, lastPlace, keptAt, keptIn, keepsPairs, readyBy, readyIn}
+use Rattle.hierarchy.specs.Sort.{both}
+use Rattle.hierarchy.specs.Questions.{pairsCheck, validSequence}
+use Rattle.hierarchy.specs.Legal.{EachOnce, Legal}
+use Rattle.hierarchy.proofs.CheckLaws.{fine-small, valid-told}
+use Rattle.hierarchy.proofs.CountLaws.{Least, least, met-at, Different, different-all}
+
+-- ---- every pair of a list, one by one
+
+pub every-is : (test : Pair → Bool) (ps : List Pair) → ((b a : ℕ) → someOf (isPair b a) ps ≡ true → test (record { before = b; after = a }) ≡ true) → every test ps ≡ true
+unfolding every someOf
+every-is test [] h = refl
+every-is test (p ∷ more) h = both-true (test p) (every test more)
+    (h (p .before) (p .after) (or-left (isPair (p .before) (p .after) p) (someOf (isPair (p .before) (p .after)) more) (is-pair (p .before) (p .after) (p .before) (p .after) refl refl)))
+    (every-is test more (λ b a t. h b a (or-right (isPair b a p) (someOf (isPair b a) more) t)))
+
+pub every-at : (test : Pair → Bool) (ps : List Pair) (b a : ℕ) → every test ps ≡ true → someOf (isPair b a) ps ≡ true → test (record { before = b; after = a }) ≡ true
+unfolding every someOf
+every-at test [] b a e t = let z : _≡_ {A = ℕ} 0 1 = cc in absurd (omega arith)
+every-at test (p ∷ more) b a e t = go (or-cases (isPair b a p) (someOf (isPair b a) more) t) (every-at test more b a (and-second (test p) (every test more) e))
+  where
+    go : (isPair b a p ≡ true) ⊎ (someOf (isPair b a) more ≡ true) → (someOf (isPair b a) more ≡ true → test (record { before = b; after = a }) ≡ true) → test (record { before = b; after = a }) ≡ true
+    go (inl i) rec =
+        let x : p .before ≡ b = eqb-true (p .before) b (and-first (eqb (p .before) b) (eqb (p .after) a) i) in
+        let y : p .after ≡ a = eqb-true (p .after) a (and-second (eqb (p .before) b) (eqb (p .after) a) i) in
+        let q : p ≡ record { before = b; after = a } = λ j. record { before = x j; after = y j } in
+        ap test (sym q) ∙ and-first (test p) (every test more) e
+    go (inr s) rec = rec s
+
+-- below n a pair of the list is a link, and a link a pair
+pub linked-pair : (n : ℕ) (pairs : List ℕ) (b a : ℕ) → b < n → a < n → someOf (isPair b a) (paired pairs) ≡ true → linked n pairs b a ≡ true
+linked-pair n pairs b a hb ha t = linked-is n pairs b a hb ha ∙ t
+
+pub pair-linked : (n : ℕ) (pairs : List ℕ) (b a : ℕ) → linked n pairs b a ≡ true → someOf (isPair b a) (paired pairs) ≡ true
+pair-linked n pairs b a t = let h = linked-within n pairs b a t in sym (linked-is n pairs b a (h .0) (h .1)) ∙ t
+
+-- ---- each position once
+
+pub each-different : (n : ℕ) (order : List ℕ) → EachOnce n order → Different n order n
+each-different n order each = record { within = each .within; once = each .once }
+
+-- every position has its place
+pub place-of : (n : ℕ) (order : List ℕ) → EachOnce n order → (k : ℕ) → k < n → (p : ℕ) × (p < n) × (getD order p 0 ≡ k)
+place-of n order each k h = met-at order n k (different-all n order (each-different n order each) k h)
+
+-- ---- a legal order leaves no cycle
+
+path-forward : (n : ℕ) (pairs order : List ℕ) → Legal n pairs order → {i j : ℕ} → Reaches (linked n pairs) i j →
+    (p q : ℕ) → p < n → q < n → getD order p 0 ≡ i → getD order q 0 ≡ j → p < q
+path-forward n pairs order legal (step {i} {j} e) p q hp hq x y = legal .before p q hp hq (rw (x, y) e)
+path-forward n pairs order legal (onward {i} {m} {j} e r) p q hp hq x y =
+    let f = place-of n order (legal .each) m (linked-within n pairs i m e .1) in
+    let a : p < f .0 = legal .before p (f .0) hp (f .1) (rw (x, f .2) e) in
+    let b : f .0 < q = path-forward n pairs order legal r (f .0) q (f .1) hq (f .2) y in
+    omega arith
+
+pub legal-acyclic : (n : ℕ) (pairs order : List ℕ) → Legal n pairs order → Acyclic n pairs
+legal-acyclic n pairs order legal i h r =
+    let f = place-of n order (legal .each) i h in
+    let l : f .0 < f .0 = path-forward n pairs order legal r (f .0) (f .0) (f .1) (f .1) (f .2) (f .2) in
+    omega arith
+
+-- ---- where nothing reaches itself, one of the positions not yet visited is ready
+
+-- a position that is not visited, and is ready
+pub record ReadyNext (n : ℕ) (visited pairs : List ℕ) (k : ℕ) : Type 0 where
+  pub within : k < n
+  pub unvisited : getD visited k 0 ≡ 0
+  pub ready : readyIn visited pairs k ≡ true
+
+pub one-ready : (n : ℕ) (visited pairs : List ℕ) → Acyclic n pairs → every (both n) (paired pairs) ≡ true → (k : ℕ) → k < n → getD visited k 0 ≡ 0 → (m : ℕ) × ReadyNext n visited pairs m
+unfolding readyIn readyBy
+one-ready n visited pairs free low k h e = go (least n (linked n pairs) (linked-within n pairs) free waiting k h (eq-eqb (getD visited k 0) 0 e))
+  where
+    waiting : ℕ → Bool
+    waiting b = eqb (getD visited b 0) 0
+
+    go : (m : ℕ) × Least n (linked n pairs) (linked-within n pairs) free waiting m → (m : ℕ) × ReadyNext n visited pairs m
+    go (m, l) = (
+      m,
+      record {
+        within = l .within;
+        unvisited = eqb-true (getD visited m 0) 0 (l .holds);
+        ready = every-is (readyBy visited m) (paired pairs) test;
+      },
+    )
+      where
+        test : (b a : ℕ) → someOf (isPair b a) (paired pairs) ≡ true → readyBy visited m (record { before = b; after = a }) ≡ true
+        test b a t = ⊎-elim
+            (λ (x : a ≡ m). ⊎-elim
+            (λ (y : waiting b ≡ true). absurd (l .none b below y (linked-pair n pairs b m below (l .within) (rw x at t))))
+            (λ (y : waiting b ≡ false). rw (y) (or-true (not (eqb a m)))) (yes-or-no (waiting b)))
+            (λ (d : a ≡ m → ⊥). rw (ne-eqb a m d)) (same-or a m)
+          where
+            below : b < n
+            below = ltb-true b n (and-first (ltb b n) (ltb a n) (every-at (both n) (paired pairs) b a low t))
+
+-- ---- the last place of an id
+
+latest-none : (x k m : ℕ) (l : List ℕ) → ((q : ℕ) → q < length l → getD l q 0 ≡ x → ⊥) → latest x k m l ≡ m
+unfolding latest
+latest-none x k m [] h = refl
+latest-none x k m (y ∷ l) h = rw (ne-eqb y x (h 0 (zero-lt-suc (length l)))) (latest-none x (suc k) m l (λ q i. h (suc q) (suc-le-suc i)))
+
+latest-at : (x k m p : ℕ) (l : List ℕ) → p < length l → getD l p 0 ≡ x → ((q : ℕ) → p < q → q < length l → getD l q 0 ≡ x → ⊥) → latest x k m l ≡ suc (k + p)
+unfolding latest
+latest-at x k m p [] h e later = absurd (not-suc-le-zero h)
+latest-at x k m zero (y ∷ l) h e later =
+    rw (eq-eqb y x e) (latest-none x (suc k) (suc k) l (λ q i. later (suc q) (zero-lt-suc q) (suc-le-suc i)) ∙ ap suc (sym (add-zero k)))
+latest-at x k m (suc p) (y ∷ l) h e later =
+    latest-at x (suc k) _ p l (le-of-suc-le-suc h) e (λ q i j. later (suc q) (suc-le-suc i) (suc-le-suc j)) ∙ ap suc (suc-add k p ∙ sym (add-suc k p))
+
+-- what is not in the order has no last place
+pub last-none : (order : List ℕ) (x : ℕ) → ((q : ℕ) → q < length order → getD order q 0 ≡ x → ⊥) → lastPlace order x ≡ 0
+last-none order x h = latest-none x 0 0 order h
+
+-- the last place is one where the id stands, and after which it does not
+pub last-at : (order : List ℕ) (x p : ℕ) → p < length order → getD order p 0 ≡ x → ((q : ℕ) → p < q → q < length order → getD order q 0 ≡ x → ⊥) → lastPlace order x ≡ suc p
+last-at order x p h e later = latest-at x 0 0 p order h e later ∙ ap suc (native.Mathlib.Nat.zero-add p)
+
+-- ---- each position once: its last place is its place
+
+module _ (n : ℕ) (order : List ℕ) (each : EachOnce n order) where
+  pub place-last : (p : ℕ) → p < n → lastPlace order (getD order p 0) ≡ suc p
+  place-last p h = last-at order (getD order p 0) p (omega (arith, each .size)) refl
+      (λ q i j e. let s : p ≡ q = each .once p q h (omega (arith, each .size)) (sym e) in omega arith)
+
+  pub place-none : (x : ℕ) → n ≤ x → lastPlace order x ≡ 0
+  place-none x h = last-none order x (λ q i e. let l : getD order q 0 < n = each .within q (omega (arith, each .size)) in omega arith)
+
+  -- an order of each position once is legal exactly where it keeps the pairs
+  pub keeps-legal : (pairs : List ℕ) → keepsPairs order pairs ≡ true → Legal n pairs order
+  unfolding keepsPairs keptIn
+  keeps-legal pairs e = record { each = each; before = λ p q hp hq t. first p q hp hq (every-at (keptIn order) (paired pairs) (getD order p 0) (getD order q 0) e (pair-linked n pairs (getD order p 0) (getD order q 0) t)) }
+    where
+      first : (p q : ℕ) → p < n → q < n → keptAt (lastPlace order (getD order p 0)) (lastPlace order (getD order q 0)) ≡ true → p < q
+      first p q hp hq t =
+          let k : keptAt (suc p) (suc q) ≡ true = rw (place-last p hp, place-last q hq) at t in
+          let l : ltb (suc p) (suc q) ≡ true = rw (ne-eqb (suc p) 0 (omega arith), ne-eqb (suc q) 0 (omega arith)) at k in
+          omega (arith, ltb-true (suc p) (suc q) l)
+
+  pub legal-keeps : (pairs : List ℕ) → Legal n pairs order → keepsPairs order pairs ≡ true
+  unfolding keepsPairs keptIn
+  legal-keeps pairs legal = every-is (keptIn order) (paired pairs) test
+    where
+      test : (b a : ℕ) → someOf (isPair b a) (paired pairs) ≡ true → keptAt (lastPlace order b) (lastPlace order a) ≡ true
+      test b a t = ⊎-elim
+          (λ (hb : b < n). ⊎-elim (λ (ha : a < n). inside hb ha) (λ (ha : n ≤ a). rw (place-none a ha) (or-true (eqb (lastPlace order b) 0))) (lt-or a n))
+          (λ (hb : n ≤ b). rw (place-none b hb)) (lt-or b n)
+        where
+          inside : b < n → a < n → keptAt (lastPlace order b) (lastPlace order a) ≡ true
+          inside hb ha =
+              let f = place-of n order each b hb in
+              let g = place-of n order each a ha in
+              let l : f .0 < g .0 = legal .before (f .0) (g .0) (f .1) (g .1) (rw (f .2, g .2) (linked-pair n pairs b a hb ha t)) in
+              let x : lastPlace order b ≡ suc (f .0) = ap (lastPlace order) (sym (f .2)) ∙ place-last (f .0) (f .1) in
+              let y : lastPlace order a ≡ suc (g .0) = ap (lastPlace order) (sym (g .2)) ∙ place-last (g .0) (g .1) in
+              rw (x, y) (or-right (eqb (suc (f .0)) 0) (eqb (suc (g .0)) 0 || ltb (suc (f .0)) (suc (g .0))) (or-right (eqb (suc (g .0)) 0) (ltb (suc (f .0)) (suc (g .0))) (lt-ltb (suc (f .0)) (suc (g .0)) (omega arith))))
+
+  pub keeps-exactly : (pairs : List ℕ) → (keepsPairs order pairs ≡ true) ↔ Legal n pairs order
+  keeps-exactly pairs = (keeps-legal pairs, legal-keeps pairs)
+
+-- a sequence of each position once is valid exactly where it is a legal order
+pub valid-exactly : (contours : ℕ) (pairs order : List ℕ) → Check.Fine ≡ pairsCheck contours pairs → EachOnce contours order →
+    (validSequence contours pairs order ≡ Verdict.Is true) ↔ Legal contours pairs order
+valid-exactly contours pairs order fine each =
+    ((λ e. keeps-legal contours order each pairs (let s : Verdict.Is (keepsPairs order pairs) ≡ Verdict.Is true = told ∙ e in cc)), (λ legal. sym told ∙ ap Verdict.Is (legal-keeps contours order each pairs legal)))
+  where
+    told : Verdict.Is (keepsPairs order pairs) ≡ validSequence contours pairs order
+    told = valid-told contours pairs order Check.Fine fine (keepsPairs order pairs) refl (omega (arith, each .size, fine-small contours pairs fine .few)) refl
