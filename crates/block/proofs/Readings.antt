@@ -12,7 +12,7 @@ use lib.ListN.{length, take, drop, getD, length-take}
 use lib.Seq.{getD-take, getD-drop}
 use borrow.Author.Tests.{eqb-true, eq-eqb, ltb-true, ltb-false}
 use Rattle.block.specs.Field.{byteAt, u16At, u32At, u64At, f64At}
-use Rattle.block.specs.Block.{starts, allZero, zerosAt}
+use Rattle.block.specs.Block.{starts, Due, allZero, zerosAt}
 use Rattle.block.proofs.FieldLaws.{past-byte}
 
 -- ---- and, taken apart
@@ -29,13 +29,6 @@ pub and-both : (a b : Bool) → a ≡ true → b ≡ true → a && b ≡ true
 and-both a b e f = rw (e, f)
 
 -- ---- the start of a block
-
--- the first eight bytes are as due
-pub record Due (s : List ℕ) (at kind version number : ℕ) : Type 0 where
-  pub kind-is : byteAt s at ≡ kind
-  pub version-is : byteAt s (at + 1) ≡ version
-  pub number-is : u16At s (at + 2) ≡ number
-  pub zeros-are : u32At s (at + 4) ≡ 0
 
 module _ (s : List ℕ) (at kind version number : ℕ) where
   pub due-is : starts s at kind version number ≡ true → Due s at kind version number

@@ -1,4 +1,5 @@
 -- A block of 512 bytes: how it starts, its check, and bytes that are all zero. `at` is where the block begins. Assumes nothing.
+use mathlib.Core.Path.{_≡_}
 use mathlib.Core.Bool.{Bool, true, false, _&&_}
 use mathlib.Core.List.{List, [], _∷_}
 use Prim.Native.Nat.{ℕ, suc, _+_, _*_}
@@ -33,6 +34,13 @@ unfoldable pub starts : List ℕ → ℕ → ℕ → ℕ → ℕ → Bool
 unfolding u16At u32At
 starts s at kind version number =
     eqb (byteAt s at) kind && (eqb (byteAt s (at + 1)) version && (eqb (u16At s (at + 2)) number && eqb (u32At s (at + 4)) 0))
+
+-- the same in words: the first eight bytes are as due
+pub record Due (s : List ℕ) (at kind version number : ℕ) : Type 0 where
+  pub kind-is : byteAt s at ≡ kind
+  pub version-is : byteAt s (at + 1) ≡ version
+  pub number-is : u16At s (at + 2) ≡ number
+  pub zeros-are : u32At s (at + 4) ≡ 0
 
 -- every byte is 0
 unfoldable pub allZero : List ℕ → Bool

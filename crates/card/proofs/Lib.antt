@@ -5,3 +5,9 @@ pub mod SpareLaws
 pub mod FarLaws
 pub mod NameLaws
 pub mod GroupLaws
+pub mod ExactLaws
+pub mod RowLaws
+pub mod FarNumber
+pub mod FarRow
+pub mod PairRows
+pub mod Verdicts

@@ -4,3 +4,4 @@ pub mod Values
 pub mod Stages
 pub mod Names
 pub mod Verdict
+pub mod Table
