@@ -3,12 +3,13 @@
 //! on from seed to seed until the time is over.
 
 use oracle::run::Wanted;
-use oracle::{check, cost, hierarchy, root, tour};
+use oracle::{candidates, check, cost, hierarchy, root, tour};
 
-const PARTS: [(&str, fn(Wanted) -> bool); 5] = [
+const PARTS: [(&str, fn(Wanted) -> bool); 6] = [
     ("root", root::compare),
     ("cost", cost::compare),
     ("hierarchy", hierarchy::compare),
+    ("candidates", candidates::compare),
     ("check", check::compare),
     ("tour", tour::compare),
 ];
