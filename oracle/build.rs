@@ -14,7 +14,7 @@ const PARTS: [(&str, &str, &str); 10] = [
     ("table", "probe", "probe_evaluate"),
     ("start", "probe", "probe_start"),
     ("improve", "probe", "probe_improve"),
-    ("check", "tour", "jl_check"),
+    ("check", "probe", "probe_check"),
     ("tour", "tour", "jl_tour"),
 ];
 

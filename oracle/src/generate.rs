@@ -85,6 +85,14 @@ fn limit(r: &Random) -> u32 {
     }
 }
 
+/// Now and then sets a card's limit to its edge: as many trials as the search takes without one, or one more or less.
+pub fn limit_near(r: &Random, card: &mut Card, trials: impl FnOnce() -> u32) {
+    if r.one_in(6) {
+        let trials = trials();
+        card.limit = r.pick(&[trials, trials + 1, trials.max(2) - 1]);
+    }
+}
+
 /// A contour's vertices. Small steps around a corner give plain parts; some have edges of no length, or
 /// lie on one point.
 pub fn outline(r: &Random, kind: Kind) -> Vec<(f64, f64)> {

@@ -10,7 +10,11 @@ ghost use Rattle.cost.specs.Rapid.{totalRapidOf};
 ghost use Rattle.cost.specs.Sequence.{sequenceCostOf};
 ghost use Rattle.answer.specs.Code.{codeOf};
 ghost use Rattle.candidates.specs.Question.{offeredOf};
-ghost use Rattle.hierarchy.specs.Questions.{numContours, precedencesOf, violatesOf, predecessorsOf, successorsOf, validSequence};
+ghost use Rattle.hierarchy.specs.Questions.{numContours, precedencesOf, violatesOf, predecessorsOf, successorsOf, validSequence, topologicalSort};
+ghost use Rattle.card.specs.Verdict.{checkOf};
+ghost use Rattle.table.specs.Evaluate.{lengthOf};
+ghost use Rattle.improve.specs.Search.{searched};
+ghost use Rattle.improve.specs.Code.{Reached, sheetOf};
 use answer::Check;
 use answer::ContourType;
 use answer::CutDirection;
@@ -19,6 +23,7 @@ use answer::Point;
 use candidates::Candidate;
 use candidates::Candidates;
 use candidates::Offered;
+use closure::CONTOURS;
 use closure::PAIRS;
 use cost::Closest;
 use cost::Measured;
@@ -361,4 +366,55 @@ pub extern "C" fn probe_candidate(
     *way = way_of(direction);
     let check = a.check;
     answer::code(check)
+}
+
+#[no_mangle]
+pub extern "C" fn probe_topological_sort(
+    contours: usize,
+    pairs: &[u32],
+    positions: &mut [u32; CONTOURS],
+    count: &mut usize,
+) -> u64
+    ensures { λ r. ⌜ r ≡ codeOf (topologicalSort contours (now (pairs .entry)) .check) ⌝ }
+    ensures { λ _. ⌜ now (positions .exit) ≡ topologicalSort contours (now (pairs .entry)) .positions ⌝ }
+    ensures { λ _. ⌜ now (count .exit) ≡ topologicalSort contours (now (pairs .entry)) .count ⌝ }
+{
+    let a = hierarchy::topological_sort(contours, pairs);
+    let list = a.positions;
+    *positions = list;
+    *count = a.count;
+    let check = a.check;
+    answer::code(check)
+}
+
+#[no_mangle]
+pub extern "C" fn probe_check(card: &[u8]) -> u64
+    ensures { λ r. ⌜ r ≡ codeOf (checkOf (now (card .entry))) ⌝ }
+{
+    answer::code(card::check(card))
+}
+
+#[no_mangle]
+pub extern "C" fn probe_evaluate(home: &[f64], table: &[f64], t: u8, tour: &[u8]) -> f64
+    ensures { λ r. ⌜ r ≡ lengthOf (now (home .entry)) (now (table .entry)) t (now (tour .entry)) ⌝ }
+{
+    table::evaluate_solution(home, table, t, tour)
+}
+
+#[no_mangle]
+pub extern "C" fn probe_improve(
+    home: &[f64],
+    table: &[f64],
+    t: u8,
+    owner: &[u8],
+    first: &[u8],
+    pairs: &[u8],
+    tour: &mut [u8],
+    passes: u32,
+    limit: u32,
+) -> u64
+    ensures { λ r. ⌜ Reached r (now (tour .exit))
+        (searched (sheetOf (now (home .entry)) (now (table .entry)) t (now (owner .entry)) (now (first .entry)) (now (pairs .entry))) passes limit (now (tour .entry))) ⌝ }
+{
+    improve::improve(home, table, t, owner, first, pairs, tour, passes, limit)
 }
