@@ -10,11 +10,11 @@ const PARTS: [(&str, &str, &str); 10] = [
     ("cost", "probe", "probe_sequence_cost"),
     ("hierarchy", "probe", "probe_is_valid_sequence"),
     ("order", "probe", "probe_topological_sort"),
-    ("candidates", "probe", "probe_candidates"),
+    ("candidates", "probe", "probe_candidate"),
     ("table", "probe", "probe_evaluate"),
     ("start", "probe", "probe_start"),
     ("improve", "probe", "probe_improve"),
-    ("check", "tour", "jl_check"),
+    ("check", "probe", "probe_check"),
     ("tour", "tour", "jl_tour"),
 ];
 

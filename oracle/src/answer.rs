@@ -25,11 +25,13 @@ pub struct Found {
     pub length: u64,
 }
 
-fn preference(number: u8) -> CutDirectionPreference {
+/// A preference by its number on a card.
+pub fn preference(number: u8) -> CutDirectionPreference {
     [CutDirectionPreference::Ccw, CutDirectionPreference::Cw, CutDirectionPreference::Auto][usize::from(number)]
 }
 
-fn contour(c: &Contour) -> CutContour {
+/// A contour as the original has it.
+pub fn contour(c: &Contour) -> CutContour {
     CutContour {
         id: c.id as usize,
         geometry_id: String::new(),

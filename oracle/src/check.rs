@@ -2,23 +2,43 @@
 //! and leaves every lent byte alone.
 
 use crate::doors::refused;
-use crate::exports::{Left, check, tour};
+#[cfg(has_tour)]
+use crate::exports::{self, Left};
 use crate::generate::{damaged, mutated};
 use crate::random::Random;
 use crate::reading::refusal;
 use crate::run::{Wanted, cases, same};
 use std::sync::atomic::{AtomicU64, Ordering};
 
-/// A room that holds every tour.
-const ENOUGH: usize = 40;
+unsafe extern "C" {
+    fn probe_check(card: *const u8, length: usize) -> u64;
+}
+
+/// The check of a card, as the crate `card` makes it.
+pub fn check(card: &[u8]) -> u64 {
+    unsafe { probe_check(card.as_ptr(), card.len()) }
+}
 
 fn one(bytes: &[u8], seen: &[AtomicU64; 13]) -> Result<u64, String> {
     let due = refusal(bytes);
     seen[due.map_or(0, |r| r.0) as usize].fetch_add(1, Ordering::Relaxed);
     let code = due.map_or(0, |(number, place)| refused(number, place));
     same(|| "check".to_string(), check(bytes), code)?;
+    exported(bytes, code)
+}
+
+#[cfg(not(has_tour))]
+fn exported(_: &[u8], _: u64) -> Result<u64, String> {
+    Ok(1)
+}
+
+/// The exports answer the same, and a refused tour leaves everything as it was.
+#[cfg(has_tour)]
+fn exported(bytes: &[u8], code: u64) -> Result<u64, String> {
+    const ENOUGH: usize = 40;
+    same(|| "jl_check".to_string(), exports::check(bytes), code)?;
     if code != 0 {
-        same(|| "tour".to_string(), tour(bytes, ENOUGH)?, Left::refused(code, ENOUGH))?;
+        same(|| "jl_tour".to_string(), exports::tour(bytes, ENOUGH)?, Left::refused(code, ENOUGH))?;
     }
     Ok(1)
 }

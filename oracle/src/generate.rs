@@ -85,9 +85,17 @@ fn limit(r: &Random) -> u32 {
     }
 }
 
+/// Now and then sets a card's limit to its edge: as many trials as the search takes without one, or one more or less.
+pub fn limit_near(r: &Random, card: &mut Card, trials: impl FnOnce() -> u32) {
+    if r.one_in(6) {
+        let trials = trials();
+        card.limit = r.pick(&[trials, trials + 1, trials.max(2) - 1]);
+    }
+}
+
 /// A contour's vertices. Small steps around a corner give plain parts; some have edges of no length, or
 /// lie on one point.
-fn outline(r: &Random, kind: Kind) -> Vec<(f64, f64)> {
+pub fn outline(r: &Random, kind: Kind) -> Vec<(f64, f64)> {
     let v = r.pick(&[1, 2, 3, 4, 4, 4, 5, 8, 30, r.from(1, 30)]);
     let corner = (r.coordinate(kind), r.coordinate(kind));
     let size = r.pick(&[0.0, 1e-13, 4e-13, 1e-12, 1.0, 10.0, 100.0]);

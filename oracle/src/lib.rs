@@ -9,7 +9,7 @@ pub mod random;
 pub mod reading;
 pub mod run;
 
-#[cfg(has_check)]
+#[cfg(has_tour)]
 pub mod exports;
 
 #[cfg(feature = "original")]
@@ -32,5 +32,7 @@ macro_rules! part {
 part!(root, "no door to it", has_root);
 part!(cost, "no door to it, or the original is not at hand", all(has_cost, feature = "original"));
 part!(hierarchy, "no door to it, or the original is not at hand", all(has_hierarchy, feature = "original"));
-part!(check, "no export jl_check", has_check);
+part!(candidates, "no door to it, or the original is not at hand", all(has_candidates, feature = "original"));
+part!(search, "no door to it, or the original is not at hand", all(has_improve, feature = "original"));
+part!(check, "no door to it", has_check);
 part!(tour, "no export jl_tour, or the original is not at hand", all(has_tour, feature = "original"));

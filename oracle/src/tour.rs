@@ -2,26 +2,17 @@
 //! are refused.
 
 use crate::answer::Problem;
-use crate::card::Card;
 use crate::doors::refused;
 use crate::exports::{Left, check, tour};
-use crate::generate::good;
+use crate::generate::{good, limit_near};
 use crate::random::Random;
 use crate::run::{Wanted, cases, same};
-
-/// A limit at the edge: as many trials as the search takes without one, or one more or less.
-fn at_edge(r: &Random, card: &mut Card, problem: &Problem) {
-    let trials = problem.search(0).moves as u32;
-    card.limit = r.pick(&[trials, trials + 1, trials.max(2) - 1]);
-}
 
 fn one(r: &Random) -> Result<u64, String> {
     let mut card = good(r);
     let n = card.contours.len();
     let problem = Problem::of(&card);
-    if r.one_in(6) {
-        at_edge(r, &mut card, &problem);
-    }
+    limit_near(r, &mut card, || problem.search(0).moves as u32);
     let bytes = card.bytes();
     let what = || format!("{card:?}");
     same(what, check(&bytes), 0)?;

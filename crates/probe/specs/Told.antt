@@ -1,9 +1,20 @@
 -- How a door tells an answer: one number, and what is lent afterwards. Assumes nothing.
 use mathlib.Core.Bool.{cond}
+use lib.Dec.{ltb, eqb}
+use lib.ListN.{getD}
+use mathlib.Core.List.{List, [], _∷_}
 use Prim.Native.Nat.{ℕ}
-use lib.Ieee.{Float}
+use lib.Ieee.{Float, nan}
 use Rattle.answer.specs.declared.Check.the-variants.{Refused}
 use Rattle.answer.specs.Code.{codeOf}
+use Rattle.answer.specs.declared.ContourType.{ContourType}
+use Rattle.answer.specs.declared.ContourType.the-variants.{Exterior, Interior}
+use Rattle.answer.specs.declared.CutDirection.{CutDirection}
+use Rattle.answer.specs.declared.CutDirection.the-variants as cut
+use Rattle.answer.specs.declared.CutDirectionPreference.{CutDirectionPreference}
+use Rattle.answer.specs.declared.CutDirectionPreference.the-variants as asked
+use Rattle.candidates.specs.declared.Candidate.{Candidate}
+use Rattle.candidates.specs.declared.Candidates.{Candidates}
 use Rattle.root.specs.declared.Rooted.{Rooted}
 use Rattle.root.specs.declared.Rooted.the-variants.{Is as RootIs, Refused as RootRefused}
 use Rattle.cost.specs.declared.Measured.{Measured}
@@ -62,3 +73,26 @@ countOr (CountRefused r) kept = kept
 abbrev pub verdictCode : Verdict → ℕ
 verdictCode (VerdictIs b) = cond b 1 0
 verdictCode (VerdictRefused r) = codeOf (Refused r)
+
+-- types, preferences and directions by their numbers on a card
+abbrev pub kindOf : ℕ → ContourType
+kindOf x = cond (eqb x 0) Exterior Interior
+
+abbrev pub preferenceOf : ℕ → CutDirectionPreference
+preferenceOf x = cond (eqb x 0) asked.Ccw (cond (eqb x 1) asked.Cw asked.Auto)
+
+abbrev pub wayOf : CutDirection → ℕ
+wayOf cut.Ccw = 0
+wayOf cut.Cw = 1
+
+-- never read: all eight places are there
+abbrev pub noCandidate : Candidate
+noCandidate = record { x = nan; y = nan; «end_x» = nan; «end_y» = nan; vertex = 0; direction = cut.Ccw }
+
+-- candidate k; past the eighth the first
+abbrev pub nthOf : Candidates → ℕ → Candidate
+nthOf found k = getD (found .items) (cond (ltb k 8) k 0) noCandidate
+
+-- a candidate's point and end point
+abbrev pub placeOf : Candidate → List Float
+placeOf n = n .x ∷ n .y ∷ n .«end_x» ∷ n .«end_y» ∷ []

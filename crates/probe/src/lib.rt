@@ -1,7 +1,7 @@
 // Test doors: inner functions under plain names for C and Rust, for comparisons and speed runs only. A door forwards, and
 // promises what the function behind it promises: it answers 0 and writes, or answers the refusal as one number and keeps all it is lent.
 ghost use mathlib.Core.Path.{_≡_};
-ghost use Rattle.probe.specs.Told.{rootCode, rootOr, lengthCode, lengthOr, closestCode, nearestOr, countCode, countOr, verdictCode};
+ghost use Rattle.probe.specs.Told.{rootCode, rootOr, lengthCode, lengthOr, closestCode, nearestOr, countCode, countOr, verdictCode, kindOf, preferenceOf, wayOf, nthOf, placeOf};
 ghost use Rattle.root.specs.Root.{sqrtOf, rootOf};
 ghost use Rattle.cost.specs.Points.{point};
 ghost use Rattle.cost.specs.Distance.{distanceOf, pointDistanceOf, pointDistanceSqOf};
@@ -9,9 +9,21 @@ ghost use Rattle.cost.specs.Closest.{closestOnPolygonOf};
 ghost use Rattle.cost.specs.Rapid.{totalRapidOf};
 ghost use Rattle.cost.specs.Sequence.{sequenceCostOf};
 ghost use Rattle.answer.specs.Code.{codeOf};
-ghost use Rattle.hierarchy.specs.Questions.{numContours, precedencesOf, violatesOf, predecessorsOf, successorsOf, validSequence};
+ghost use Rattle.candidates.specs.Question.{offeredOf};
+ghost use Rattle.hierarchy.specs.Questions.{numContours, precedencesOf, violatesOf, predecessorsOf, successorsOf, validSequence, topologicalSort};
+ghost use Rattle.card.specs.Verdict.{checkOf};
+ghost use Rattle.table.specs.Evaluate.{lengthOf};
+ghost use Rattle.improve.specs.Search.{searched};
+ghost use Rattle.improve.specs.Code.{Reached, sheetOf};
 use answer::Check;
+use answer::ContourType;
+use answer::CutDirection;
+use answer::CutDirectionPreference;
 use answer::Point;
+use candidates::Candidate;
+use candidates::Candidates;
+use candidates::Offered;
+use closure::CONTOURS;
 use closure::PAIRS;
 use cost::Closest;
 use cost::Measured;
@@ -264,4 +276,145 @@ pub extern "C" fn probe_successors(
     *count = a.count;
     let check = a.check;
     answer::code(check)
+}
+
+// The type of a contour by its number on a card.
+fn kind_of(x: u8) -> ContourType
+    ensures { λ r. ⌜ r ≡ kindOf x ⌝ }
+{
+    if x == 0 {
+        return ContourType::Exterior;
+    }
+    ContourType::Interior
+}
+
+// A preference by its number on a card.
+fn preference_of(x: u8) -> CutDirectionPreference
+    ensures { λ r. ⌜ r ≡ preferenceOf x ⌝ }
+{
+    if x == 0 {
+        return CutDirectionPreference::Ccw;
+    }
+    if x == 1 {
+        return CutDirectionPreference::Cw;
+    }
+    CutDirectionPreference::Auto
+}
+
+// A direction as a number.
+fn way_of(d: CutDirection) -> u64
+    ensures { λ r. ⌜ r ≡ wayOf d ⌝ }
+{
+    match d {
+        CutDirection::Ccw => 0,
+        CutDirection::Cw => 1,
+    }
+}
+
+// Candidate k; past the eighth the first.
+fn nth(found: Candidates, k: usize) -> Candidate
+    ensures { λ r. ⌜ r ≡ nthOf found k ⌝ }
+{
+    let items = found.items;
+    if k < 8 {
+        return items[k];
+    }
+    items[0]
+}
+
+// The candidates of a contour, asked by numbers as on a card.
+fn offered(numbers: &[f64], c: usize, kind: u8, exterior: u8, interior: u8) -> Offered
+    ensures { λ r. ⌜ r ≡ offeredOf (now (numbers .entry)) c (kindOf kind) (preferenceOf exterior) (preferenceOf interior) ⌝ }
+{
+    candidates::contour_candidates(
+        numbers,
+        c,
+        kind_of(kind),
+        preference_of(exterior),
+        preference_of(interior),
+    )
+}
+
+// Candidate k of a contour: its point and end point, its vertex and direction, and how many there are.
+#[no_mangle]
+pub extern "C" fn probe_candidate(
+    numbers: &[f64],
+    c: usize,
+    kind: u8,
+    exterior: u8,
+    interior: u8,
+    k: usize,
+    place: &mut [f64; 4],
+    vertex: &mut usize,
+    way: &mut u64,
+    count: &mut usize,
+) -> u64
+    ensures { λ r. ⌜ r ≡ codeOf (offeredOf (now (numbers .entry)) c (kindOf kind) (preferenceOf exterior) (preferenceOf interior) .check) ⌝ }
+    ensures { λ _. ⌜ now (place .exit) ≡ placeOf (nthOf (offeredOf (now (numbers .entry)) c (kindOf kind) (preferenceOf exterior) (preferenceOf interior) .found) k) ⌝ }
+    ensures { λ _. ⌜ now (vertex .exit) ≡ nthOf (offeredOf (now (numbers .entry)) c (kindOf kind) (preferenceOf exterior) (preferenceOf interior) .found) k .vertex ⌝ }
+    ensures { λ _. ⌜ now (way .exit) ≡ wayOf (nthOf (offeredOf (now (numbers .entry)) c (kindOf kind) (preferenceOf exterior) (preferenceOf interior) .found) k .direction) ⌝ }
+    ensures { λ _. ⌜ now (count .exit) ≡ offeredOf (now (numbers .entry)) c (kindOf kind) (preferenceOf exterior) (preferenceOf interior) .found .count ⌝ }
+{
+    let a = offered(numbers, c, kind, exterior, interior);
+    let found = a.found;
+    *count = found.count;
+    let n = nth(found, k);
+    let four = [n.x, n.y, n.end_x, n.end_y];
+    *place = four;
+    *vertex = n.vertex;
+    let direction = n.direction;
+    *way = way_of(direction);
+    let check = a.check;
+    answer::code(check)
+}
+
+#[no_mangle]
+pub extern "C" fn probe_topological_sort(
+    contours: usize,
+    pairs: &[u32],
+    positions: &mut [u32; CONTOURS],
+    count: &mut usize,
+) -> u64
+    ensures { λ r. ⌜ r ≡ codeOf (topologicalSort contours (now (pairs .entry)) .check) ⌝ }
+    ensures { λ _. ⌜ now (positions .exit) ≡ topologicalSort contours (now (pairs .entry)) .positions ⌝ }
+    ensures { λ _. ⌜ now (count .exit) ≡ topologicalSort contours (now (pairs .entry)) .count ⌝ }
+{
+    let a = hierarchy::topological_sort(contours, pairs);
+    let list = a.positions;
+    *positions = list;
+    *count = a.count;
+    let check = a.check;
+    answer::code(check)
+}
+
+#[no_mangle]
+pub extern "C" fn probe_check(card: &[u8]) -> u64
+    ensures { λ r. ⌜ r ≡ codeOf (checkOf (now (card .entry))) ⌝ }
+{
+    answer::code(card::check(card))
+}
+
+#[no_mangle]
+pub extern "C" fn probe_evaluate(home: &[f64], table: &[f64], t: u8, tour: &[u8]) -> f64
+    ensures { λ r. ⌜ r ≡ lengthOf (now (home .entry)) (now (table .entry)) t (now (tour .entry)) ⌝ }
+{
+    table::evaluate_solution(home, table, t, tour)
+}
+
+#[no_mangle]
+pub extern "C" fn probe_improve(
+    home: &[f64],
+    table: &[f64],
+    t: u8,
+    owner: &[u8],
+    first: &[u8],
+    pairs: &[u8],
+    tour: &mut [u8],
+    passes: u32,
+    limit: u32,
+) -> u64
+    ensures { λ r. ⌜ Reached r (now (tour .exit))
+        (searched (sheetOf (now (home .entry)) (now (table .entry)) t (now (owner .entry)) (now (first .entry)) (now (pairs .entry))) passes limit (now (tour .entry))) ⌝ }
+{
+    improve::improve(home, table, t, owner, first, pairs, tour, passes, limit)
 }

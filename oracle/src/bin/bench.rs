@@ -41,12 +41,12 @@ fn root() {
 
 #[cfg(has_check)]
 fn check() {
-    use oracle::{exports, generate, random::Random, reading};
+    use oracle::{check, generate, random::Random, reading};
     use std::hint::black_box;
     let card = generate::sheet(&Random::of(1, "bench", 0), 40, 2, 124).bytes();
     let (ours, plain) = both(
         300,
-        || assert_eq!(exports::check(black_box(&card)), 0),
+        || assert_eq!(check::check(black_box(&card)), 0),
         || assert_eq!(reading::refusal(black_box(&card)), None),
     );
     println!(
@@ -60,37 +60,80 @@ fn check() {
 
 #[cfg(not(has_check))]
 fn check() {
-    println!("check: left out, no export jl_check");
+    println!("check: left out, no door to it");
 }
 
-#[cfg(all(has_tour, feature = "original"))]
-fn tour() {
-    use oracle::{answer::Problem, exports, generate, random::Random};
-    for (n, c, m) in [(40, 2, 0), (40, 2, 40), (40, 1, 124), (20, 4, 0), (10, 8, 0)] {
-        let (mut ours, mut theirs, mut trials) = (0.0, 0.0, 0);
-        const CARDS: u64 = 10;
+/// The classes of cards: contours, candidates a contour, pairs.
+#[cfg(feature = "original")]
+const CLASSES: [(usize, u16, usize); 5] = [(40, 2, 0), (40, 2, 40), (40, 1, 124), (20, 4, 0), (10, 8, 0)];
+
+/// Times ten cards of each class. `ours` and `theirs` make of a card what is timed.
+#[cfg(all(has_improve, feature = "original"))]
+fn classes<A: FnMut(), B: FnMut()>(
+    what: &str,
+    ours: impl Fn(&oracle::card::Card) -> A,
+    theirs: impl Fn(&oracle::card::Card) -> B,
+) {
+    use oracle::{answer::Problem, generate, random::Random};
+    const CARDS: u64 = 10;
+    for (n, c, m) in CLASSES {
+        let (mut a, mut b, mut trials) = (0.0, 0.0, 0);
         for case in 0..CARDS {
             let card = generate::sheet(&Random::of(1, "bench", case), n, c, m);
-            let bytes = card.bytes();
-            let length = exports::tour(&bytes, n).unwrap().length;
-            let (a, b) = both(
-                5,
-                || assert_eq!(exports::tour(&bytes, n).unwrap().length, length),
-                || _ = std::hint::black_box(Problem::of(&card).unlimited()),
-            );
-            ours += a;
-            theirs += b;
+            let times = both(5, ours(&card), theirs(&card));
+            (a, b) = (a + times.0, b + times.1);
             trials += Problem::of(&card).search(0).moves;
         }
         println!(
-            "n={n} c={c} m={m}: {:.0} µs a card and {:.0} ns a trial, the original {:.0} µs and {:.0} ns, {:.1} times as fast",
-            ours / 1e3 / CARDS as f64,
-            ours / trials as f64,
-            theirs / 1e3 / CARDS as f64,
-            theirs / trials as f64,
-            theirs / ours
+            "{what} n={n} c={c} m={m}: {:.0} µs a card, {:.0} ns a trial; the original {:.0} µs, {:.0} ns; {:.1} times as fast",
+            a / 1e3 / CARDS as f64,
+            a / trials as f64,
+            b / 1e3 / CARDS as f64,
+            b / trials as f64,
+            b / a
         );
     }
+}
+
+/// The search alone, on distances that are there: ours from the original's start on, the original with its start.
+#[cfg(all(has_improve, feature = "original"))]
+fn search() {
+    use oracle::{answer::Problem, search};
+    classes(
+        "search",
+        |card| {
+            let problem = Problem::of(card);
+            let (sheet, start) = (search::Sheet::of(card, &problem), search::bytes(&problem.start()));
+            let passes = u32::from(card.passes);
+            move || _ = std::hint::black_box(sheet.improve(&mut start.clone(), passes, 0))
+        },
+        |card| {
+            let problem = Problem::of(card);
+            move || _ = std::hint::black_box(problem.unlimited())
+        },
+    );
+}
+
+#[cfg(not(all(has_improve, feature = "original")))]
+fn search() {
+    println!("search: left out, no door to it, or the original is not at hand");
+}
+
+/// From a card's bytes, or for the original from its fields, to the tour.
+#[cfg(all(has_tour, feature = "original"))]
+fn tour() {
+    use oracle::{answer::Problem, exports};
+    classes(
+        "tour",
+        |card| {
+            let (bytes, n) = (card.bytes(), card.contours.len());
+            move || _ = std::hint::black_box(exports::tour(&bytes, n).unwrap())
+        },
+        |card| {
+            let card = card.clone();
+            move || _ = std::hint::black_box(Problem::of(&card).unlimited())
+        },
+    );
 }
 
 #[cfg(not(all(has_tour, feature = "original")))]
@@ -101,5 +144,6 @@ fn tour() {
 fn main() {
     root();
     check();
+    search();
     tour();
 }

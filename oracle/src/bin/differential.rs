@@ -3,12 +3,14 @@
 //! on from seed to seed until the time is over.
 
 use oracle::run::Wanted;
-use oracle::{check, cost, hierarchy, root, tour};
+use oracle::{candidates, check, cost, hierarchy, root, search, tour};
 
-const PARTS: [(&str, fn(Wanted) -> bool); 5] = [
+const PARTS: [(&str, fn(Wanted) -> bool); 7] = [
     ("root", root::compare),
     ("cost", cost::compare),
     ("hierarchy", hierarchy::compare),
+    ("candidates", candidates::compare),
+    ("search", search::compare),
     ("check", check::compare),
     ("tour", tour::compare),
 ];

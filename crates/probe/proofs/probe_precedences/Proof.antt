@@ -1,23 +1,17 @@
+-- `probe::probe_precedences` meets its contract: it forwards. Assumes nothing.
 use mathlib.Core.Path.{ap, _∙_}
 use Rattle.answer.specs.Code.{codeOf}
 use Rattle.hierarchy.specs.declared.PairList.{PairList}
 use borrow.Author.Needs.{needs}
 use Rattle.probe.proofs.probe_precedences.Statement.{statement}
 use Rattle.probe.proofs.probe_precedences.Tie as tie
-use Rattle.probe.proofs.probe_precedences.Reads as reads
-use Rattle.probe.proofs.probe_precedences.Lts as lts
-use Rattle.answer.proofs.code.Reads as code-reads
-use Rattle.hierarchy.proofs.precedences.Reads as precedences-reads
 
--- src/lib.rt:221:9
 precedences-requires : tie.Need-precedences-requires
 precedences-requires c κs = search needs
 
--- src/lib.rt:226:5
 code-requires : tie.Need-code-requires
 code-requires c κs = search needs
 
--- src/lib.rt:210:1
 returns : tie.Need-returns
 returns c =
     let told = c .before .before .precedences .ensures in

@@ -1,28 +1,21 @@
+-- `probe::tell_root` meets its contract: each arm tells its case. Assumes nothing.
 use mathlib.Core.Path.{refl}
 use borrow.Author.Needs.{needs}
 use Rattle.probe.proofs.tell_root.Statement.{statement}
 use Rattle.probe.proofs.tell_root.Tie as tie
-use Rattle.probe.proofs.tell_root.Reads as reads
-use Rattle.probe.proofs.tell_root.Lts as lts
-use Rattle.answer.proofs.code.Reads as code-reads
 
--- src/lib.rt:18:20
 enum-known-a : tie.Need-enum-known-a
 enum-known-a c = search needs
 
--- src/lib.rt:22:25
 enum-known-a-2 : tie.Need-enum-known-a-2
 enum-known-a-2 c = search needs
 
--- src/lib.rt:22:31
 code-requires : tie.Need-code-requires
 code-requires c κs = search needs
 
--- src/lib.rt:13:1
 returns : tie.Need-returns
 returns c = search needs
 
--- src/lib.rt:13:1
 returns-2 : tie.Need-returns-2
 returns-2 c = rw (c .before .before .a2 .given .1) (c .code .ensures, refl)
 

@@ -1,31 +1,23 @@
+-- `probe::tell_verdict` meets its contract: each arm tells its case. Assumes nothing.
 use borrow.Author.Needs.{needs}
 use Rattle.probe.proofs.tell_verdict.Statement.{statement}
 use Rattle.probe.proofs.tell_verdict.Tie as tie
-use Rattle.probe.proofs.tell_verdict.Reads as reads
-use Rattle.probe.proofs.tell_verdict.Lts as lts
-use Rattle.answer.proofs.code.Reads as code-reads
 
--- src/lib.rt:185:21
 enum-known-a : tie.Need-enum-known-a
 enum-known-a c = search needs
 
--- src/lib.rt:187:17
 returns : tie.Need-returns
 returns c = search needs
 
--- src/lib.rt:191:26
 enum-known-a-2 : tie.Need-enum-known-a-2
 enum-known-a-2 c = search needs
 
--- src/lib.rt:191:32
 code-requires : tie.Need-code-requires
 code-requires c κs = search needs
 
--- src/lib.rt:181:1
 returns-2 : tie.Need-returns-2
 returns-2 c = search needs
 
--- src/lib.rt:181:1
 returns-3 : tie.Need-returns-3
 returns-3 c = rw (c .before .before .a2 .given .1) (c .code .ensures)
 

@@ -1,0 +1,110 @@
+//! The candidates of one contour against the original's; the refusals against the paper.
+
+use crate::card::Contour;
+use crate::doors::refused;
+use crate::generate::outline;
+use crate::random::{KINDS, REACH, Random};
+use crate::run::{Wanted, cases, same};
+use original::config::CuttingConfig;
+use original::gtsp::{PierceCandidate, discretize_contours};
+use original::result::CutDirection;
+
+unsafe extern "C" {
+    #[allow(clippy::too_many_arguments)]
+    fn probe_candidate(
+        numbers: *const f64,
+        length: usize,
+        c: usize,
+        kind: u8,
+        exterior: u8,
+        interior: u8,
+        k: usize,
+        place: &mut [f64; 4],
+        vertex: &mut usize,
+        way: &mut u64,
+        count: &mut usize,
+    ) -> u64;
+}
+
+/// A question about one contour.
+#[derive(Debug)]
+struct Asked {
+    numbers: Vec<f64>,
+    c: usize,
+    interior: bool,
+    preferences: [u8; 2],
+}
+
+/// A candidate: point and end point as bits, vertex, whether clockwise.
+type Told = ([u64; 4], usize, u64);
+
+fn ours(q: &Asked) -> Result<Vec<Told>, u64> {
+    let mut all = Vec::new();
+    loop {
+        let (mut place, mut vertex, mut way, mut count) = ([0.0; 4], 0, 0, 0);
+        let (at, length) = (q.numbers.as_ptr(), q.numbers.len());
+        let [exterior, interior] = q.preferences;
+        let k = all.len();
+        let code = unsafe {
+            let kind = u8::from(q.interior);
+            probe_candidate(at, length, q.c, kind, exterior, interior, k, &mut place, &mut vertex, &mut way, &mut count)
+        };
+        match code {
+            0 if k < count => all.push((place.map(f64::to_bits), vertex, way)),
+            0 => return Ok(all),
+            _ => return Err(code),
+        }
+    }
+}
+
+fn told(c: &PierceCandidate) -> Told {
+    let place = [c.point.0, c.point.1, c.end_point.0, c.end_point.1];
+    (place.map(f64::to_bits), c.vertex_index, u64::from(c.direction == CutDirection::Cw))
+}
+
+fn theirs(q: &Asked) -> Result<Vec<Told>, u64> {
+    let v = q.numbers.len().div_ceil(2);
+    let vertices: Vec<(f64, f64)> = q.numbers.chunks_exact(2).map(|p| (p[0], p[1])).collect();
+    let far = |p: &(f64, f64)| !(p.0.abs() <= REACH && p.1.abs() <= REACH);
+    if !(1..=8).contains(&q.c) {
+        return Err(refused(4, 3));
+    }
+    if !(1..=30).contains(&v) {
+        return Err(refused(6, v as u64));
+    }
+    if let Some(k) = vertices.iter().position(far) {
+        return Err(refused(8, k as u64));
+    }
+    if vertices.len() < v {
+        return Err(refused(8, vertices.len() as u64));
+    }
+    let contour = Contour { id: 0, tag: 0, interior: q.interior, vertices };
+    let config = CuttingConfig {
+        exterior_direction: crate::answer::preference(q.preferences[0]),
+        interior_direction: crate::answer::preference(q.preferences[1]),
+        ..CuttingConfig::new().with_pierce_candidates(q.c)
+    };
+    let clusters = discretize_contours(&[crate::answer::contour(&contour)], &config).unwrap();
+    Ok(clusters[0].candidates.iter().map(told).collect())
+}
+
+fn one(r: &Random) -> Result<u64, String> {
+    let kind = r.pick(&KINDS);
+    let mut numbers: Vec<f64> = outline(r, kind).iter().flat_map(|p| [p.0, p.1]).collect();
+    match r.below(30) {
+        0 => _ = numbers.pop(),
+        1 => numbers.resize(r.pick(&[0, 1, 60, 61, 62]), 1.5),
+        2 => {
+            let k = r.below(numbers.len() as u64) as usize;
+            numbers[k] = r.number(kind);
+        }
+        _ => {}
+    }
+    let c = r.pick(&[1, 2, 3, 4, 8, r.from(1, 8), r.from(0, 9)]) as usize;
+    let q = Asked { numbers, c, interior: r.one_in(2), preferences: [0; 2].map(|_| r.below(3) as u8) };
+    same(|| format!("{q:?}"), ours(&q), theirs(&q))
+}
+
+pub fn compare(wanted: Wanted) -> bool {
+    cases(wanted, "candidates of one contour", 1_000_000, one)
+}

@@ -1,0 +1,124 @@
+//! The search against the original's gtsp.rs, on good cards: what a tour's length is, and what is made of the
+//! original's start in so many passes and trials.
+
+use crate::answer::Problem;
+use crate::card::Card;
+use crate::generate::{good, limit_near};
+use crate::random::Random;
+use crate::run::{Wanted, cases, same};
+use original::gtsp::evaluate_solution;
+
+unsafe extern "C" {
+    fn probe_evaluate(
+        home: *const f64,
+        homes: usize,
+        table: *const f64,
+        entries: usize,
+        t: u8,
+        tour: *const u8,
+        length: usize,
+    ) -> f64;
+    fn probe_improve(
+        home: *const f64,
+        homes: usize,
+        table: *const f64,
+        entries: usize,
+        t: u8,
+        owner: *const u8,
+        owners: usize,
+        first: *const u8,
+        firsts: usize,
+        pairs: *const u8,
+        numbers: usize,
+        tour: *mut u8,
+        length: usize,
+        passes: u32,
+        limit: u32,
+    ) -> u64;
+}
+
+/// A card as the search reads it, taken from the original's instance: distances from home and between the t candidates,
+/// the contour of each candidate, each contour's first candidate with the count of all at the end, and the pairs by position.
+pub struct Sheet {
+    home: Vec<f64>,
+    table: Vec<f64>,
+    t: u8,
+    owner: Vec<u8>,
+    first: Vec<u8>,
+    pairs: Vec<u8>,
+}
+
+impl Sheet {
+    pub fn of(card: &Card, problem: &Problem) -> Sheet {
+        let instance = &problem.instance;
+        let t = instance.total_candidates;
+        let place = |id: u32| card.position(id) as u8;
+        let first = instance.cluster_offsets.iter().map(|&k| k as u8).chain([t as u8]);
+        Sheet {
+            home: instance.home_distances.clone(),
+            table: instance.distances.concat(),
+            t: t as u8,
+            owner: (0..t).map(|g| instance.global_to_local(g).0 as u8).collect(),
+            first: first.collect(),
+            pairs: card.pairs.iter().flat_map(|p| [place(p.before.0), place(p.after.0)]).collect(),
+        }
+    }
+
+    pub fn evaluate(&self, tour: &[u8]) -> f64 {
+        let (home, table) = (&self.home, &self.table);
+        unsafe {
+            probe_evaluate(home.as_ptr(), home.len(), table.as_ptr(), table.len(), self.t, tour.as_ptr(), tour.len())
+        }
+    }
+
+    /// Improves a tour in place; the trials made.
+    pub fn improve(&self, tour: &mut [u8], passes: u32, limit: u32) -> u64 {
+        let Sheet { home, table, t, owner, first, pairs } = self;
+        unsafe {
+            probe_improve(
+                home.as_ptr(),
+                home.len(),
+                table.as_ptr(),
+                table.len(),
+                *t,
+                owner.as_ptr(),
+                owner.len(),
+                first.as_ptr(),
+                first.len(),
+                pairs.as_ptr(),
+                pairs.len(),
+                tour.as_mut_ptr(),
+                tour.len(),
+                passes,
+                limit,
+            )
+        }
+    }
+}
+
+pub fn bytes(tour: &[usize]) -> Vec<u8> {
+    tour.iter().map(|&g| g as u8).collect()
+}
+
+fn one(r: &Random) -> Result<u64, String> {
+    let mut card = good(r);
+    let problem = Problem::of(&card);
+    limit_near(r, &mut card, || problem.search(0).moves as u32);
+    let what = || format!("{card:?}");
+    let sheet = Sheet::of(&card, &problem);
+    let start = problem.start();
+    let ours = sheet.evaluate(&bytes(&start)).to_bits();
+    same(what, ours, evaluate_solution(&problem.instance, &start).to_bits())?;
+    let found = problem.search(card.limit);
+    let mut tour = bytes(&start);
+    let moves = sheet.improve(&mut tour, u32::from(card.passes), card.limit);
+    same(what, (&tour, moves), (&bytes(&found.tour), found.moves))?;
+    if card.limit == 0 {
+        same(what, &tour, &bytes(&problem.unlimited()))?;
+    }
+    same(what, sheet.evaluate(&tour).to_bits(), found.length)
+}
+
+pub fn compare(wanted: Wanted) -> bool {
+    cases(wanted, "searches", 120_000, one)
+}
