@@ -1,4 +1,4 @@
-pub mod EachLaws
+pub mod IdleLaws
 pub mod TrialLaws
 pub mod OrderLaws
 pub mod ReversalLaws

@@ -10,11 +10,12 @@ use lib.Dec.{ltb, leb}
 use lib.Ieee.{Float}
 use lib.ListN.{length}
 use Rattle.closure.specs.Limits.{CONTOURS}
+use Rattle.table.proofs.EachLaws.{onwards, arrive}
+use Rattle.table.specs.Each.{each}
 use Rattle.improve.specs.Code.{going, stateOf, Reached}
-use Rattle.improve.specs.Each.{each}
 use Rattle.improve.specs.Search.{Sheet, State, lengthIn, legal, turn, reversal, row, pass, repeated, begun, worthwhile, searched}
 use Rattle.improve.specs.declared.Progress.{Progress}
-use Rattle.improve.proofs.EachLaws.{onwards, each-idle, halt, arrive}
+use Rattle.improve.proofs.IdleLaws.{each-idle, halt}
 use Rattle.improve.proofs.TrialLaws.{ended, row-idle, reversal-idle, goes-on}
 
 -- ---- the passes

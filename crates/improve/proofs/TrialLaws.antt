@@ -10,12 +10,12 @@ use lib.Dec.{eqb}
 use lib.Ieee.{Float}
 use lib.ListN.{length, getD, set, take, drop}
 use Rattle.bytes.specs.Bytes.{rev, slice}
+use Rattle.table.specs.Each.{each}
 use Rattle.improve.specs.Code.{Judged, Taken, going, stateOf}
-use Rattle.improve.specs.Each.{each}
 use Rattle.improve.specs.Search.{State, shorter, judged, atLimit, tried, contourOf, givenBack, swap, alternative, turn, turned, reversed, flip, reversal, row}
 use Rattle.improve.specs.declared.Progress.{Progress}
 use Rattle.improve.specs.declared.Tried.{Tried}
-use Rattle.improve.proofs.EachLaws.{Idle, each-idle}
+use Rattle.improve.proofs.IdleLaws.{Idle, each-idle}
 use Rattle.improve.proofs.ReversalLaws.{turned-twice}
 
 -- ---- ended

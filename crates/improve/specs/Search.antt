@@ -9,7 +9,7 @@ use Rattle.bytes.specs.Bytes.{rev, slice}
 use Rattle.closure.specs.Limits.{CONTOURS}
 use Rattle.hierarchy.specs.Keep.{keepsPairs}
 use Rattle.table.specs.Evaluate.{lengthOf}
-use Rattle.improve.specs.Each.{each}
+use Rattle.table.specs.Each.{each}
 
 -- what a search reads: the distances from home and between the t candidates, the contour that each candidate belongs to,
 -- the number of each contour's first candidate with the number of all at the end, and which contours come before which

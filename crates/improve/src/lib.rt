@@ -8,7 +8,7 @@ ghost use lib.ListN.{length, getD, set};
 ghost use Rattle.table.specs.Evaluate.{lengthOf};
 ghost use Rattle.closure.specs.Limits.{CONTOURS};
 ghost use Rattle.hierarchy.specs.Keep.{keepsPairs};
-ghost use Rattle.improve.specs.Each.{each};
+ghost use Rattle.table.specs.Each.{each};
 ghost use Rattle.improve.specs.Search.{contourOf, contours, shorter, atLimit, givenBack, alternative, turn, reversed, begun, repeated, searched};
 ghost use Rattle.improve.specs.Code.{Judged, Taken, Reached, going, stateOf, sheetOf};
 

@@ -4,11 +4,12 @@ use Prim.Native.Nat.{_+_, _-_, _≤_, _<_}
 use native.Mathlib.Omega.{arith}
 use borrow.Author.Needs.{needs}
 use lib.ListN.{length}
+use Rattle.table.proofs.EachLaws.{onwards, begin, carry, arrive}
+use Rattle.table.specs.Each.{each}
 use Rattle.table.specs.Evaluate.{lengthOf}
 use Rattle.improve.specs.Code.{going}
-use Rattle.improve.specs.Each.{each}
 use Rattle.improve.specs.Search.{alternative}
-use Rattle.improve.proofs.EachLaws.{onwards, begin, carry, arrive, halt}
+use Rattle.improve.proofs.IdleLaws.{halt}
 use Rattle.improve.proofs.TrialLaws.{alternative-idle, alternative-held, alternative-stops, alternative-goes}
 use Rattle.improve.proofs.alternatives.Statement.{statement}
 use Rattle.improve.proofs.alternatives.Tie as tie

@@ -6,10 +6,10 @@ use native.Mathlib.Omega.{arith}
 use borrow.Author.Needs.{needs}
 use borrow.Author.Tests.{not-true, not-false}
 use lib.ListN.{length}
+use Rattle.table.proofs.EachLaws.{onwards, begin, begin-zero, carry, arrive}
+use Rattle.table.specs.Each.{each}
 use Rattle.improve.specs.Code.{going, sheetOf}
-use Rattle.improve.specs.Each.{each}
 use Rattle.improve.specs.Search.{lengthIn, legal, reversal, row, repeated, begun}
-use Rattle.improve.proofs.EachLaws.{onwards, begin, begin-zero, carry, arrive}
 use Rattle.improve.proofs.PassLaws.{moves-fit, repeat-begin, repeat-over, cut-in-turns, cut-in-rows, pass-again, pass-quiet, row-is, reached}
 use Rattle.improve.proofs.TrialLaws.{reversal-stops, reversal-goes}
 use Rattle.improve.proofs.run.Statement.{statement}

@@ -4,11 +4,12 @@ use mathlib.Core.Path.{_≡_, refl, sym, _∙_}
 use Prim.Native.Nat.{_+_, _*_, _-_, _≤_}
 use native.Mathlib.Omega.{arith}
 use lib.ListN.{length}
+use Rattle.table.proofs.EachLaws.{begin-zero, onwards, carry, arrive}
+use Rattle.table.specs.Each.{each}
 use Rattle.table.specs.Evaluate.{lengthOf}
 use Rattle.improve.specs.Code.{going}
-use Rattle.improve.specs.Each.{each}
 use Rattle.improve.specs.Search.{turn}
-use Rattle.improve.proofs.EachLaws.{begin-zero, onwards, carry, arrive, halt}
+use Rattle.improve.proofs.IdleLaws.{halt}
 use Rattle.improve.proofs.TrialLaws.{goes-on, turn-idle}
 use Rattle.improve.proofs.turns.Statement.{statement}
 use Rattle.improve.proofs.turns.Tie as tie

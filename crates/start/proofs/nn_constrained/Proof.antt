@@ -1,0 +1,121 @@
+-- `start::nn_constrained` meets its contract. The invariant: the steps still to come lead from the tour written so far to where all of them lead from nothing; the room's rest is as it was. Assumes nothing.
+use mathlib.Core.Path.{_≡_, refl, sym}
+use Prim.Native.Nat.{_<_, _-_, _≤_}
+use native.Mathlib.Omega.{arith}
+use borrow.Author.Needs.{needs}
+use borrow.Author.Tests.{not-true, not-false}
+use lib.ListN.{length, take, drop, length-set}
+use Rattle.table.proofs.EachLaws.{onwards, begin-zero, carry, arrive}
+use Rattle.table.specs.Each.{each}
+use Rattle.start.specs.Code.{groundOf}
+use Rattle.start.specs.Nearest.{setOut, flagCount, lastOf, step as stepOver}
+use Rattle.start.proofs.StepLaws.{wayOf, step-waits, step-goes, last-written, rest-kept, written, unwritten}
+use Rattle.start.proofs.nn_constrained.Statement.{statement}
+use Rattle.start.proofs.nn_constrained.Tie as tie
+
+abbrev Inv-loop : tie.InvT-loop
+Inv-loop home table t first pairs tour₀ n visited₀ made₀ last₀ step₀ tour visited made last step =
+    (onwards (stepOver (groundOf home table t first pairs) n) n step (wayOf tour visited made) ≡ each (stepOver (groundOf home table t first pairs) n) n 0 setOut)
+    × (length tour ≡ length tour₀)
+    × (made ≤ step)
+    × (step ≤ n)
+    × (length visited ≡ flagCount)
+    × (last ≡ lastOf (take made tour))
+    × (drop made tour ≡ drop made tour₀)
+
+abbrev μ-loop : tie.MeasureT-loop
+μ-loop home table t first pairs tour₀ n visited₀ made₀ last₀ step₀ tour visited made last step = n - step
+
+returns : tie.Need-returns Inv-loop μ-loop
+returns c = unwritten _ _ _ (c .if1 .taken)
+
+loop-holds : tie.Need-loop-holds Inv-loop μ-loop
+loop-holds c = (begin-zero _ _ _, refl, omega arith, omega arith, refl, refl, refl)
+
+add-step : tie.Need-add-step Inv-loop μ-loop
+add-step c = omega arith
+
+slice-aggregate-choose : tie.Need-slice-aggregate-choose Inv-loop μ-loop
+slice-aggregate-choose c = sym (c .before .before .loop .inv .4)
+
+cast-choose : tie.Need-cast-choose Inv-loop μ-loop
+cast-choose c = omega arith
+
+choose-requires : tie.Need-choose-requires Inv-loop μ-loop
+choose-requires c κs = search needs
+
+loop-less : tie.Need-loop-less Inv-loop μ-loop
+loop-less c = omega arith
+
+loop-again : tie.Need-loop-again Inv-loop μ-loop
+loop-again c =
+    let l = c .before .before .before .before .before .loop in (
+      carry _ _ _ _ _ _ (l .inv .0) (c .before .before .before .before .loop-test .taken)
+          (step-waits _ _ _ _ _ _ _ _ (omega (arith, l .inv .1)) (l .inv .5) (c .before .before .choose .ensures) (not-true _ (c .if2 .taken))),
+      l .inv .1,
+      omega arith,
+      omega arith,
+      l .inv .4,
+      l .inv .5,
+      l .inv .6,
+    )
+
+slice-write-tour : tie.Need-slice-write-tour Inv-loop μ-loop
+slice-write-tour c = omega (arith, c .before .before .before .before .before .loop .inv .1)
+
+cast-visited : tie.Need-cast-visited Inv-loop μ-loop
+cast-visited c = search needs
+
+array-write-visited : tie.Need-array-write-visited Inv-loop μ-loop
+array-write-visited c = omega (arith, c .before .before .before .choose .ok)
+
+add-made : tie.Need-add-made Inv-loop μ-loop
+add-made c = omega arith
+
+loop-less-2 : tie.Need-loop-less-2 Inv-loop μ-loop
+loop-less-2 c = omega arith
+
+loop-again-2 : tie.Need-loop-again-2 Inv-loop μ-loop
+loop-again-2 c =
+    let l = c .before .before .before .before .before .before .loop in
+    let h : l .made < length (l .tour) = omega (arith, l .inv .1) in (
+      carry _ _ _ _ _ _ (l .inv .0) (c .before .before .before .before .before .loop-test .taken)
+          (step-goes _ _ _ _ _ _ _ _ h (l .inv .5) (c .before .before .before .choose .ensures) (not-false _ (c .before .if2 .left))),
+      simp length-set (l .inv .1),
+      omega arith,
+      omega arith,
+      simp length-set (l .inv .4),
+      last-written (l .tour) (l .made) _ h,
+      rest-kept (l .tour) (c .before .before .before .before .before .before .before .before .before .before .before .before .before .args .tour .now) (l .made) (c .before .before .before .choose .result .candidate) (l .inv .6),
+    )
+
+same-length : tie.Need-same-length Inv-loop μ-loop
+same-length c = c .before .loop .inv .1
+
+returns-2 : tie.Need-returns-2 Inv-loop μ-loop
+returns-2 c =
+    let l = c .before .loop in
+    written _ _ _ _ _ _ refl (c .before .before .if1 .left) (omega (arith, l .inv .1)) (arrive _ _ _ _ _ (l .inv .0) (c .loop-test .left)) (l .inv .6)
+
+pub nn-constrained-spec : {M : Type 1} → statement M
+nn-constrained-spec =
+    tie.close
+    (tie.spec
+    Inv-loop
+    μ-loop
+    returns
+    loop-holds
+    add-step
+    slice-aggregate-choose
+    cast-choose
+    choose-requires
+    loop-less
+    loop-again
+    slice-write-tour
+    cast-visited
+    array-write-visited
+    add-made
+    loop-less-2
+    loop-again-2
+    same-length
+    returns-2)

@@ -1,0 +1,96 @@
+-- The nearest-neighbour start: step by step the nearest candidate of a contour that is ready. Assumes nothing.
+use mathlib.Core.Bool.{Bool, true, false, cond, _&&_}
+use mathlib.Core.List.{List, [], _∷_, _++_}
+use Prim.Native.Nat.{ℕ, suc, _-_}
+use lib.Dec.{eqb, leb}
+use lib.Ieee.{Float, binary64, ofBits, lt}
+use lib.ListN.{length, getD, set, replicate}
+use Rattle.closure.specs.Limits.{CONTOURS}
+use Rattle.hierarchy.specs.Keep.{readyIn}
+use Rattle.table.specs.Each.{each}
+use Rattle.table.specs.Evaluate.{homeAt, distanceAt}
+use Rattle.start.specs.declared.Choice.{Choice}
+
+-- what a start reads: the distances from home and between the t candidates, the number of each contour's first candidate with
+-- the number of all at the end, and which contours come before which
+pub record Ground : Type 0 where
+  pub home : List Float
+  pub table : List Float
+  pub t : ℕ
+  pub first : List ℕ
+  pub pairs : List ℕ
+
+-- ---- one step
+
+-- how far a candidate is from where the tour has come to: from home while it is empty, else from its last candidate
+unfoldable pub reachOf : List Float → List Float → ℕ → ℕ → ℕ → ℕ → Float
+reachOf home table t made last a = cond (eqb made 0) (homeAt home a) (distanceAt table t last a)
+
+-- the largest finite number
+abbrev pub huge : Float
+huge = ofBits binary64 0x7fef_ffff_ffff_ffff
+
+-- nothing is chosen yet, and only what is nearer than the largest number will be
+abbrev pub nothingYet : Choice
+nothingYet = record { distance = huge; contour = 0; candidate = 0; found = false }
+
+-- candidate a of contour k, if it is strictly nearer than the choice so far
+unfoldable pub closer : Float → ℕ → ℕ → Choice → Choice
+closer d k a best = cond (lt d (best .distance)) (record { distance = d; contour = k; candidate = a; found = true }) best
+
+-- candidate a of contour k, so far away as it is
+unfoldable pub offer : (ℕ → Float) → ℕ → ℕ → Choice → Choice
+offer reach k a best = closer (reach a) k a best
+
+-- the candidates of contour k, one after the other
+unfoldable pub offered : (ℕ → Float) → List ℕ → ℕ → Choice → Choice
+offered reach first k best =
+    let from = getD first k 0 in
+    each (offer reach k) (getD first (suc k) 0 - from) from best
+
+-- a contour that is not visited, and before which nothing is left to visit
+unfoldable pub isOpen : List ℕ → List ℕ → ℕ → Bool
+isOpen visited pairs k = eqb (getD visited k 0) 0 && readyIn visited pairs k
+
+-- contour k is considered where it is open
+unfoldable pub considered : (ℕ → Float) → List ℕ → List ℕ → List ℕ → ℕ → Choice → Choice
+considered reach first pairs visited k best = let after = offered reach first k best in cond (isOpen visited pairs k) after best
+
+-- the choice among the first n contours, in their order
+unfoldable pub chosen : (ℕ → Float) → List ℕ → List ℕ → List ℕ → ℕ → Choice
+chosen reach first pairs visited n = each (considered reach first pairs visited) n 0 nothingYet
+
+-- ---- step after step
+
+-- how far a start has come: its tour, and a flag for each contour visited
+pub record Way : Type 0 where
+  pub tour : List ℕ
+  pub visited : List ℕ
+
+-- the last candidate of a tour
+abbrev pub lastOf : List ℕ → ℕ
+lastOf tour = getD tour (length tour - 1) 0
+
+-- the choice is visited, if there was one
+unfoldable pub visit : Choice → Way → Way
+visit choice w = cond (choice .found) (record { tour = w .tour ++ (choice .candidate ∷ []); visited = set (w .visited) (choice .contour) 1 }) w
+
+-- one step over n contours; which one it is makes no difference
+unfoldable pub step : Ground → ℕ → ℕ → Way → Way
+step g n i w = visit (chosen (reachOf (g .home) (g .table) (g .t) (length (w .tour)) (lastOf (w .tour))) (g .first) (g .pairs) (w .visited) n) w
+
+-- a flag for each number that a contour can have
+abbrev pub flagCount : ℕ
+flagCount = 256
+
+-- nothing is visited
+abbrev pub setOut : Way
+setOut = record { tour = []; visited = replicate flagCount 0 }
+
+-- n steps over n contours
+unfoldable pub walked : Ground → ℕ → Way
+walked g n = each (step g n) n 0 setOut
+
+-- the start: a tour of n contours, or of those that can be reached; none where there are more contours than a card has
+unfoldable pub nearest : Ground → ℕ → List ℕ
+nearest g n = let w = walked g n in cond (leb n CONTOURS) (w .tour) []
