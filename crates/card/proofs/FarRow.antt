@@ -14,8 +14,8 @@ use Rattle.cost.specs.Bad.{badNumber, badPoint}
 use Rattle.card.specs.Layout.{homePlace, contoursOf, vertexCountOf, vertexPlace}
 use Rattle.card.specs.Values.{pointAt}
 use Rattle.card.specs.Stages.{isAt, tooFar, farPoint, farVertex, farPlace, farFault}
-use Rattle.card.specs.Table.{Lowest, FarCoordinate, at-home, at-vertex, Row8}
-use Rattle.card.proofs.ExactLaws.{Exact, never, lowest-exact}
+use Rattle.card.specs.Table.{Lowest, FarCoordinate, at-home, at-vertex, Row8, No}
+use Rattle.card.proofs.ExactLaws.{Exact, never, lowest-exact, nowhere}
 use Rattle.card.proofs.FarNumber.{far-is}
 
 pub far-point-is : (s : List ℕ) (at : ℕ) → farPoint s at ≡ badPoint (pointAt s at)
@@ -52,3 +52,6 @@ module _ (s : List ℕ) where
   pub exact8 : Exact (farFault s) (Row8 s)
   unfolding farFault
   exact8 = lowest-exact (farPlace s) (contoursOf s + 1) (FarCoordinate s) (λ p h. far-coordinate p) (λ p h. coordinate-far p)
+
+  pub no-far : No (Row8 s) → (p : ℕ) → p < contoursOf s + 1 → FarCoordinate s p → ⊥
+  no-far = nowhere (farPlace s) (contoursOf s + 1) (FarCoordinate s) (λ p h. far-coordinate p) (λ p h. coordinate-far p)

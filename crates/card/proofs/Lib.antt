@@ -11,3 +11,4 @@ pub mod FarNumber
 pub mod FarRow
 pub mod PairRows
 pub mod Verdicts
+pub mod Facts

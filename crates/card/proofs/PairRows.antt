@@ -118,7 +118,7 @@ module _ (s : List ℕ) where
   -- ---- 11, once ids are unique and every pair's ids are known
 
   -- at most one contour has an id
-  same-contour : No (Row9 s) → (id j k : ℕ) → Has s id j → Has s id k → j ≡ k
+  pub same-contour : No (Row9 s) → (id j k : ℕ) → Has s id j → Has s id k → j ≡ k
   same-contour none id j k hj hk = go (order j k)
     where
       same : idOf s j ≡ idOf s k
@@ -176,6 +176,9 @@ module _ (s : List ℕ) where
     unfolding tagFault
     exact11 = lowest-exact (otherTag s) (pairsOf s) (OtherTag s) other-tag tag-other
 
+    pub no-other-tag : No (Row11 s) → (q : ℕ) → q < pairsOf s → OtherTag s q → ⊥
+    no-other-tag = nowhere (otherTag s) (pairsOf s) (OtherTag s) other-tag tag-other
+
   -- ---- 12, once there are no more contours than the closure takes
 
   pub exact12 : contoursOf s ≤ CONTOURS → Exact (cycleFault s) (Row12 s)
@@ -183,3 +186,6 @@ module _ (s : List ℕ) where
   exact12 few =
       let e : min (contoursOf s) CONTOURS ≡ contoursOf s = omega arith in
       rw e (lowest-exact (onCycle (contoursOf s) (seatsOf s (pairsOf s))) (contoursOf s) (OnCycle s) (λ k h t. t) (λ k h t. t))
+
+  pub no-cycle : No (Row12 s) → (k : ℕ) → k < contoursOf s → OnCycle s k → ⊥
+  no-cycle = nowhere (onCycle (contoursOf s) (seatsOf s (pairsOf s))) (contoursOf s) (OnCycle s) (λ k h t. t) (λ k h t. t)

@@ -5,3 +5,4 @@ pub mod Stages
 pub mod Names
 pub mod Verdict
 pub mod Table
+pub mod Card
