@@ -3,6 +3,7 @@
 #   make test          every test, then the gate (rt ci); the last line is the gate's own
 #   make differential  the comparisons in full size          make bench   the speed figures
 #   make soak SECONDS=600 SEED=7   comparisons from a seed for a time
+#   make fuzz SECONDS=600 SEED=7   any bytes through the exports, between guard pages
 #   make examples      writes examples/ anew from the original's answers
 #   make fmt           formats Rattle and Rust
 
@@ -20,7 +21,7 @@ ORIGINAL = $(if $(wildcard $(U_NESTING_SRC)/gtsp.rs),--features original)
 TEST = $(CARGO) test --release --offline --quiet
 ORACLE = $(CARGO) run --release --offline --quiet --package oracle $(ORIGINAL) --bin
 
-.PHONY: all test hosts no-cargo archives differential bench soak examples fmt
+.PHONY: all test hosts no-cargo archives differential bench soak fuzz examples fmt
 
 all:
 	rt check
@@ -49,6 +50,9 @@ bench: archives
 
 soak: archives
 	$(ORACLE) differential -- --seed $(SEED) --percent 1 --seconds $(SECONDS)
+
+fuzz: archives
+	$(ORACLE) differential -- --seed $(SEED) --percent 10 --seconds $(SECONDS) fuzz
 
 examples:
 	$(ORACLE) samples
