@@ -4,7 +4,7 @@
 #   make differential  the comparisons in full size          make bench   the speed figures
 #   make soak SECONDS=600 SEED=7   comparisons from a seed for a time
 #   make fuzz SECONDS=600 SEED=7   any bytes through the exports, between guard pages
-#   make examples      writes examples/ anew from the original's answers
+#   make examples      writes examples/ and what crates/replay runs over, from the original's answers
 #   make fmt           formats Rattle and Rust
 
 # The folder of the Rust original, from the top of the repository.
@@ -13,7 +13,7 @@ export U_NESTING_SRC
 SEED ?= 1
 SECONDS ?= 600
 # The part of the full comparisons that `make test` runs.
-PERCENT ?= 4
+PERCENT ?= 5
 
 CARGO = cargo
 # Without the original the comparisons with it are left out, and say so.
@@ -55,7 +55,7 @@ fuzz: archives
 	$(ORACLE) differential -- --seed $(SEED) --percent 10 --seconds $(SECONDS) fuzz
 
 examples:
-	$(ORACLE) samples
+	$(ORACLE) samples $(if $(wildcard crates/replay),-- crates/replay)
 
 fmt:
 	rt fmt
