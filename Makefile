@@ -3,7 +3,8 @@
 #   make test          every test, then the gate (rt ci); the last line is the gate's own
 #   make differential  the comparisons in full size          make bench   the speed figures
 #   make soak SECONDS=600 SEED=7   comparisons from a seed for a time
-#   make examples      writes examples/ anew from the original's answers
+#   make fuzz SECONDS=600 SEED=7   any bytes through the exports, between guard pages
+#   make examples      writes examples/ and what crates/replay runs over, from the original's answers
 #   make fmt           formats Rattle and Rust
 
 # The folder of the Rust original, from the top of the repository.
@@ -12,7 +13,7 @@ export U_NESTING_SRC
 SEED ?= 1
 SECONDS ?= 600
 # The part of the full comparisons that `make test` runs.
-PERCENT ?= 4
+PERCENT ?= 5
 
 CARGO = cargo
 # Without the original the comparisons with it are left out, and say so.
@@ -20,7 +21,7 @@ ORIGINAL = $(if $(wildcard $(U_NESTING_SRC)/gtsp.rs),--features original)
 TEST = $(CARGO) test --release --offline --quiet
 ORACLE = $(CARGO) run --release --offline --quiet --package oracle $(ORIGINAL) --bin
 
-.PHONY: all test hosts no-cargo archives differential bench soak examples fmt
+.PHONY: all test hosts no-cargo archives differential bench soak fuzz examples fmt
 
 all:
 	rt check
@@ -50,8 +51,11 @@ bench: archives
 soak: archives
 	$(ORACLE) differential -- --seed $(SEED) --percent 1 --seconds $(SECONDS)
 
+fuzz: archives
+	$(ORACLE) differential -- --seed $(SEED) --percent 10 --seconds $(SECONDS) fuzz
+
 examples:
-	$(ORACLE) samples
+	$(ORACLE) samples $(if $(wildcard crates/replay),-- crates/replay)
 
 fmt:
 	rt fmt

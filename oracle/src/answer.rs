@@ -100,13 +100,22 @@ impl Problem {
     }
 }
 
+/// What the program prints for any bytes: the original's list, or the second reading's refusal.
+pub fn printed(bytes: &[u8]) -> String {
+    match crate::reading::card(bytes) {
+        Err((number, place)) => format!("REFUSED {number} AT {place}\n"),
+        Ok(card) => {
+            let problem = Problem::of(&card);
+            problem.list(&card, &problem.search(card.limit))
+        }
+    }
+}
+
 /// The card and the list of job 41, as the paper prints them.
 #[test]
 fn job_41() {
-    let card = crate::generate::job_41();
-    let problem = Problem::of(&card);
     let list = "JOB 41 CONTOURS 3\n2 20 0 cw\n9 90 0 ccw\n7 70 0 ccw\nMOVES 1\nRAPID 4038000000000000\n";
-    assert_eq!(problem.list(&card, &problem.search(0)), list);
+    assert_eq!(printed(&crate::generate::job_41().bytes()), list);
 }
 
 /// Every good card of the generator is good by the second reading, and reads back as it was written.

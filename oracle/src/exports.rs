@@ -2,8 +2,10 @@
 //! not change.
 
 unsafe extern "C" {
-    fn jl_check(card: *const u8, length: usize) -> u64;
-    fn jl_tour(card: *const u8, length: usize, tour: *mut u8, room: usize, moves: &mut u64, bits: &mut u64) -> u64;
+    pub fn jl_check(card: *const u8, bytes: usize) -> u64;
+    pub fn jl_tour(card: *const u8, bytes: usize, tour: *mut u8, room: usize, moves: *mut u64, length: *mut u64)
+    -> u64;
+    pub fn jl_place(card: *const u8, bytes: usize, candidate: u64, contour: *mut u64, within: *mut u64) -> u64;
 }
 
 pub fn check(card: &[u8]) -> u64 {
@@ -20,7 +22,7 @@ pub struct Left {
 }
 
 /// What the room and the numbers hold before a call.
-const UNTOUCHED: u64 = 0xa5a5_a5a5_a5a5_a5a5;
+pub const UNTOUCHED: u64 = 0xa5a5_a5a5_a5a5_a5a5;
 const AROUND: usize = 64;
 
 impl Left {

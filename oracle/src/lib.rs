@@ -5,6 +5,7 @@
 pub mod card;
 pub mod doors;
 pub mod generate;
+pub mod guard;
 pub mod random;
 pub mod reading;
 pub mod run;
@@ -36,3 +37,4 @@ part!(candidates, "no door to it, or the original is not at hand", all(has_candi
 part!(search, "no door to it, or the original is not at hand", all(has_improve, feature = "original"));
 part!(check, "no door to it", has_check);
 part!(tour, "no export jl_tour, or the original is not at hand", all(has_tour, feature = "original"));
+part!(fuzz, "no export jl_tour", has_tour);

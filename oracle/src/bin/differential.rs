@@ -3,9 +3,10 @@
 //! on from seed to seed until the time is over.
 
 use oracle::run::Wanted;
-use oracle::{candidates, check, cost, hierarchy, root, search, tour};
+use oracle::{candidates, check, cost, fuzz, hierarchy, root, search, tour};
 
-const PARTS: [(&str, fn(Wanted) -> bool); 7] = [
+/// `fuzz` runs only where it is named.
+const PARTS: [(&str, fn(Wanted) -> bool); 8] = [
     ("root", root::compare),
     ("cost", cost::compare),
     ("hierarchy", hierarchy::compare),
@@ -13,6 +14,7 @@ const PARTS: [(&str, fn(Wanted) -> bool); 7] = [
     ("search", search::compare),
     ("check", check::compare),
     ("tour", tour::compare),
+    ("fuzz", fuzz::compare),
 ];
 
 fn main() {
@@ -32,7 +34,7 @@ fn main() {
     let began = std::time::Instant::now();
     loop {
         println!("differential: seed {}, {} percent", wanted.seed, wanted.percent);
-        let chosen = PARTS.iter().filter(|p| named.is_empty() || named.iter().any(|n| n == p.0));
+        let chosen = PARTS.iter().filter(|p| named.iter().any(|n| n == p.0) || named.is_empty() && p.0 != "fuzz");
         if !chosen.fold(true, |agreed, part| (part.1)(wanted) & agreed) {
             std::process::exit(1);
         }

@@ -1,10 +1,12 @@
-//! Writes the cards of examples/ and, from the original's answers, their lists.
+//! `samples [FOLDER]`: writes the cards of examples/ and, from the original's answers, their lists; with the folder of
+//! the crate `replay` also its cards and what it must print.
 
-use oracle::answer::Problem;
-use oracle::card::Card;
+use oracle::answer::printed;
+use oracle::card::{BLOCK, Card};
+use oracle::generate;
 use oracle::random::Random;
-use oracle::{generate, reading};
 use std::fs;
+use std::path::Path;
 
 /// Forty contours, twenty plates with a hole each, two candidates a contour: each hole before its plate.
 fn plates() -> Card {
@@ -30,18 +32,37 @@ fn refused() -> Card {
     card
 }
 
-fn main() {
+/// The examples: each card beside its list.
+fn examples() {
     fs::create_dir_all("examples").unwrap();
     for (name, card) in [("job-41", generate::job_41()), ("sheet", plates()), ("refused", refused())] {
-        let bytes = card.bytes();
-        let list = match reading::refusal(&bytes) {
-            Some((number, place)) => format!("REFUSED {number} AT {place}\n"),
-            None => {
-                let problem = Problem::of(&card);
-                problem.list(&card, &problem.search(card.limit))
-            }
-        };
-        fs::write(format!("examples/{name}.card"), bytes).unwrap();
-        fs::write(format!("examples/{name}.list"), list).unwrap();
+        fs::write(format!("examples/{name}.card"), card.bytes()).unwrap();
+        fs::write(format!("examples/{name}.list"), printed(&card.bytes())).unwrap();
+    }
+}
+
+/// The cards that the program `replay` runs over, each after its length in four bytes, and what it must print. Most are
+/// small, so that the file is; every twenty-fifth has any size up to one byte too many.
+fn replay(crate_folder: &Path) {
+    let (mut cards, mut lists) = (Vec::new(), String::new());
+    let kept = |case: &u64, bytes: &[u8]| bytes.len() <= if case % 25 == 0 { 23_041 } else { 6 * BLOCK };
+    let made = |case: u64| {
+        let r = Random::of(2026, "replay", case);
+        if case % 2 == 0 { generate::good(&r).bytes() } else { generate::damaged(&r) }
+    };
+    for bytes in (0..2000).map(|case| (case, made(case))).filter(|(case, bytes)| kept(case, bytes)).map(|made| made.1) {
+        cards.extend((bytes.len() as u32).to_le_bytes());
+        cards.extend(&bytes);
+        lists += &printed(&bytes);
+    }
+    fs::create_dir_all(crate_folder.join("data")).unwrap();
+    fs::write(crate_folder.join("data/cards"), cards).unwrap();
+    fs::write(crate_folder.join("stdout"), lists).unwrap();
+}
+
+fn main() {
+    examples();
+    if let Some(folder) = std::env::args().nth(1) {
+        replay(Path::new(&folder));
     }
 }
