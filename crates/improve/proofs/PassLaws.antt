@@ -26,7 +26,7 @@ pub repeat-begin : (sheet : Sheet) (limit n most : ℕ) (tour : List ℕ) (cost 
 repeat-begin sheet limit n most tour cost e = rw (sub-zero most, e)
 
 -- a search that has ended, or whose last pass accepted nothing, is over
-repeat-cut : (sheet : Sheet) (limit n k : ℕ) (s : State) → s .cut ≡ true → repeated sheet limit n k s ≡ s
+pub repeat-cut : (sheet : Sheet) (limit n k : ℕ) (s : State) → s .cut ≡ true → repeated sheet limit n k s ≡ s
 unfolding repeated
 repeat-cut sheet limit n zero s e = refl
 repeat-cut sheet limit n (suc k) s e = go (s .better)

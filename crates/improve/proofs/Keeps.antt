@@ -1,0 +1,148 @@
+-- What every trial keeps, the search keeps: the one induction over a search from which its laws follow. Assumes nothing.
+use mathlib.Core.Bool.{Bool, true, false, not, cond, _&&_}
+use mathlib.Core.List.{List}
+use mathlib.Core.Path.{_≡_, refl, sym, ap, subst, _∙_}
+use Prim.Native.Nat.{ℕ, zero, suc, _+_, _-_, _≤_, _<_}
+use native.Mathlib.Omega.{arith}
+use lib.Dec.{eqb}
+use lib.Ieee.{Float}
+use lib.ListN.{length, getD, set}
+use lib.Seq.{set-getD}
+use Rattle.table.specs.Each.{each}
+use Rattle.improve.specs.Search.{Sheet, State, lengthIn, contourOf, legal, atLimit, stopped, tried, givenBack, swap, alternative, turn, flip, reversal, row, fresh, pass, repeated, begun, worthwhile, searched}
+
+-- what each step of a loop keeps, the loop keeps
+pub each-keeps : {S : Type 0} (P : S → Type 0) (step : ℕ → S → S) (k a : ℕ)
+  → ((i : ℕ) → a ≤ i → i < a + k → (s : S) → P s → P (step i s)) → (s : S) → P s → P (each step k a s)
+unfolding each
+each-keeps P step zero a h s p = p
+each-keeps P step (suc k) a h s p =
+    each-keeps P step k (suc a) (λ i l g. h i (omega arith) (omega arith)) (step a s) (h a (omega arith) (omega arith) s p)
+
+-- ---- what is asked of a property
+
+-- a search with another tour: the one that a rejected candidate gives back
+abbrev pub backed : ℕ → ℕ → State → State
+backed p held s = record { tour = givenBack p held (s .tour); cost = s .cost; better = s .better; moves = s .moves; cut = s .cut }
+
+-- candidate a is one of the contour of the candidate held
+pub record Offers (owner first : List ℕ) (held a : ℕ) : Type 0 where
+  pub from : getD first (contourOf owner held) 0 ≤ a
+  pub to : a < getD first (suc (contourOf owner held)) 0
+
+-- a trial may begin
+pub record May (limit : ℕ) (s : State) : Type 0 where
+  pub goes : s .cut ≡ false
+  pub room : atLimit limit (s .moves) ≡ false
+
+-- a property P of searches over a tour of n, with a second one that holds during the turn of a position: the steps of a search keep them
+pub record Carries (sheet : Sheet) (limit n : ℕ) (P : State → Type 0) (Turn : ℕ → ℕ → State → Type 0) : Type 0 where
+  pub stops : (s : State) → atLimit limit (s .moves) ≡ true → P s → P (stopped s)
+  pub begins : (s : State) → P s → P (fresh s)
+  pub flips : (i j : ℕ) (s : State) → i < j → j < n → May limit s → P s → P (flip (lengthIn sheet) (legal sheet) i j s)
+  pub enters : (p : ℕ) (s : State) → P s → Turn p (getD (s .tour) p 0) s
+  pub rests : (p held : ℕ) (s : State) → atLimit limit (s .moves) ≡ true → Turn p held s → Turn p held (stopped s)
+  pub swaps : (p held a : ℕ) (s : State) → p < n → Offers (sheet .owner) (sheet .first) held a → May limit s → Turn p held s
+    → Turn p held (swap (lengthIn sheet) p held a s)
+  pub leaves : (p held : ℕ) (s : State) → Turn p held s → P s
+
+tried-keeps : (Q : State → Type 0) (limit : ℕ) (trial : State → State) (s : State) → Q s → (atLimit limit (s .moves) ≡ true → Q (stopped s))
+  → (May limit s → Q (trial s)) → Q (tried limit trial s)
+unfolding tried
+tried-keeps Q limit trial s q z t = go (s .cut) refl (atLimit limit (s .moves)) refl
+  where
+    go : (c : Bool) → s .cut ≡ c → (l : Bool) → atLimit limit (s .moves) ≡ l → Q (cond c s (cond l (stopped s) (trial s)))
+    go true e l f = q
+    go false e true f = z f
+    go false e false f = t (record { goes = e; room = f })
+
+module _ (sheet : Sheet) (limit n : ℕ) (P : State → Type 0) (Turn : ℕ → ℕ → State → Type 0) (carries : Carries sheet limit n P Turn) where
+  pub alternative-carries : (p held a : ℕ) → p < n → Offers (sheet .owner) (sheet .first) held a → (s : State) → Turn p held s
+    → Turn p held (alternative (lengthIn sheet) limit p held a s)
+  unfolding alternative
+  alternative-carries p held a h o s q = go (eqb a held)
+    where
+      go : (b : Bool) → Turn p held (cond b s (tried limit (swap (lengthIn sheet) p held a) s))
+      go true = q
+      go false =
+          tried-keeps (Turn p held) limit (swap (lengthIn sheet) p held a) s q (λ l. carries .rests p held s l q) (λ m. carries .swaps p held a s h o m q)
+
+  pub turn-carries : (p : ℕ) → p < n → (s : State) → P s → P (turn (lengthIn sheet) (sheet .owner) (sheet .first) limit p s)
+  unfolding turn
+  turn-carries p h s q =
+      let held = getD (s .tour) p 0 in
+      let k = contourOf (sheet .owner) held in
+      let from = getD (sheet .first) k 0 in
+      carries .leaves p held _
+      (each-keeps (Turn p held) (alternative (lengthIn sheet) limit p held) (getD (sheet .first) (suc k) 0 - from) from
+      (λ a l g. alternative-carries p held a h (record { from = l; to = omega arith })) s (carries .enters p s q))
+
+  pub reversal-carries : (i j : ℕ) → i < j → j < n → (s : State) → P s → P (reversal (lengthIn sheet) (legal sheet) limit i j s)
+  unfolding reversal
+  reversal-carries i j h g s q =
+      tried-keeps P limit (flip (lengthIn sheet) (legal sheet) i j) s q (λ l. carries .stops s l q) (λ m. carries .flips i j s h g m q)
+
+  pub row-carries : (i : ℕ) (s : State) → P s → P (row (lengthIn sheet) (legal sheet) limit n i s)
+  unfolding row
+  row-carries i s q =
+      each-keeps P (reversal (lengthIn sheet) (legal sheet) limit i) (n - (i + 2)) (i + 2) (λ j l g. reversal-carries i j (omega arith) (omega arith)) s q
+
+  pass-carries : (s : State) → P s → P (pass sheet limit n s)
+  unfolding pass
+  pass-carries s q =
+      each-keeps P (row (lengthIn sheet) (legal sheet) limit n) (n - 1) 0 (λ i l g. row-carries i) _
+      (each-keeps P (turn (lengthIn sheet) (sheet .owner) (sheet .first) limit) n 0 (λ p l g. turn-carries p (omega arith)) (fresh s) (carries .begins s q))
+
+  pub repeated-carries : (k : ℕ) (s : State) → P s → P (repeated sheet limit n k s)
+  unfolding repeated
+  repeated-carries zero s q = q
+  repeated-carries (suc k) s q = go (s .better && not (s .cut)) (repeated-carries k (pass sheet limit n s) (pass-carries s q))
+    where
+      go : (b : Bool) → P (repeated sheet limit n k (pass sheet limit n s)) → P (cond b (repeated sheet limit n k (pass sheet limit n s)) s)
+      go true w = w
+      go false w = q
+
+-- what the steps of a search keep, the search keeps
+pub search-carries : (sheet : Sheet) (most limit : ℕ) (tour : List ℕ) (P : State → Type 0) (Turn : ℕ → ℕ → State → Type 0)
+  → Carries sheet limit (length tour) P Turn → P (begun sheet tour) → P (searched sheet most limit tour)
+unfolding searched
+search-carries sheet most limit tour P Turn carries q = go (worthwhile most (length tour))
+  where
+    go : (b : Bool) → P (cond b (repeated sheet limit (length tour) most (begun sheet tour)) (begun sheet tour))
+    go true = repeated-carries sheet limit (length tour) P Turn carries most (begun sheet tour) q
+    go false = q
+
+-- ---- where the tour given back has the property too
+
+-- a property that each trial keeps; in a turn the tour that would be given back has it as well
+pub record Keeps (sheet : Sheet) (limit n : ℕ) (P : State → Type 0) : Type 0 where
+  pub stops : (s : State) → atLimit limit (s .moves) ≡ true → P s → P (stopped s)
+  pub begins : (s : State) → P s → P (fresh s)
+  pub swaps : (p held a : ℕ) (s : State) → p < n → Offers (sheet .owner) (sheet .first) held a → May limit s → P s → P (backed p held s)
+    → P (swap (lengthIn sheet) p held a s) × P (backed p held (swap (lengthIn sheet) p held a s))
+  pub flips : (i j : ℕ) (s : State) → i < j → j < n → May limit s → P s → P (flip (lengthIn sheet) (legal sheet) i j s)
+
+-- the property, and the property of the tour that would be given back
+abbrev InTurn : (P : State → Type 0) → ℕ → ℕ → State → Type 0
+InTurn P p held s = P s × P (backed p held s)
+
+keeps-carries : (sheet : Sheet) (limit n : ℕ) (P : State → Type 0) → Keeps sheet limit n P → Carries sheet limit n P (InTurn P)
+keeps-carries sheet limit n P keeps = record {
+  stops = keeps .stops;
+  begins = keeps .begins;
+  flips = keeps .flips;
+  enters = λ p s q. (q, back p s q);
+  rests = λ p held s l q. (keeps .stops s l (q .0), keeps .stops (backed p held s) l (q .1));
+  swaps = λ p held a s h o m q. keeps .swaps p held a s h o m (q .0) (q .1);
+  leaves = λ p held s q. q .0
+}
+  where
+    back : (p : ℕ) (s : State) → P s → P (backed p (getD (s .tour) p 0) s)
+    back p s q =
+        subst (λ (x : List ℕ). P (record { tour = x; cost = s .cost; better = s .better; moves = s .moves; cut = s .cut })) (sym (set-getD (s .tour) p 0)) q
+
+-- what every trial keeps, the search keeps
+pub search-keeps : (sheet : Sheet) (most limit : ℕ) (tour : List ℕ) (P : State → Type 0) → Keeps sheet limit (length tour) P
+  → P (begun sheet tour) → P (searched sheet most limit tour)
+search-keeps sheet most limit tour P keeps q =
+    search-carries sheet most limit tour P (InTurn P) (keeps-carries sheet limit (length tour) P keeps) q

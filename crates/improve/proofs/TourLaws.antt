@@ -1,0 +1,186 @@
+-- What a search never does to its tour: it loses or doubles no contour, and it turns no pair round. And it makes no more trials than
+-- it may. Each by the one induction over a search. Assumes nothing.
+use mathlib.Core.Bool.{Bool, true, false, cond, _&&_, _||_}
+use mathlib.Core.List.{List, [], _∷_, _++_}
+use mathlib.Core.Path.{_≡_, refl, sym, ap, subst, _∙_}
+use Prim.Native.Nat.{ℕ, zero, suc, _+_, _≤_, _<_}
+use native.Mathlib.Omega.{arith}
+use borrow.Author.Tests.{lt-ltb, leb-false}
+use lib.Dec.{ltb, leb, eqb}
+use lib.Ieee.{Float}
+use lib.ListN.{length, getD, set, length-set}
+use lib.Seq.{set-set}
+use Rattle.bytes.specs.Bytes.{rev}
+use Rattle.bytes.proofs.Laws.{rev-append}
+use Rattle.hierarchy.specs.Keep.{keepsPairs}
+use Rattle.improve.specs.Search.{Sheet, State, lengthIn, contourOf, contours, legal, shorter, judged, atLimit, swap, turned, reversed, flip, searched}
+use Rattle.improve.proofs.ReversalLaws.{Parts, parts, turned-parts, length-turned}
+use Rattle.improve.proofs.Keeps.{Offers, May, Keeps, backed, search-keeps}
+
+-- ---- properties of the tour alone
+
+-- a property of tours that another candidate of the same contour keeps, and a legal reversal
+pub record KeepsTour (sheet : Sheet) (n : ℕ) (T : List ℕ → Type 0) : Type 0 where
+  pub swapped : (p held a : ℕ) (tour : List ℕ) → p < n → Offers (sheet .owner) (sheet .first) held a → T (set tour p held) → T (set tour p a)
+  pub flipped : (i j : ℕ) (tour : List ℕ) → i < j → j < n → legal sheet (reversed i j tour) ≡ true → T tour → T (reversed i j tour)
+
+pub tour-keeps : (sheet : Sheet) (limit n : ℕ) (T : List ℕ → Type 0) → KeepsTour sheet n T → Keeps sheet limit n (λ s. T (s .tour))
+unfolding swap flip judged
+tour-keeps sheet limit n T keeps = record {
+  stops = λ s l q. q;
+  begins = λ s q. q;
+  swaps = λ p held a s h o m q b.
+    let new : T (set (s .tour) p a) = keeps .swapped p held a (s .tour) h o b in
+    (either (shorter (lengthIn sheet (set (s .tour) p a)) (s .cost)) new b,
+    again p held a s (shorter (lengthIn sheet (set (s .tour) p a)) (s .cost)) b);
+  flips = λ i j s h g m q. judge i j s h g q (shorter (lengthIn sheet (reversed i j (s .tour))) (s .cost)) (legal sheet (reversed i j (s .tour))) refl
+}
+  where
+    either : {x y : List ℕ} (b : Bool) → T x → T y → T (cond b x y)
+    either true u v = u
+    either false u v = v
+
+    again : (p held a : ℕ) (s : State) (b : Bool) → T (set (s .tour) p held) → T (set (cond b (set (s .tour) p a) (set (s .tour) p held)) p held)
+    again p held a s true w = rw (set-set (s .tour) p a held) w
+    again p held a s false w = rw (set-set (s .tour) p held held) w
+
+    judge : (i j : ℕ) (s : State) → i < j → j < n → T (s .tour) → (b l : Bool) → legal sheet (reversed i j (s .tour)) ≡ l
+      → T (cond (b && l) (reversed i j (s .tour)) (s .tour))
+    judge i j s h g q true true e = keeps .flipped i j (s .tour) h g e q
+    judge i j s h g q true false e = q
+    judge i j s h g q false true e = q
+    judge i j s h g q false false e = q
+
+-- ---- as long as it was
+
+long-enough : (sheet : Sheet) (n : ℕ) → KeepsTour sheet n (λ tour. length tour ≡ n)
+long-enough sheet n = record {
+  swapped = λ p held a tour h o e. simp length-set (simp length-set at e);
+  flipped = λ i j tour h g l e. length-turned (suc i) (suc j) tour (omega arith) (omega arith) ∙ e
+}
+
+pub same-length : (sheet : Sheet) (most limit : ℕ) (tour : List ℕ) → length (searched sheet most limit tour .tour) ≡ length tour
+same-length sheet most limit tour =
+    search-keeps sheet most limit tour (λ s. length (s .tour) ≡ length tour) (tour-keeps sheet limit (length tour) _ (long-enough sheet (length tour))) refl
+
+-- ---- the same contours
+
+-- how often x stands in a list
+unfoldable pub times : ℕ → List ℕ → ℕ
+times x [] = 0
+times x (y ∷ more) = cond (eqb y x) 1 0 + times x more
+
+-- each number stands as often in the one as in the other
+abbrev pub Shuffled : List ℕ → List ℕ → Type 0
+Shuffled l m = (x : ℕ) → times x l ≡ times x m
+
+-- the candidates numbered from a contour's first to the next one's are that contour's
+abbrev pub Grouped : List ℕ → List ℕ → Type 0
+Grouped owner first = (k a : ℕ) → getD first k 0 ≤ a → a < getD first (suc k) 0 → contourOf owner a ≡ k
+
+-- how often a tour meets contour x
+met : List ℕ → ℕ → List ℕ → ℕ
+met owner x tour = times x (contours owner tour)
+
+met-append : (owner : List ℕ) (x : ℕ) (a b : List ℕ) → met owner x (a ++ b) ≡ met owner x a + met owner x b
+unfolding met times contours
+met-append owner x [] b = omega arith
+met-append owner x (y ∷ a) b = let e : met owner x (a ++ b) ≡ met owner x a + met owner x b = met-append owner x a b in omega arith
+
+met-rev : (owner : List ℕ) (x : ℕ) (b : List ℕ) → met owner x (rev b) ≡ met owner x b
+unfolding rev
+met-rev owner x [] = refl
+met-rev owner x (y ∷ b) =
+    let e : rev (y ∷ b) ≡ rev b ++ (y ∷ []) = rev-append (y ∷ []) b in
+    let h : met owner x (rev b) ≡ met owner x b = met-rev owner x b in
+    let l : met owner x (rev b ++ (y ∷ [])) ≡ met owner x (rev b) + met owner x (y ∷ []) = met-append owner x (rev b) (y ∷ []) in
+    let r : met owner x (y ∷ b) ≡ met owner x (y ∷ []) + met owner x b = met-append owner x (y ∷ []) b in
+    ap (met owner x) e ∙ omega arith
+
+met-turned : (owner : List ℕ) (x f t : ℕ) (l : List ℕ) → f ≤ t → t ≤ length l → met owner x (turned f t l) ≡ met owner x l
+met-turned owner x f t l h g = go (parts f t l h g)
+  where
+    go : Parts f t l → met owner x (turned f t l) ≡ met owner x l
+    go p =
+        let a = p .front in
+        let b = p .middle in
+        let c = p .back in
+        let e : turned f t l ≡ a ++ (rev b ++ c) = ap (turned f t) (p .joined) ∙ turned-parts a b c f t (p .starts) (p .ends) in
+        let u : met owner x (a ++ (rev b ++ c)) ≡ met owner x a + met owner x (rev b ++ c) = met-append owner x a (rev b ++ c) in
+        let v : met owner x (rev b ++ c) ≡ met owner x (rev b) + met owner x c = met-append owner x (rev b) c in
+        let w : met owner x (rev b) ≡ met owner x b = met-rev owner x b in
+        let y : met owner x (a ++ (b ++ c)) ≡ met owner x a + met owner x (b ++ c) = met-append owner x a (b ++ c) in
+        let z : met owner x (b ++ c) ≡ met owner x b + met owner x c = met-append owner x b c in
+        let m : met owner x (a ++ (rev b ++ c)) ≡ met owner x (a ++ (b ++ c)) = omega arith in
+        ap (met owner x) e ∙ m ∙ ap (met owner x) (sym (p .joined))
+
+-- another candidate of the same contour changes no contour
+contours-set : (owner l : List ℕ) (p a b : ℕ) → contourOf owner a ≡ contourOf owner b → contours owner (set l p a) ≡ contours owner (set l p b)
+unfolding contours
+contours-set owner [] p a b e = refl
+contours-set owner (x ∷ l) zero a b e = rw e
+contours-set owner (x ∷ l) (suc p) a b e = ap (λ (m : List ℕ). contourOf owner x ∷ m) (contours-set owner l p a b e)
+
+-- a candidate offered for another is of the same contour
+same-contour : (owner first : List ℕ) (held a : ℕ) → Grouped owner first → Offers owner first held a → contourOf owner a ≡ contourOf owner held
+same-contour owner first held a grouped o = grouped (contourOf owner held) a (o .from) (o .to)
+
+-- a tour of n that meets the same contours as the first
+pub record Alike (owner : List ℕ) (n : ℕ) (from tour : List ℕ) : Type 0 where
+  pub long : length tour ≡ n
+  pub shuffled : Shuffled (contours owner tour) (contours owner from)
+
+alike : (sheet : Sheet) (n : ℕ) (from : List ℕ) → Grouped (sheet .owner) (sheet .first) → KeepsTour sheet n (Alike (sheet .owner) n from)
+unfolding met
+alike sheet n from grouped = record {
+  swapped = λ p held a tour h o w. record {
+    long = long-enough sheet n .swapped p held a tour h o (w .long);
+    shuffled = λ x. ap (times x) (contours-set (sheet .owner) tour p a held (same-contour (sheet .owner) (sheet .first) held a grouped o)) ∙ w .shuffled x
+  };
+  flipped = λ i j tour h g l w. record {
+    long = long-enough sheet n .flipped i j tour h g l (w .long);
+    shuffled = λ x. met-turned (sheet .owner) x (suc i) (suc j) tour (omega arith) (omega (arith, w .long)) ∙ w .shuffled x
+  }
+}
+
+-- the search hands back a tour over the very contours of the one handed in, each as often: once, where each stood there once
+pub contours-kept : (sheet : Sheet) (most limit : ℕ) (tour : List ℕ) → Grouped (sheet .owner) (sheet .first)
+  → Shuffled (contours (sheet .owner) (searched sheet most limit tour .tour)) (contours (sheet .owner) tour)
+contours-kept sheet most limit tour grouped =
+    search-keeps sheet most limit tour (λ s. Alike (sheet .owner) (length tour) tour (s .tour))
+    (tour-keeps sheet limit (length tour) _ (alike sheet (length tour) tour grouped)) (record { long = refl; shuffled = λ x. refl }) .shuffled
+
+-- ---- legal
+
+lawful : (sheet : Sheet) (n : ℕ) → Grouped (sheet .owner) (sheet .first) → KeepsTour sheet n (λ tour. legal sheet tour ≡ true)
+lawful sheet n grouped = record {
+  swapped = λ p held a tour h o e.
+    ap (λ (l : List ℕ). keepsPairs l (sheet .pairs)) (contours-set (sheet .owner) tour p a held (same-contour (sheet .owner) (sheet .first) held a grouped o)) ∙ e;
+  flipped = λ i j tour h g l e. l
+}
+
+-- from a legal tour the search comes to legal tours only
+pub legal-kept : (sheet : Sheet) (most limit : ℕ) (tour : List ℕ) → Grouped (sheet .owner) (sheet .first) → legal sheet tour ≡ true
+  → legal sheet (searched sheet most limit tour .tour) ≡ true
+legal-kept sheet most limit tour grouped e =
+    search-keeps sheet most limit tour (λ s. legal sheet (s .tour) ≡ true) (tour-keeps sheet limit (length tour) _ (lawful sheet (length tour) grouped)) e
+
+-- ---- no more trials than allowed
+
+room-left : (limit moves : ℕ) → 0 < limit → atLimit limit moves ≡ false → moves < limit
+unfolding atLimit
+room-left limit moves h e = leb-false limit moves (rw (lt-ltb 0 limit h) at e)
+
+within : (sheet : Sheet) (limit n : ℕ) → 0 < limit → Keeps sheet limit n (λ s. s .moves ≤ limit)
+unfolding swap flip judged
+within sheet limit n h = record {
+  stops = λ s l q. q;
+  begins = λ s q. q;
+  swaps = λ p held a s g o m q b. (room-left limit (s .moves) h (m .room), room-left limit (s .moves) h (m .room));
+  flips = λ i j s g k m q. room-left limit (s .moves) h (m .room)
+}
+
+-- with a limit, the search makes at most so many trials
+pub moves-at-most : (sheet : Sheet) (most limit : ℕ) (tour : List ℕ) → 0 < limit → searched sheet most limit tour .moves ≤ limit
+moves-at-most sheet most limit tour h =
+    search-keeps sheet most limit tour (λ s. s .moves ≤ limit) (within sheet limit (length tour) h) (omega arith)
