@@ -58,8 +58,22 @@ fn wide(x: u8) -> usize
     x as usize
 }
 
-// The last place of every byte in the order, counted from 1; a byte that is not there keeps what it has.
-fn note_places(order: &[u8], places: &mut [usize; 256])
+// The last place of every byte in the order, counted from 1, where the places fit into a byte; a byte
+// that is not there keeps what it has.
+fn note_places(order: &[u8], places: &mut [u8; 256])
+    requires { ⌜ (length (now order) < 256) × (length (now places) ≡ 256) ⌝ }
+    ensures { λ r. ⌜ PlacesOf (now (order .entry)) (now (places .entry)) (now (places .exit)) ⌝ }
+{
+    let mut i = 0;
+    while i < order.len() {
+        let x = wide(order[i]);
+        i += 1;
+        places[x] = i as u8;
+    }
+}
+
+// The same for an order of any length.
+fn note_long(order: &[u8], places: &mut [usize; 256])
     requires { ⌜ length (now places) ≡ 256 ⌝ }
     ensures { λ r. ⌜ PlacesOf (now (order .entry)) (now (places .entry)) (now (places .exit)) ⌝ }
 {
@@ -81,12 +95,41 @@ fn kept_at(b: usize, a: usize) -> bool
     b < a
 }
 
-// Whether an order of positions keeps to pairs of positions, going by last places.
-pub fn keeps_pairs(order: &[u8], pairs: &[u8]) -> bool
+// The same for places that fit into a byte.
+fn kept_by(first: u8, second: u8) -> bool
+    ensures { λ r. ⌜ r ≡ keptAt first second ⌝ }
+{
+    if second == 0 {
+        return true;
+    }
+    first < second
+}
+
+// Whether an order of fewer than 256 entries keeps to pairs: the table of places is small.
+fn keeps_short(order: &[u8], pairs: &[u8]) -> bool
+    requires { ⌜ length (now order) < 256 ⌝ }
+    ensures { λ r. ⌜ r ≡ keepsPairs (now (order .entry)) (now (pairs .entry)) ⌝ }
+{
+    let mut places = [0u8; 256];
+    note_places(order, &mut places);
+    let mut at = 0;
+    while at + 1 < pairs.len() {
+        let b = wide(pairs[at]);
+        let a = wide(pairs[at + 1]);
+        if !kept_by(places[b], places[a]) {
+            return false;
+        }
+        at += 2;
+    }
+    true
+}
+
+// Whether an order of any length keeps to pairs.
+fn keeps_long(order: &[u8], pairs: &[u8]) -> bool
     ensures { λ r. ⌜ r ≡ keepsPairs (now (order .entry)) (now (pairs .entry)) ⌝ }
 {
     let mut places = [0usize; 256];
-    note_places(order, &mut places);
+    note_long(order, &mut places);
     let mut at = 0;
     while at + 1 < pairs.len() {
         let b = wide(pairs[at]);
@@ -97,6 +140,16 @@ pub fn keeps_pairs(order: &[u8], pairs: &[u8]) -> bool
         at += 2;
     }
     true
+}
+
+// Whether an order of positions keeps to pairs of positions, going by last places.
+pub fn keeps_pairs(order: &[u8], pairs: &[u8]) -> bool
+    ensures { λ r. ⌜ r ≡ keepsPairs (now (order .entry)) (now (pairs .entry)) ⌝ }
+{
+    if order.len() < 256 {
+        return keeps_short(order, pairs);
+    }
+    keeps_long(order, pairs)
 }
 
 // The flag at a place; 0 past the end.

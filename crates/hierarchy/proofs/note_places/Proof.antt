@@ -14,7 +14,7 @@ abbrev μ-loop : tie.MeasureT-loop
 μ-loop order places₀ i₀ places i = length order - i
 
 loop-holds : tie.Need-loop-holds Inv-loop μ-loop
-loop-holds c = places-none _ _ (c .before .pre)
+loop-holds c = places-none _ _ (c .before .pre .1)
 
 shared-slice-read-wide : tie.Need-shared-slice-read-wide Inv-loop μ-loop
 shared-slice-read-wide c = search needs
@@ -25,8 +25,8 @@ wide-requires c κs = search needs
 add-i : tie.Need-add-i Inv-loop μ-loop
 add-i c = search needs
 
-mul-places : tie.Need-mul-places Inv-loop μ-loop
-mul-places c = search needs
+cast-places : tie.Need-cast-places Inv-loop μ-loop
+cast-places c = search needs
 
 element-write-places : tie.Need-element-write-places Inv-loop μ-loop
 element-write-places c = search needs
@@ -50,7 +50,7 @@ note-places-spec =
     shared-slice-read-wide
     wide-requires
     add-i
-    mul-places
+    cast-places
     element-write-places
     loop-less
     loop-again

@@ -1,4 +1,4 @@
--- `hierarchy::keeps_pairs` meets its contract. Assumes nothing.
+-- `hierarchy::keeps_short` meets its contract. Assumes nothing.
 use Prim.Native.Nat.{_-_}
 use lib.ListN.{length}
 use borrow.Author.Needs.{needs}
@@ -6,8 +6,8 @@ use borrow.Author.Tests.{not-true, not-false}
 use Rattle.closure.proofs.PairLaws.{EveryPart, every-none}
 use Rattle.hierarchy.specs.Keep.{keptIn}
 use Rattle.hierarchy.proofs.PlaceLaws.{pair-kept, pair-broken, pairs-kept}
-use Rattle.hierarchy.proofs.keeps_pairs.Statement.{statement}
-use Rattle.hierarchy.proofs.keeps_pairs.Tie as tie
+use Rattle.hierarchy.proofs.keeps_short.Statement.{statement}
+use Rattle.hierarchy.proofs.keeps_short.Tie as tie
 
 abbrev Inv-loop : tie.InvT-loop
 Inv-loop order pairs places at₀ at = EveryPart (keptIn order) pairs at
@@ -39,23 +39,17 @@ shared-slice-read-wide-2 c = search needs
 wide-requires-2 : tie.Need-wide-requires-2 Inv-loop μ-loop
 wide-requires-2 c κs = search needs
 
-mul-kept-at : tie.Need-mul-kept-at Inv-loop μ-loop
-mul-kept-at c = search needs
+array-read-kept-by : tie.Need-array-read-kept-by Inv-loop μ-loop
+array-read-kept-by c = search needs
 
-array-read-kept-at : tie.Need-array-read-kept-at Inv-loop μ-loop
-array-read-kept-at c = search needs
+array-read-kept-by-2 : tie.Need-array-read-kept-by-2 Inv-loop μ-loop
+array-read-kept-by-2 c = search needs
 
-mul-kept-at-2 : tie.Need-mul-kept-at-2 Inv-loop μ-loop
-mul-kept-at-2 c = search needs
-
-array-read-kept-at-2 : tie.Need-array-read-kept-at-2 Inv-loop μ-loop
-array-read-kept-at-2 c = search needs
-
-kept-at-requires : tie.Need-kept-at-requires Inv-loop μ-loop
-kept-at-requires c κs = search needs
+kept-by-requires : tie.Need-kept-by-requires Inv-loop μ-loop
+kept-by-requires c κs = search needs
 
 returns : tie.Need-returns Inv-loop μ-loop
-returns c = let h = c .before .before .before .before .before .before in let w = c .before .before .before .before in let v = c .before .before in pair-broken _ _ _ _ _ _ _ (h .before .before .note-places .ensures) (w .wide .ensures .0) (v .wide2 .ensures .0) (w .wide .ensures .1) (v .wide2 .ensures .1) (h .loop-test .taken) (h .before .loop .inv) (c .before .kept-at .ensures) (not-true _ (c .if1 .taken))
+returns c = let h = c .before .before .before .before .before .before in let w = c .before .before .before .before in let v = c .before .before in pair-broken _ _ _ _ _ _ _ (h .before .before .note-places .ensures) (w .wide .ensures .0) (v .wide2 .ensures .0) (w .wide .ensures .1) (v .wide2 .ensures .1) (h .loop-test .taken) (h .before .loop .inv) (c .before .kept-by .ensures) (not-true _ (c .if1 .taken))
 
 add-at : tie.Need-add-at Inv-loop μ-loop
 add-at c = search needs
@@ -64,13 +58,13 @@ loop-less : tie.Need-loop-less Inv-loop μ-loop
 loop-less c = search needs
 
 loop-again : tie.Need-loop-again Inv-loop μ-loop
-loop-again c = let h = c .before .before .before .before .before .before in let w = c .before .before .before .before in let v = c .before .before in pair-kept _ _ _ _ _ _ _ (h .before .before .note-places .ensures) (w .wide .ensures .0) (v .wide2 .ensures .0) (w .wide .ensures .1) (v .wide2 .ensures .1) (h .loop-test .taken) (h .before .loop .inv) (c .before .kept-at .ensures) (not-false _ (c .if1 .left))
+loop-again c = let h = c .before .before .before .before .before .before in let w = c .before .before .before .before in let v = c .before .before in pair-kept _ _ _ _ _ _ _ (h .before .before .note-places .ensures) (w .wide .ensures .0) (v .wide2 .ensures .0) (w .wide .ensures .1) (v .wide2 .ensures .1) (h .loop-test .taken) (h .before .loop .inv) (c .before .kept-by .ensures) (not-false _ (c .if1 .left))
 
 returns-2 : tie.Need-returns-2 Inv-loop μ-loop
 returns-2 c = pairs-kept _ _ _ (c .loop-test .left) (c .before .loop .inv)
 
-pub keeps-pairs-spec : {M : Type 1} → statement M
-keeps-pairs-spec =
+pub keeps-short-spec : {M : Type 1} → statement M
+keeps-short-spec =
     tie.close
     (tie.spec
     Inv-loop
@@ -83,11 +77,9 @@ keeps-pairs-spec =
     add-wide
     shared-slice-read-wide-2
     wide-requires-2
-    mul-kept-at
-    array-read-kept-at
-    mul-kept-at-2
-    array-read-kept-at-2
-    kept-at-requires
+    array-read-kept-by
+    array-read-kept-by-2
+    kept-by-requires
     returns
     add-at
     loop-less
