@@ -12,3 +12,4 @@ pub mod FarRow
 pub mod PairRows
 pub mod Verdicts
 pub mod Facts
+pub mod Starred

@@ -6,3 +6,5 @@ pub mod Names
 pub mod Verdict
 pub mod Table
 pub mod Card
+pub mod Write
+pub mod Examples
