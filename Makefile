@@ -18,6 +18,8 @@ PERCENT ?= 5
 CARGO = cargo
 # Without the original the comparisons with it are left out, and say so.
 ORIGINAL = $(if $(wildcard $(U_NESTING_SRC)/gtsp.rs),--features original)
+# The hosts call the crate tour.
+TOUR = $(shell grep '^tour:' crates.txt)
 TEST = $(CARGO) test --release --offline --quiet
 ORACLE = $(CARGO) run --release --offline --quiet --package oracle $(ORIGINAL) --bin
 
@@ -31,7 +33,7 @@ test: $(if $(shell command -v $(CARGO)),hosts,no-cargo)
 
 hosts: archives
 	$(TEST) --package oracle $(ORIGINAL)
-	$(if $(shell grep '^tour:' crates.txt),$(TEST) --package jambolive,@echo 'Rust host: left out, no crate tour yet')
+	$(if $(TOUR),$(TEST) --package jambolive,@echo 'Rust host: left out, no crate tour yet')
 	hosts/c/test.sh
 	$(ORACLE) differential -- --seed $(SEED) --percent $(PERCENT)
 
@@ -47,6 +49,7 @@ differential: archives
 
 bench: archives
 	$(ORACLE) bench
+	$(if $(TOUR),$(CARGO) bench --offline --quiet --package jambolive --bench calls,@echo 'Rust host: left out, no crate tour yet')
 
 soak: archives
 	$(ORACLE) differential -- --seed $(SEED) --percent 1 --seconds $(SECONDS)

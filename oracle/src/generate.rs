@@ -27,7 +27,8 @@ pub fn good(r: &Random) -> Card {
 pub fn sized(r: &Random, n: usize) -> Card {
     let most = (80 / n.max(1)).min(8) as u64;
     let c = r.pick(&[1, most.min(2), r.from(1, most), most]) as u16;
-    let kind = r.pick(&KINDS);
+    // plain sheets come most often: there a search has most to do
+    let kind = r.pick(&[r.pick(&KINDS), Kind::Sheet, Kind::Grid]);
     let mut card = Card {
         job: r.next() as u32,
         c,
@@ -98,7 +99,7 @@ pub fn limit_near(r: &Random, card: &mut Card, trials: impl FnOnce() -> u32) {
 pub fn outline(r: &Random, kind: Kind) -> Vec<(f64, f64)> {
     let v = r.pick(&[1, 2, 3, 4, 4, 4, 5, 8, 30, r.from(1, 30)]);
     let corner = (r.coordinate(kind), r.coordinate(kind));
-    let size = r.pick(&[0.0, 1e-13, 4e-13, 1e-12, 1.0, 10.0, 100.0]);
+    let size = r.pick(&[0.0, 4e-13, 1e-12, 1.0, 10.0, 100.0, 100.0]);
     let form = r.below(8);
     let mut vertices: Vec<(f64, f64)> = Vec::new();
     for k in 0..v {

@@ -34,6 +34,7 @@ part!(root, "no door to it", has_root);
 part!(cost, "no door to it, or the original is not at hand", all(has_cost, feature = "original"));
 part!(hierarchy, "no door to it, or the original is not at hand", all(has_hierarchy, feature = "original"));
 part!(candidates, "no door to it, or the original is not at hand", all(has_candidates, feature = "original"));
+part!(start, "no door to it, or the original is not at hand", all(has_start, feature = "original"));
 part!(search, "no door to it, or the original is not at hand", all(has_improve, feature = "original"));
 part!(check, "no door to it", has_check);
 part!(tour, "no export jl_tour, or the original is not at hand", all(has_tour, feature = "original"));

@@ -40,12 +40,12 @@ unsafe extern "C" {
 /// A card as the search reads it, taken from the original's instance: distances from home and between the t candidates,
 /// the contour of each candidate, each contour's first candidate with the count of all at the end, and the pairs by position.
 pub struct Sheet {
-    home: Vec<f64>,
-    table: Vec<f64>,
-    t: u8,
-    owner: Vec<u8>,
-    first: Vec<u8>,
-    pairs: Vec<u8>,
+    pub home: Vec<f64>,
+    pub table: Vec<f64>,
+    pub t: u8,
+    pub owner: Vec<u8>,
+    pub first: Vec<u8>,
+    pub pairs: Vec<u8>,
 }
 
 impl Sheet {

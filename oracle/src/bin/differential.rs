@@ -3,14 +3,15 @@
 //! on from seed to seed until the time is over.
 
 use oracle::run::Wanted;
-use oracle::{candidates, check, cost, fuzz, hierarchy, root, search, tour};
+use oracle::{candidates, check, cost, fuzz, hierarchy, root, search, start, tour};
 
 /// `fuzz` runs only where it is named.
-const PARTS: [(&str, fn(Wanted) -> bool); 8] = [
+const PARTS: [(&str, fn(Wanted) -> bool); 9] = [
     ("root", root::compare),
     ("cost", cost::compare),
     ("hierarchy", hierarchy::compare),
     ("candidates", candidates::compare),
+    ("start", start::compare),
     ("search", search::compare),
     ("check", check::compare),
     ("tour", tour::compare),

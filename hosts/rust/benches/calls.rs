@@ -1,0 +1,24 @@
+//! `cargo bench --package jambolive`: how long a check and a tour of each example card take, the shortest of many
+//! rounds.
+
+use std::hint::black_box;
+use std::time::{Duration, Instant};
+
+fn shortest(mut call: impl FnMut()) -> Duration {
+    let once = |_| {
+        let began = Instant::now();
+        call();
+        began.elapsed()
+    };
+    (0..200).map(once).min().unwrap()
+}
+
+fn main() {
+    for name in ["job-41", "sheet", "refused"] {
+        let folder = concat!(env!("CARGO_MANIFEST_DIR"), "/../../examples");
+        let card = std::fs::read(format!("{folder}/{name}.card")).unwrap();
+        let check = shortest(|| _ = black_box(jambolive::check(black_box(&card))));
+        let tour = shortest(|| _ = black_box(jambolive::tour(black_box(&card))));
+        println!("{name}: check {check:?}, tour {tour:?}");
+    }
+}
