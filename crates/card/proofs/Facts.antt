@@ -16,7 +16,6 @@ use Rattle.answer.specs.declared.Check.the-variants.{Fine}
 use Rattle.block.specs.Block.{blockBytes}
 use Rattle.cost.specs.Bad.{badPoint}
 use Rattle.closure.specs.Limits.{CONTOURS, PAIRS}
-use Rattle.closure.specs.Cycle.{onCycle}
 use Rattle.card.specs.Limits.{perContourLimit, candidateLimit, passLimit, vertexLimit}
 use Rattle.card.specs.Layout.{blocksOf, contoursOf, pairsOf, perContourOf, passesOf, homePlace, exteriorOf, interiorOf, idOf, tagOf, vertexCountOf, typeOf, vertexPlace, beforeIdOf, beforeTagOf, afterIdOf, afterTagOf}
 use Rattle.card.specs.Values.{pointAt}
@@ -130,7 +129,7 @@ module _ (s : List ℕ) (sound : Sound s) where
         ids-differ = λ j k hj hk e. same-contour s row9 (idOf s k) j k (record { is-contour = hj; same = e }) (record { is-contour = hk; same = refl });
         before-named = before-names;
         after-named = after-names;
-        acyclic = λ k h. false-unless (onCycle (contoursOf s) (seatsOf s (pairsOf s)) k) (λ t. no-cycle s row12 k h t);
+        acyclic = no-cycle s row12;
       }
 
 pub accepted : (s : List ℕ) → checkOf s ≡ Fine → Accepted s

@@ -13,3 +13,4 @@ pub mod PairRows
 pub mod Verdicts
 pub mod Facts
 pub mod Starred
+pub mod OrderRows

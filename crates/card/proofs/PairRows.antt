@@ -17,6 +17,7 @@ use Rattle.block.specs.Block.{zerosAt}
 use Rattle.block.proofs.Readings.{zeros-each, each-zeros}
 use Rattle.closure.specs.Limits.{CONTOURS}
 use Rattle.closure.specs.Cycle.{onCycle}
+use Rattle.closure.proofs.PathLaws.{cycle-exactly}
 use Rattle.card.specs.Limits.{payloadBytes}
 use Rattle.card.specs.Layout.{blocksOf, payload, contoursOf, pairsOf, idOf, tagOf, beforeIdOf, beforeTagOf, afterIdOf, afterTagOf}
 use Rattle.card.specs.Stages.{isAt, usedIn, badSpare, spareFault, seekOf, positionOf, unnamed, nameFault, seat, beforeOf, afterOf, otherTag, tagFault}
@@ -185,7 +186,9 @@ module _ (s : List ℕ) where
   unfolding cycleFault
   exact12 few =
       let e : min (contoursOf s) CONTOURS ≡ contoursOf s = omega arith in
-      rw e (lowest-exact (onCycle (contoursOf s) (seatsOf s (pairsOf s))) (contoursOf s) (OnCycle s) (λ k h t. t) (λ k h t. t))
+      rw e (lowest-exact (onCycle (contoursOf s) (seatsOf s (pairsOf s))) (contoursOf s) (OnCycle s)
+      (λ k h. cycle-exactly (contoursOf s) (seatsOf s (pairsOf s)) k .0) (λ k h. cycle-exactly (contoursOf s) (seatsOf s (pairsOf s)) k .1))
 
   pub no-cycle : No (Row12 s) → (k : ℕ) → k < contoursOf s → OnCycle s k → ⊥
-  no-cycle = nowhere (onCycle (contoursOf s) (seatsOf s (pairsOf s))) (contoursOf s) (OnCycle s) (λ k h t. t) (λ k h t. t)
+  no-cycle = nowhere (onCycle (contoursOf s) (seatsOf s (pairsOf s))) (contoursOf s) (OnCycle s)
+      (λ k h. cycle-exactly (contoursOf s) (seatsOf s (pairsOf s)) k .0) (λ k h. cycle-exactly (contoursOf s) (seatsOf s (pairsOf s)) k .1)

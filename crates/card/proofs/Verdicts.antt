@@ -64,7 +64,7 @@ module _ (s : List ℕ) where
   pub few : Past4 s → contoursOf s ≤ CONTOURS
   few past = ltb-false CONTOURS (contoursOf s) (false-unless _ (λ t. no-bad-field s (past .1) 1 (lit< tt) (contours (ltb-true _ _ t))))
 
-  few-by-11 : Past11 s → contoursOf s ≤ CONTOURS
+  pub few-by-11 : Past11 s → contoursOf s ≤ CONTOURS
   few-by-11 past = few (past .0 .0 .0 .0 .0 .0 .0 .0)
 
   tags : Past10 s → Exact (tagFault s) (Row11 s)

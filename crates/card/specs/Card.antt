@@ -10,7 +10,7 @@ use Rattle.answer.specs.declared.CutDirectionPreference.{CutDirectionPreference
 use Rattle.block.specs.Block.{blockBytes}
 use Rattle.cost.specs.Bad.{badPoint}
 use Rattle.closure.specs.Limits.{CONTOURS, PAIRS}
-use Rattle.closure.specs.Cycle.{onCycle}
+use Rattle.closure.specs.Cycle.{Acyclic}
 use Rattle.card.specs.Limits.{perContourLimit, candidateLimit, passLimit, vertexLimit}
 use Rattle.card.specs.Layout.{jobOf, contoursOf, pairsOf, perContourOf, passesOf, moveLimitOf, homePlace, exteriorOf, interiorOf, idOf, tagOf, vertexCountOf, typeOf, vertexPlace, beforeIdOf, beforeTagOf, afterIdOf, afterTagOf}
 use Rattle.card.specs.Values.{asType, asPreference, pointAt}
@@ -95,4 +95,4 @@ pub record Accepted (s : List ℕ) : Type 0 where
   pub ids-differ : (j k : ℕ) → j < contoursOf s → k < contoursOf s → idOf s j ≡ idOf s k → j ≡ k
   pub before-named : (q : ℕ) → q < pairsOf s → Names s (beforeIdOf s q) (beforeTagOf s q) (beforeOf s q)
   pub after-named : (q : ℕ) → q < pairsOf s → Names s (afterIdOf s q) (afterTagOf s q) (afterOf s q)
-  pub acyclic : (k : ℕ) → k < contoursOf s → onCycle (contoursOf s) (seatsOf s (pairsOf s)) k ≡ false
+  pub acyclic : Acyclic (contoursOf s) (seatsOf s (pairsOf s))

@@ -6,5 +6,6 @@ pub mod Names
 pub mod Verdict
 pub mod Table
 pub mod Card
+pub mod Orders
 pub mod Write
 pub mod Examples

@@ -12,7 +12,7 @@ use Rattle.block.specs.Field.{byteAt, u32At}
 use Rattle.block.specs.Block.{blockBytes, checkPlace, checkAt, Due}
 use Rattle.cost.specs.Bad.{badPoint}
 use Rattle.closure.specs.Limits.{CONTOURS, PAIRS}
-use Rattle.closure.specs.Cycle.{onCycle}
+use Rattle.closure.specs.Cycle.{linked, Reaches}
 use Rattle.card.specs.Limits.{cardBytes, perContourLimit, candidateLimit, passLimit, vertexLimit, payloadBytes}
 use Rattle.card.specs.Layout.{blocksOf, payload, contoursOf, pairsOf, perContourOf, passesOf, homePlace, exteriorOf, interiorOf, idOf, tagOf, vertexCountOf, typeOf, fillerOf, vertexPlace, beforeIdOf, beforeTagOf, afterIdOf, afterTagOf}
 use Rattle.card.specs.Values.{pointAt}
@@ -125,7 +125,7 @@ Row11 s = Lowest (pairsOf s) (OtherTag s)
 
 -- 12: a contour can be reached from itself by pairs; the lowest such position
 abbrev pub OnCycle : List ℕ → ℕ → Type 0
-OnCycle s k = onCycle (contoursOf s) (seatsOf s (pairsOf s)) k ≡ true
+OnCycle s k = Reaches (linked (contoursOf s) (seatsOf s (pairsOf s))) k k
 
 abbrev pub Row12 : List ℕ → ℕ → Type 0
 Row12 s = Lowest (contoursOf s) (OnCycle s)
