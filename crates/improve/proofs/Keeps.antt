@@ -1,19 +1,18 @@
 -- What every trial keeps, the search keeps: the one induction over a search from which its laws follow. Assumes nothing.
 use mathlib.Core.Bool.{Bool, true, false, not, cond, _&&_}
 use mathlib.Core.List.{List}
-use mathlib.Core.Path.{_≡_, refl, sym, ap, subst, _∙_}
+use mathlib.Core.Path.{_≡_, refl, sym, subst}
 use Prim.Native.Nat.{ℕ, zero, suc, _+_, _-_, _≤_, _<_}
 use native.Mathlib.Omega.{arith}
 use lib.Dec.{eqb}
-use lib.Ieee.{Float}
-use lib.ListN.{length, getD, set}
+use lib.ListN.{length, getD}
 use lib.Seq.{set-getD}
 use Rattle.table.specs.Each.{each}
 use Rattle.improve.specs.Search.{Sheet, State, lengthIn, contourOf, legal, atLimit, stopped, tried, givenBack, swap, alternative, turn, flip, reversal, row, fresh, pass, repeated, begun, worthwhile, searched}
 
 -- what each step of a loop keeps, the loop keeps
 pub each-keeps : {S : Type 0} (P : S → Type 0) (step : ℕ → S → S) (k a : ℕ)
-  → ((i : ℕ) → a ≤ i → i < a + k → (s : S) → P s → P (step i s)) → (s : S) → P s → P (each step k a s)
+    → ((i : ℕ) → a ≤ i → i < a + k → (s : S) → P s → P (step i s)) → (s : S) → P s → P (each step k a s)
 unfolding each
 each-keeps P step zero a h s p = p
 each-keeps P step (suc k) a h s p =
@@ -43,11 +42,11 @@ pub record Carries (sheet : Sheet) (limit n : ℕ) (P : State → Type 0) (Turn 
   pub enters : (p : ℕ) (s : State) → P s → Turn p (getD (s .tour) p 0) s
   pub rests : (p held : ℕ) (s : State) → atLimit limit (s .moves) ≡ true → Turn p held s → Turn p held (stopped s)
   pub swaps : (p held a : ℕ) (s : State) → p < n → Offers (sheet .owner) (sheet .first) held a → May limit s → Turn p held s
-    → Turn p held (swap (lengthIn sheet) p held a s)
+      → Turn p held (swap (lengthIn sheet) p held a s)
   pub leaves : (p held : ℕ) (s : State) → Turn p held s → P s
 
 tried-keeps : (Q : State → Type 0) (limit : ℕ) (trial : State → State) (s : State) → Q s → (atLimit limit (s .moves) ≡ true → Q (stopped s))
-  → (May limit s → Q (trial s)) → Q (tried limit trial s)
+    → (May limit s → Q (trial s)) → Q (tried limit trial s)
 unfolding tried
 tried-keeps Q limit trial s q z t = go (s .cut) refl (atLimit limit (s .moves)) refl
   where
@@ -58,7 +57,7 @@ tried-keeps Q limit trial s q z t = go (s .cut) refl (atLimit limit (s .moves)) 
 
 module _ (sheet : Sheet) (limit n : ℕ) (P : State → Type 0) (Turn : ℕ → ℕ → State → Type 0) (carries : Carries sheet limit n P Turn) where
   pub alternative-carries : (p held a : ℕ) → p < n → Offers (sheet .owner) (sheet .first) held a → (s : State) → Turn p held s
-    → Turn p held (alternative (lengthIn sheet) limit p held a s)
+      → Turn p held (alternative (lengthIn sheet) limit p held a s)
   unfolding alternative
   alternative-carries p held a h o s q = go (eqb a held)
     where
@@ -104,7 +103,7 @@ module _ (sheet : Sheet) (limit n : ℕ) (P : State → Type 0) (Turn : ℕ → 
 
 -- what the steps of a search keep, the search keeps
 pub search-carries : (sheet : Sheet) (most limit : ℕ) (tour : List ℕ) (P : State → Type 0) (Turn : ℕ → ℕ → State → Type 0)
-  → Carries sheet limit (length tour) P Turn → P (begun sheet tour) → P (searched sheet most limit tour)
+    → Carries sheet limit (length tour) P Turn → P (begun sheet tour) → P (searched sheet most limit tour)
 unfolding searched
 search-carries sheet most limit tour P Turn carries q = go (worthwhile most (length tour))
   where
@@ -119,7 +118,7 @@ pub record Keeps (sheet : Sheet) (limit n : ℕ) (P : State → Type 0) : Type 0
   pub stops : (s : State) → atLimit limit (s .moves) ≡ true → P s → P (stopped s)
   pub begins : (s : State) → P s → P (fresh s)
   pub swaps : (p held a : ℕ) (s : State) → p < n → Offers (sheet .owner) (sheet .first) held a → May limit s → P s → P (backed p held s)
-    → P (swap (lengthIn sheet) p held a s) × P (backed p held (swap (lengthIn sheet) p held a s))
+      → P (swap (lengthIn sheet) p held a s) × P (backed p held (swap (lengthIn sheet) p held a s))
   pub flips : (i j : ℕ) (s : State) → i < j → j < n → May limit s → P s → P (flip (lengthIn sheet) (legal sheet) i j s)
 
 -- the property, and the property of the tour that would be given back
@@ -134,7 +133,7 @@ keeps-carries sheet limit n P keeps = record {
   enters = λ p s q. (q, back p s q);
   rests = λ p held s l q. (keeps .stops s l (q .0), keeps .stops (backed p held s) l (q .1));
   swaps = λ p held a s h o m q. keeps .swaps p held a s h o m (q .0) (q .1);
-  leaves = λ p held s q. q .0
+  leaves = λ p held s q. q .0;
 }
   where
     back : (p : ℕ) (s : State) → P s → P (backed p (getD (s .tour) p 0) s)
@@ -143,6 +142,6 @@ keeps-carries sheet limit n P keeps = record {
 
 -- what every trial keeps, the search keeps
 pub search-keeps : (sheet : Sheet) (most limit : ℕ) (tour : List ℕ) (P : State → Type 0) → Keeps sheet limit (length tour) P
-  → P (begun sheet tour) → P (searched sheet most limit tour)
+    → P (begun sheet tour) → P (searched sheet most limit tour)
 search-keeps sheet most limit tour P keeps q =
     search-carries sheet most limit tour P (InTurn P) (keeps-carries sheet limit (length tour) P keeps) q

@@ -6,3 +6,5 @@ pub mod PassLaws
 pub mod Keeps
 pub mod TourLaws
 pub mod PrefixLaws
+pub mod FloatOrder
+pub mod LengthLaws

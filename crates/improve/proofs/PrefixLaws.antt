@@ -5,17 +5,15 @@ use mathlib.Core.Logic.{_⊎_, inl, inr}
 use mathlib.Core.Path.{_≡_, refl, sym, ap, subst, _∙_}
 use Prim.Native.Nat.{ℕ, zero, suc, _+_, _-_, _≤_, _<_}
 use native.Mathlib.Omega.{arith}
-use borrow.Author.Tests.{lt-ltb, leb-true, le-leb, ltb-false, ltb-true}
-use lib.Dec.{ltb, leb, eqb}
-use lib.Ieee.{Float}
+use borrow.Author.Tests.{lt-ltb, leb-true, le-leb}
+use lib.Dec.{ltb, eqb}
 use lib.ListN.{length, getD}
 use Rattle.table.specs.Each.{each}
 use Rattle.improve.specs.Search.{Sheet, State, lengthIn, contourOf, legal, judged, atLimit, stopped, tried, swap, alternative, turn, flip, reversal, row, fresh, pass, repeated, begun, worthwhile, searched}
-use Rattle.improve.proofs.IdleLaws.{Idle, each-idle}
-use Rattle.improve.proofs.TrialLaws.{alternative-idle, turn-idle, reversal-idle, row-idle}
+use Rattle.improve.proofs.Keeps.{Offers, Carries, alternative-carries, turn-carries, reversal-carries, repeated-carries, Keeps, search-keeps}
 use Rattle.improve.proofs.PassLaws.{repeat-cut}
 use Rattle.improve.proofs.TourLaws.{moves-at-most}
-use Rattle.improve.proofs.Keeps.{each-keeps, Offers, May, Carries, alternative-carries, turn-carries, reversal-carries, row-carries, repeated-carries, Keeps, search-keeps}
+use Rattle.improve.proofs.TrialLaws.{alternative-idle, turn-idle, reversal-idle}
 
 -- the same tour, length and count, whatever the two flags say
 pub record Level (s v : State) : Type 0 where
@@ -60,7 +58,7 @@ later-carries sheet limit n s = record {
   enters = λ p u q. q;
   rests = λ p held u l q. (q .0, after-level sheet s (q .1) (record { tour = refl; cost = refl; moves = refl }));
   swaps = λ p held a u h o m q. (suc (q .0), swapped p held a (q .1) (level-refl _));
-  leaves = λ p held u q. q
+  leaves = λ p held u q. q;
 }
 
 -- ---- two searches side by side
@@ -74,8 +72,8 @@ abbrev pub Twin : Sheet → State → State → Type 0
 Twin sheet u v = (u ≡ v) ⊎ ((u .cut ≡ true) × Later sheet u v)
 
 each-twin : (sheet : Sheet) (f g : ℕ → State → State) (k a : ℕ)
-  → ((i : ℕ) → a ≤ i → i < a + k → (u v : State) → Twin sheet u v → Twin sheet (f i u) (g i v)) → (u v : State) → Twin sheet u v
-  → Twin sheet (each f k a u) (each g k a v)
+    → ((i : ℕ) → a ≤ i → i < a + k → (u v : State) → Twin sheet u v → Twin sheet (f i u) (g i v)) → (u v : State) → Twin sheet u v
+    → Twin sheet (each f k a u) (each g k a v)
 unfolding each
 each-twin sheet f g zero a h u v w = w
 each-twin sheet f g (suc k) a h u v w =
@@ -87,7 +85,7 @@ module _ (sheet : Sheet) (M L n : ℕ) (looser : Looser M L) where
   tried-twin trial s more = go (s .cut) (atLimit M (s .moves)) refl (atLimit L (s .moves)) refl
     where
       go : (c b : Bool) → atLimit M (s .moves) ≡ b → (d : Bool) → atLimit L (s .moves) ≡ d
-        → Twin sheet (cond c s (cond b (stopped s) (trial s))) (cond c s (cond d (stopped s) (trial s)))
+          → Twin sheet (cond c s (cond b (stopped s) (trial s))) (cond c s (cond d (stopped s) (trial s)))
       go true b e d f = inl refl
       go false true e true f = inl refl
       go false true e false f = inr (refl, more (stopped s) (record { tour = refl; cost = refl; moves = refl }))
@@ -114,7 +112,7 @@ module _ (sheet : Sheet) (M L n : ℕ) (looser : Looser M L) where
       go false = tried-twin (swap (lengthIn sheet) p held a) s (one-swap p held a s)
 
   alternative-twin : (p held a : ℕ) → p < n → Offers (sheet .owner) (sheet .first) held a → (u v : State) → Twin sheet u v
-    → Twin sheet (alternative (lengthIn sheet) M p held a u) (alternative (lengthIn sheet) L p held a v)
+      → Twin sheet (alternative (lengthIn sheet) M p held a u) (alternative (lengthIn sheet) L p held a v)
   alternative-twin p held a h o u v (inl e) =
       subst (λ (x : State). Twin sheet (alternative (lengthIn sheet) M p held a u) (alternative (lengthIn sheet) L p held a x)) e (alternative-same p held a u)
   alternative-twin p held a h o u v (inr w) =
@@ -122,7 +120,7 @@ module _ (sheet : Sheet) (M L n : ℕ) (looser : Looser M L) where
       (alternative-carries sheet L n _ _ (later-carries sheet L n u) p held a h o v) w
 
   turn-same : (p : ℕ) → p < n → (s : State)
-    → Twin sheet (turn (lengthIn sheet) (sheet .owner) (sheet .first) M p s) (turn (lengthIn sheet) (sheet .owner) (sheet .first) L p s)
+      → Twin sheet (turn (lengthIn sheet) (sheet .owner) (sheet .first) M p s) (turn (lengthIn sheet) (sheet .owner) (sheet .first) L p s)
   unfolding turn
   turn-same p h s =
       let held = getD (s .tour) p 0 in
@@ -132,7 +130,7 @@ module _ (sheet : Sheet) (M L n : ℕ) (looser : Looser M L) where
       (λ a l g. alternative-twin p held a h (record { from = l; to = omega arith })) s s (inl refl)
 
   turn-twin : (p : ℕ) → p < n → (u v : State) → Twin sheet u v
-    → Twin sheet (turn (lengthIn sheet) (sheet .owner) (sheet .first) M p u) (turn (lengthIn sheet) (sheet .owner) (sheet .first) L p v)
+      → Twin sheet (turn (lengthIn sheet) (sheet .owner) (sheet .first) M p u) (turn (lengthIn sheet) (sheet .owner) (sheet .first) L p v)
   turn-twin p h u v (inl e) =
       subst (λ (x : State). Twin sheet (turn (lengthIn sheet) (sheet .owner) (sheet .first) M p u) (turn (lengthIn sheet) (sheet .owner) (sheet .first) L p x)) e
       (turn-same p h u)
@@ -145,7 +143,7 @@ module _ (sheet : Sheet) (M L n : ℕ) (looser : Looser M L) where
   reversal-same i j s = tried-twin (flip (lengthIn sheet) (legal sheet) i j) s (one-flip i j s)
 
   reversal-twin : (i j : ℕ) → i < j → j < n → (u v : State) → Twin sheet u v
-    → Twin sheet (reversal (lengthIn sheet) (legal sheet) M i j u) (reversal (lengthIn sheet) (legal sheet) L i j v)
+      → Twin sheet (reversal (lengthIn sheet) (legal sheet) M i j u) (reversal (lengthIn sheet) (legal sheet) L i j v)
   reversal-twin i j h g u v (inl e) =
       subst (λ (x : State). Twin sheet (reversal (lengthIn sheet) (legal sheet) M i j u) (reversal (lengthIn sheet) (legal sheet) L i j x)) e (reversal-same i j u)
   reversal-twin i j h g u v (inr w) =
@@ -171,7 +169,7 @@ module _ (sheet : Sheet) (M L n : ℕ) (looser : Looser M L) where
   repeated-twin (suc k) u v (inl e) = subst (λ (x : State). Twin sheet (repeated sheet M n (suc k) u) (repeated sheet L n (suc k) x)) e (go (u .better && not (u .cut)) (repeated-twin k (pass sheet M n u) (pass sheet L n u) (pass-same u)))
     where
       go : (b : Bool) → Twin sheet (repeated sheet M n k (pass sheet M n u)) (repeated sheet L n k (pass sheet L n u))
-        → Twin sheet (cond b (repeated sheet M n k (pass sheet M n u)) u) (cond b (repeated sheet L n k (pass sheet L n u)) u)
+          → Twin sheet (cond b (repeated sheet M n k (pass sheet M n u)) u) (cond b (repeated sheet L n k (pass sheet L n u)) u)
       go true q = q
       go false q = inl refl
   repeated-twin (suc k) u v (inr w) =
@@ -184,7 +182,7 @@ unfolding searched
 search-twin sheet most M L tour looser = go (worthwhile most (length tour))
   where
     go : (b : Bool) → Twin sheet (cond b (repeated sheet M (length tour) most (begun sheet tour)) (begun sheet tour))
-      (cond b (repeated sheet L (length tour) most (begun sheet tour)) (begun sheet tour))
+        (cond b (repeated sheet L (length tour) most (begun sheet tour)) (begun sheet tour))
     go true = repeated-twin sheet M L (length tour) looser most (begun sheet tour) (begun sheet tour) (inl refl)
     go false = inl refl
 
@@ -196,7 +194,7 @@ at-limit-when-cut sheet limit n = record {
   stops = λ s l q c. l;
   begins = λ s q. q;
   swaps = λ p held a s h o m q b. (λ c. absurd (true≢false (sym c ∙ m .goes)), λ c. absurd (true≢false (sym c ∙ m .goes)));
-  flips = λ i j s h g m q c. absurd (true≢false (sym c ∙ m .goes))
+  flips = λ i j s h g m q c. absurd (true≢false (sym c ∙ m .goes));
 }
 
 both-true : (a b : Bool) → (a && b) ≡ true → b ≡ true
@@ -208,8 +206,8 @@ pub cut-at-limit : (sheet : Sheet) (most limit : ℕ) (tour : List ℕ) → sear
 unfolding atLimit
 cut-at-limit sheet most limit tour c =
     let e : atLimit limit (searched sheet most limit tour .moves) ≡ true =
-      search-keeps sheet most limit tour (λ s. s .cut ≡ true → atLimit limit (s .moves) ≡ true) (at-limit-when-cut sheet limit (length tour))
-      (λ z. absurd (true≢false (sym z))) c in
+    search-keeps sheet most limit tour (λ s. s .cut ≡ true → atLimit limit (s .moves) ≡ true) (at-limit-when-cut sheet limit (length tour))
+    (λ z. absurd (true≢false (sym z))) c in
     leb-true limit (searched sheet most limit tour .moves) (both-true (ltb 0 limit) _ e)
 
 -- ---- what the limit does
@@ -226,12 +224,12 @@ looser-none M m e = absurd (true≢false (sym e))
 
 -- one trial more allowed: the search is the same if it was not cut, and else it makes exactly that trial more
 pub one-more : (sheet : Sheet) (most M : ℕ) (tour : List ℕ) → 0 < M
-  → (searched sheet most M tour ≡ searched sheet most (suc M) tour)
+    → (searched sheet most M tour ≡ searched sheet most (suc M) tour)
     ⊎ ((searched sheet most M tour .cut ≡ true) × After sheet (searched sheet most M tour) 1 (searched sheet most (suc M) tour))
 one-more sheet most M tour h = go (search-twin sheet most M (suc M) tour (looser-next M h))
   where
     go : Twin sheet (searched sheet most M tour) (searched sheet most (suc M) tour)
-      → (searched sheet most M tour ≡ searched sheet most (suc M) tour)
+        → (searched sheet most M tour ≡ searched sheet most (suc M) tour)
         ⊎ ((searched sheet most M tour .cut ≡ true) × After sheet (searched sheet most M tour) 1 (searched sheet most (suc M) tour))
     go (inl e) = inl e
     go (inr w) =

@@ -1,21 +1,20 @@
 -- What a search never does to its tour: it loses or doubles no contour, and it turns no pair round. And it makes no more trials than
 -- it may. Each by the one induction over a search. Assumes nothing.
-use mathlib.Core.Bool.{Bool, true, false, cond, _&&_, _||_}
+use mathlib.Core.Bool.{Bool, true, false, cond, _&&_}
 use mathlib.Core.List.{List, [], _∷_, _++_}
-use mathlib.Core.Path.{_≡_, refl, sym, ap, subst, _∙_}
+use mathlib.Core.Path.{_≡_, refl, sym, ap, _∙_}
 use Prim.Native.Nat.{ℕ, zero, suc, _+_, _≤_, _<_}
 use native.Mathlib.Omega.{arith}
 use borrow.Author.Tests.{lt-ltb, leb-false}
-use lib.Dec.{ltb, leb, eqb}
-use lib.Ieee.{Float}
+use lib.Dec.{eqb}
 use lib.ListN.{length, getD, set, length-set}
 use lib.Seq.{set-set}
-use Rattle.bytes.specs.Bytes.{rev}
 use Rattle.bytes.proofs.Laws.{rev-append}
+use Rattle.bytes.specs.Bytes.{rev}
 use Rattle.hierarchy.specs.Keep.{keepsPairs}
 use Rattle.improve.specs.Search.{Sheet, State, lengthIn, contourOf, contours, legal, shorter, judged, atLimit, swap, turned, reversed, flip, searched}
+use Rattle.improve.proofs.Keeps.{Offers, Keeps, search-keeps}
 use Rattle.improve.proofs.ReversalLaws.{Parts, parts, turned-parts, length-turned}
-use Rattle.improve.proofs.Keeps.{Offers, May, Keeps, backed, search-keeps}
 
 -- ---- properties of the tour alone
 
@@ -30,10 +29,11 @@ tour-keeps sheet limit n T keeps = record {
   stops = λ s l q. q;
   begins = λ s q. q;
   swaps = λ p held a s h o m q b.
-    let new : T (set (s .tour) p a) = keeps .swapped p held a (s .tour) h o b in
-    (either (shorter (lengthIn sheet (set (s .tour) p a)) (s .cost)) new b,
-    again p held a s (shorter (lengthIn sheet (set (s .tour) p a)) (s .cost)) b);
-  flips = λ i j s h g m q. judge i j s h g q (shorter (lengthIn sheet (reversed i j (s .tour))) (s .cost)) (legal sheet (reversed i j (s .tour))) refl
+      let new : T (set (s .tour) p a) = keeps .swapped p held a (s .tour) h o b in (
+        either (shorter (lengthIn sheet (set (s .tour) p a)) (s .cost)) new b,
+        again p held a s (shorter (lengthIn sheet (set (s .tour) p a)) (s .cost)) b,
+      );
+  flips = λ i j s h g m q. judge i j s h g q (shorter (lengthIn sheet (reversed i j (s .tour))) (s .cost)) (legal sheet (reversed i j (s .tour))) refl;
 }
   where
     either : {x y : List ℕ} (b : Bool) → T x → T y → T (cond b x y)
@@ -45,7 +45,7 @@ tour-keeps sheet limit n T keeps = record {
     again p held a s false w = rw (set-set (s .tour) p held held) w
 
     judge : (i j : ℕ) (s : State) → i < j → j < n → T (s .tour) → (b l : Bool) → legal sheet (reversed i j (s .tour)) ≡ l
-      → T (cond (b && l) (reversed i j (s .tour)) (s .tour))
+        → T (cond (b && l) (reversed i j (s .tour)) (s .tour))
     judge i j s h g q true true e = keeps .flipped i j (s .tour) h g e q
     judge i j s h g q true false e = q
     judge i j s h g q false true e = q
@@ -56,7 +56,7 @@ tour-keeps sheet limit n T keeps = record {
 long-enough : (sheet : Sheet) (n : ℕ) → KeepsTour sheet n (λ tour. length tour ≡ n)
 long-enough sheet n = record {
   swapped = λ p held a tour h o e. simp length-set (simp length-set at e);
-  flipped = λ i j tour h g l e. length-turned (suc i) (suc j) tour (omega arith) (omega arith) ∙ e
+  flipped = λ i j tour h g l e. length-turned (suc i) (suc j) tour (omega arith) (omega arith) ∙ e;
 }
 
 pub same-length : (sheet : Sheet) (most limit : ℕ) (tour : List ℕ) → length (searched sheet most limit tour .tour) ≡ length tour
@@ -135,17 +135,17 @@ unfolding met
 alike sheet n from grouped = record {
   swapped = λ p held a tour h o w. record {
     long = long-enough sheet n .swapped p held a tour h o (w .long);
-    shuffled = λ x. ap (times x) (contours-set (sheet .owner) tour p a held (same-contour (sheet .owner) (sheet .first) held a grouped o)) ∙ w .shuffled x
+    shuffled = λ x. ap (times x) (contours-set (sheet .owner) tour p a held (same-contour (sheet .owner) (sheet .first) held a grouped o)) ∙ w .shuffled x;
   };
   flipped = λ i j tour h g l w. record {
     long = long-enough sheet n .flipped i j tour h g l (w .long);
-    shuffled = λ x. met-turned (sheet .owner) x (suc i) (suc j) tour (omega arith) (omega (arith, w .long)) ∙ w .shuffled x
-  }
+    shuffled = λ x. met-turned (sheet .owner) x (suc i) (suc j) tour (omega arith) (omega (arith, w .long)) ∙ w .shuffled x;
+  };
 }
 
 -- the search hands back a tour over the very contours of the one handed in, each as often: once, where each stood there once
 pub contours-kept : (sheet : Sheet) (most limit : ℕ) (tour : List ℕ) → Grouped (sheet .owner) (sheet .first)
-  → Shuffled (contours (sheet .owner) (searched sheet most limit tour .tour)) (contours (sheet .owner) tour)
+    → Shuffled (contours (sheet .owner) (searched sheet most limit tour .tour)) (contours (sheet .owner) tour)
 contours-kept sheet most limit tour grouped =
     search-keeps sheet most limit tour (λ s. Alike (sheet .owner) (length tour) tour (s .tour))
     (tour-keeps sheet limit (length tour) _ (alike sheet (length tour) tour grouped)) (record { long = refl; shuffled = λ x. refl }) .shuffled
@@ -155,13 +155,13 @@ contours-kept sheet most limit tour grouped =
 lawful : (sheet : Sheet) (n : ℕ) → Grouped (sheet .owner) (sheet .first) → KeepsTour sheet n (λ tour. legal sheet tour ≡ true)
 lawful sheet n grouped = record {
   swapped = λ p held a tour h o e.
-    ap (λ (l : List ℕ). keepsPairs l (sheet .pairs)) (contours-set (sheet .owner) tour p a held (same-contour (sheet .owner) (sheet .first) held a grouped o)) ∙ e;
-  flipped = λ i j tour h g l e. l
+      ap (λ (l : List ℕ). keepsPairs l (sheet .pairs)) (contours-set (sheet .owner) tour p a held (same-contour (sheet .owner) (sheet .first) held a grouped o)) ∙ e;
+  flipped = λ i j tour h g l e. l;
 }
 
 -- from a legal tour the search comes to legal tours only
 pub legal-kept : (sheet : Sheet) (most limit : ℕ) (tour : List ℕ) → Grouped (sheet .owner) (sheet .first) → legal sheet tour ≡ true
-  → legal sheet (searched sheet most limit tour .tour) ≡ true
+    → legal sheet (searched sheet most limit tour .tour) ≡ true
 legal-kept sheet most limit tour grouped e =
     search-keeps sheet most limit tour (λ s. legal sheet (s .tour) ≡ true) (tour-keeps sheet limit (length tour) _ (lawful sheet (length tour) grouped)) e
 
@@ -177,7 +177,7 @@ within sheet limit n h = record {
   stops = λ s l q. q;
   begins = λ s q. q;
   swaps = λ p held a s g o m q b. (room-left limit (s .moves) h (m .room), room-left limit (s .moves) h (m .room));
-  flips = λ i j s g k m q. room-left limit (s .moves) h (m .room)
+  flips = λ i j s g k m q. room-left limit (s .moves) h (m .room);
 }
 
 -- with a limit, the search makes at most so many trials

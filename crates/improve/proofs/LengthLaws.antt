@@ -1,0 +1,103 @@
+-- A search never hands back a tour that is longer than the one handed in, as evaluation has it: by the one induction over a search,
+-- since an accepted tour is shorter than what was accepted before, and a tour given back was held before. Assumes nothing.
+use mathlib.Core.Bool.{Bool, true, false, cond, _&&_}
+use mathlib.Core.List.{List, [], _∷_}
+use mathlib.Core.Path.{_≡_, refl, sym, subst}
+use Prim.Native.Nat.{ℕ}
+use lib.Count.{trailingZeros}
+use lib.Dec.{T}
+use lib.Ieee.{Float, fin, binary64, ofBits, ofFields, odd, size, le, sub, fits}
+use lib.Ieee.Fits.{add-fits}
+use lib.IntN.{negsuc}
+use lib.ListN.{length, set}
+use lib.Seq.{set-set}
+use Rattle.table.specs.Evaluate.{homeAt, addLeg, lengthOf}
+use Rattle.table.specs.Walk.{legs, walk}
+use Rattle.improve.specs.Search.{Sheet, State, lengthIn, legal, margin, shorter, judged, swap, reversed, flip, searched}
+use Rattle.improve.proofs.FloatOrder.{le-trans-float, lt→le, less-off, le-self}
+use Rattle.improve.proofs.Keeps.{Keeps, search-keeps}
+
+-- ---- evaluations are numbers of the format
+
+-- the distances from home are numbers of the format (what is read past their end is none, and fits as well)
+abbrev pub HomeFits : List Float → Type 0
+HomeFits home = (a : ℕ) → T (fits binary64 (homeAt home a))
+
+legs-fit : (table : List Float) (t : ℕ) (total : Float) (at : ℕ) (rest : List ℕ) → T (fits binary64 total) → T (fits binary64 (legs (addLeg table t) total at rest))
+unfolding legs
+legs-fit table t total at [] h = h
+legs-fit table t total at (b ∷ rest) h = legs-fit table t (addLeg table t total at b) b rest (add-fits binary64 total _)
+
+pub length-fits : (home table : List Float) (t : ℕ) (tour : List ℕ) → HomeFits home → T (fits binary64 (lengthOf home table t tour))
+unfolding lengthOf walk fits ofBits ofFields odd
+length-fits home table t [] h = tt
+length-fits home table t (a ∷ rest) h = legs-fit table t (homeAt home a) a rest (h a)
+
+-- ---- shorter is not longer
+
+margin-is : margin ≡ fin false 0x1b_7cdf_d9d7_bdbb (negsuc 85)
+unfolding ofBits ofFields odd size trailingZeros
+margin-is = refl
+
+pub shorter-le : (x c : Float) → T (fits binary64 c) → T (le c c) → shorter x c ≡ true → T (le x c)
+unfolding shorter
+shorter-le x c h n e =
+    let off : T (le (sub binary64 c margin) c) = subst (λ (z : Float). T (le (sub binary64 c z) c)) (sym margin-is) (less-off c 0x1b_7cdf_d9d7_bdbb (negsuc 85) h n) in
+    le-trans-float x (sub binary64 c margin) c (lt→le x (sub binary64 c margin) e) off
+
+-- ---- the search
+
+-- neither the length that counts nor the tour held is longer than L
+record NoLonger (sheet : Sheet) (L : Float) (s : State) : Type 0 where
+  counts : T (le (s .cost) L)
+  held : T (le (lengthIn sheet (s .tour)) L)
+  fit : T (fits binary64 (s .cost))
+
+module _ (sheet : Sheet) (limit n : ℕ) (L : Float) (home : HomeFits (sheet .home)) where
+  -- a new tour is accepted, or the tour given back stands
+  judged-no-longer : (accepted : Bool) (new back : List ℕ) (s : State) → (accepted ≡ true → shorter (lengthIn sheet new) (s .cost) ≡ true) → NoLonger sheet L s
+      → T (le (lengthIn sheet back) L) → NoLonger sheet L (judged accepted new (lengthIn sheet new) back s)
+  unfolding judged
+  judged-no-longer true new back s e w b =
+      let less : T (le (lengthIn sheet new) L) =
+      le-trans-float (lengthIn sheet new) (s .cost) L (shorter-le (lengthIn sheet new) (s .cost) (w .fit) (le-self (s .cost) L (w .counts)) (e refl)) (w .counts) in
+      record { counts = less; held = less; fit = length-fits (sheet .home) (sheet .table) (sheet .t) new home }
+  judged-no-longer false new back s e w b = record { counts = w .counts; held = b; fit = w .fit }
+
+  with-tour : (s : State) (tour : List ℕ) → NoLonger sheet L s → T (le (lengthIn sheet tour) L)
+      → NoLonger sheet L (record { tour = tour; cost = s .cost; better = s .better; moves = s .moves; cut = s .cut })
+  with-tour s tour w h = record { counts = w .counts; held = h; fit = w .fit }
+
+  first-of : (a b : Bool) → (a && b) ≡ true → a ≡ true
+  first-of true b e = refl
+  first-of false b e = e
+
+  back-again : (accepted : Bool) (tour : List ℕ) (p held a : ℕ) → set (cond accepted (set tour p a) (set tour p held)) p held ≡ set tour p held
+  back-again true tour p held a = set-set tour p a held
+  back-again false tour p held a = set-set tour p held held
+
+  no-longer : Keeps sheet limit n (NoLonger sheet L)
+  unfolding swap flip judged
+  no-longer = record {
+    stops = λ s l w. record { counts = w .counts; held = w .held; fit = w .fit };
+    begins = λ s w. record { counts = w .counts; held = w .held; fit = w .fit };
+    swaps = λ p held a s h o m w b.
+        let new = set (s .tour) p a in
+        let back = set (s .tour) p held in
+        let after : NoLonger sheet L (judged (shorter (lengthIn sheet new) (s .cost)) new (lengthIn sheet new) back s) =
+        judged-no-longer (shorter (lengthIn sheet new) (s .cost)) new back s (λ e. e) w (b .held) in (
+          after,
+          with-tour (judged (shorter (lengthIn sheet new) (s .cost)) new (lengthIn sheet new) back s) _ after
+              (subst (λ (z : List ℕ). T (le (lengthIn sheet z) L)) (sym (back-again (shorter (lengthIn sheet new) (s .cost)) (s .tour) p held a)) (b .held)),
+        );
+    flips = λ i j s h g m w.
+        judged-no-longer (shorter (lengthIn sheet (reversed i j (s .tour))) (s .cost) && legal sheet (reversed i j (s .tour))) (reversed i j (s .tour)) (s .tour) s
+        (λ e. first-of _ _ e) w (w .held);
+  }
+
+-- the tour handed back evaluates to no more than the one handed in, where that evaluates to a number
+pub never-longer : (sheet : Sheet) (most limit : ℕ) (tour : List ℕ) → HomeFits (sheet .home) → T (le (lengthIn sheet tour) (lengthIn sheet tour))
+    → T (le (lengthIn sheet (searched sheet most limit tour .tour)) (lengthIn sheet tour))
+never-longer sheet most limit tour home n =
+    search-keeps sheet most limit tour (NoLonger sheet (lengthIn sheet tour)) (no-longer sheet limit (length tour) (lengthIn sheet tour) home)
+    (record { counts = n; held = n; fit = length-fits (sheet .home) (sheet .table) (sheet .t) tour home }) .held
