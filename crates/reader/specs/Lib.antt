@@ -1,1 +1,4 @@
 pub mod Fields
+pub mod Walk
+pub mod OnCard
+pub mod Claims

@@ -1,9 +1,22 @@
 // The thin reader: a slice and a place in it. Its functions take the struct apart and leave the work to a function on the slice and
-// the number. A field is read at any place: a byte past the end reads 0, and the place after a field is never beyond the end.
+// the number. A field is read at any place: a byte past the end reads 0, and the place after a field is never beyond the end. With it a
+// card's head and its contours are walked field by field, in file order.
 ghost use mathlib.Core.Path.{_≡_};
-ghost use Prim.Native.Nat.{_+_, _-_, min};
+ghost use Prim.Native.Nat.{_+_, _*_, _-_, _≤_, min};
 ghost use lib.ListN.{length};
+ghost use Rattle.card.specs.Limits.{vertexLimit};
+ghost use Rattle.card.specs.Layout.{payload};
 ghost use Rattle.reader.specs.Fields.{fieldAt};
+ghost use Rattle.reader.specs.Walk.{walk, eights};
+ghost use Rattle.reader.specs.OnCard.{filled, headOf, contourHead, contourOf};
+use block::BLOCK;
+use card::VERTICES;
+
+// Where a block's payload begins in it.
+const PAYLOAD_AT: usize = 8;
+
+// The coordinates of the most vertices.
+const COORDINATES: usize = 2 * VERTICES;
 
 pub struct Reader<'a> {
     pub src: &'a [u8],
@@ -118,4 +131,141 @@ pub fn read_field(s: &[u8], at: usize, width: Width) -> Field
     ensures { λ f. ⌜ f ≡ fieldAt (now (s .entry)) at width ⌝ }
 {
     next(moved(new(s), at), width)
+}
+
+// ---- a card, in file order
+
+// A card's head: its fields as numbers, home's coordinates as the bits of theirs.
+pub struct Head {
+    pub job: u64,
+    pub contours: u64,
+    pub pairs: u64,
+    pub candidates: u64,
+    pub passes: u64,
+    pub moves: u64,
+    pub x: u64,
+    pub y: u64,
+    pub exterior: u64,
+    pub interior: u64,
+}
+
+// A contour: its fields, and its vertices' coordinates as bits, x and y in turn, those without a vertex zero.
+pub struct Contour {
+    pub id: u64,
+    pub tag: u64,
+    pub vertices: u64,
+    pub kind: u64,
+    pub filler: u64,
+    pub coordinates: [u64; COORDINATES],
+}
+
+// A contour's fields before its vertices, and the place after them.
+struct ContourHead {
+    id: u64,
+    tag: u64,
+    vertices: u64,
+    kind: u64,
+    filler: u64,
+    after: usize,
+}
+
+// The head, by one reader that is moved from field to field.
+pub fn read_head(card: &[u8]) -> Head
+    ensures { λ r. ⌜ r ≡ headOf (now (card .entry)) ⌝ }
+{
+    let r = new(card);
+    let job = next(moved(r, PAYLOAD_AT), Width::Four);
+    let contours = next(moved(r, job.after), Width::Two);
+    let pairs = next(moved(r, contours.after), Width::Two);
+    let candidates = next(moved(r, pairs.after), Width::Two);
+    let passes = next(moved(r, candidates.after), Width::Two);
+    let moves = next(moved(r, passes.after), Width::Four);
+    let x = next(moved(r, moves.after), Width::Eight);
+    let y = next(moved(r, x.after), Width::Eight);
+    let exterior = next(moved(r, y.after), Width::One);
+    let interior = next(moved(r, exterior.after), Width::One);
+    Head {
+        job: job.value,
+        contours: contours.value,
+        pairs: pairs.value,
+        candidates: candidates.value,
+        passes: passes.value,
+        moves: moves.value,
+        x: x.value,
+        y: y.value,
+        exterior: exterior.value,
+        interior: interior.value,
+    }
+}
+
+// Where contour k's payload begins, or the end.
+fn contour_at(card: &[u8], k: usize) -> usize
+    ensures { λ r. ⌜ r ≡ min (payload (k + 1)) (length (now (card .entry))) ⌝ }
+{
+    if card.len() / BLOCK <= k {
+        return card.len();
+    }
+    past(card, BLOCK * (k + 1), PAYLOAD_AT)
+}
+
+// A contour's head that begins at a place, by one reader.
+fn contour_head(card: &[u8], at: usize) -> ContourHead
+    ensures { λ r. ⌜ r ≡ contourHead (now (card .entry)) at ⌝ }
+{
+    let r = new(card);
+    let id = next(moved(r, at), Width::Four);
+    let tag = next(moved(r, id.after), Width::Four);
+    let vertices = next(moved(r, tag.after), Width::Two);
+    let kind = next(moved(r, vertices.after), Width::One);
+    let filler = next(moved(r, kind.after), Width::One);
+    ContourHead {
+        id: id.value,
+        tag: tag.value,
+        vertices: vertices.value,
+        kind: kind.value,
+        filler: filler.value,
+        after: filler.after,
+    }
+}
+
+// The coordinates that are kept of so many vertices.
+fn kept(vertices: u64) -> usize
+    ensures { λ r. ⌜ r ≡ 2 * min vertices vertexLimit ⌝ }
+{
+    if (VERTICES as u64) < vertices {
+        return COORDINATES;
+    }
+    2 * (vertices as usize)
+}
+
+// So many coordinates from a place on.
+fn coordinates(card: &[u8], at: usize, count: usize) -> [u64; COORDINATES]
+    requires { ⌜ count ≤ 2 * vertexLimit ⌝ }
+    ensures { λ r. ⌜ r ≡ filled (walk (now (card .entry)) at (eights count)) ⌝ }
+{
+    let mut read = [0u64; COORDINATES];
+    let mut place = at;
+    let mut i: usize = 0;
+    while i < count {
+        let f = read_field(card, place, Width::Eight);
+        read[i] = f.value;
+        place = f.after;
+        i += 1;
+    }
+    read
+}
+
+// Contour k, with its first vertices if it names more than a contour may have.
+pub fn read_contour(card: &[u8], k: usize) -> Contour
+    ensures { λ r. ⌜ r ≡ contourOf (now (card .entry)) k ⌝ }
+{
+    let head = contour_head(card, contour_at(card, k));
+    Contour {
+        id: head.id,
+        tag: head.tag,
+        vertices: head.vertices,
+        kind: head.kind,
+        filler: head.filler,
+        coordinates: coordinates(card, head.after, kept(head.vertices)),
+    }
 }

@@ -1,0 +1,4 @@
+pub mod WalkLaws
+pub mod CardLaws
+pub mod ClaimsHold
+pub mod ReaderCalls

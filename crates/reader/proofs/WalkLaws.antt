@@ -1,0 +1,108 @@
+-- One field after another: what a field reads at a place that was cut off at the end, where the next one begins, and a walk that is taken
+-- one field at a time. Assumes nothing.
+use mathlib.Core.Path.{_≡_, refl, sym, ap, _∙_}
+use mathlib.Core.List.{List, [], _∷_, _++_, append-assoc, append-nil}
+use Prim.Native.Nat.{ℕ, zero, suc, _+_, _*_, _-_, _≤_, _<_, min}
+use native.Mathlib.Nat.{add-zero}
+use native.Mathlib.Numerals.{add-one}
+use native.Mathlib.Omega.{arith}
+use lib.ListN.{length, take, drop, set, replicate, length-replicate, length-drop, take-append-drop}
+use lib.Seq.{take-suc-set, drop-set-lt, drop-drop}
+use Rattle.block.specs.Field.{byteAt, u16At, u32At, u64At}
+use Rattle.block.proofs.Readings.{cut-byte, cut-u16, cut-u32, cut-u64}
+use Rattle.card.specs.Limits.{vertexLimit}
+use Rattle.reader.specs.declared.Width.{Width}
+use Rattle.reader.specs.declared.Width.the-variants.{One, Two, Four, Eight}
+use Rattle.reader.specs.declared.Field.{Field}
+use Rattle.reader.specs.Fields.{bytesOf, valueAt, fieldAt}
+use Rattle.reader.specs.Walk.{walk, eights}
+use Rattle.reader.specs.OnCard.{filled}
+
+-- ---- one field
+
+at-zero : (f : ℕ → ℕ) (m n : ℕ) → f (m + 0) ≡ f (n + 0) → f m ≡ f n
+at-zero f m n e = ap f (sym (add-zero m)) ∙ e ∙ ap f (add-zero n)
+
+-- a place that was cut off at the end reads what the place itself reads
+pub cut-value : (s : List ℕ) (a : ℕ) (w : Width) → valueAt s (min a (length s)) w ≡ valueAt s a w
+cut-value s a One = at-zero (byteAt s) (min a (length s)) a (cut-byte s a 0)
+cut-value s a Two = at-zero (u16At s) (min a (length s)) a (cut-u16 s a 0)
+cut-value s a Four = at-zero (u32At s) (min a (length s)) a (cut-u32 s a 0)
+cut-value s a Eight = at-zero (u64At s) (min a (length s)) a (cut-u64 s a 0)
+
+-- f is the field of width w at place a
+pub record Read (s : List ℕ) (a : ℕ) (w : Width) (f : Field) : Type 0 where
+  pub value-is : f .value ≡ valueAt s a w
+  pub after-is : f .after ≡ min (a + bytesOf w) (length s)
+
+-- it was read at the place, or where the place was cut off
+pub read-cut : (s : List ℕ) (a place : ℕ) (w : Width) (f : Field) → place ≡ min a (length s) → f ≡ fieldAt s place w → Read s a w f
+read-cut s a place w f cut e = record {
+  value-is = ap (λ (x : Field). x .value) e ∙ ap (λ (p : ℕ). valueAt s p w) cut ∙ cut-value s a w;
+  after-is = ap (λ (x : Field). x .after) e ∙ omega arith;
+}
+
+pub read-at : (s : List ℕ) (a : ℕ) (w : Width) (f : Field) → f ≡ fieldAt s a w → Read s a w f
+read-at s a w f e = record { value-is = ap (λ (x : Field). x .value) e; after-is = ap (λ (x : Field). x .after) e }
+
+-- the next field, at the place b
+pub read-on : (s : List ℕ) (a b : ℕ) (w v : Width) (f g : Field) → a + bytesOf w ≡ b → Read s a w f → g ≡ fieldAt s (f .after) v → Read s b v g
+read-on s a b w v f g at h e = read-cut s b (f .after) v g (h .after-is ∙ ap (λ (p : ℕ). min p (length s)) at) e
+
+-- ---- a walk
+
+pub walk-length : (s : List ℕ) (at : ℕ) (ws : List Width) → length (walk s at ws) ≡ length ws
+unfolding walk
+walk-length s at [] = refl
+walk-length s at (w ∷ ws) = ap suc (walk-length s (fieldAt s at w .after) ws)
+
+-- ---- the loop over coordinates: i of them stand in their places, the walk goes on from a place, and the other places are zero
+
+walk-eight : (s : List ℕ) (at n m : ℕ) → n ≡ suc m → walk s at (eights n) ≡ u64At s at ∷ walk s (min (at + 8) (length s)) (eights m)
+unfolding walk
+walk-eight s at n m e = rw e
+
+pub none-yet : (s : List ℕ) (at count : ℕ) → walk s at (eights (count - 0)) ≡ walk s at (eights count)
+none-yet s at count =
+    let all : count - 0 ≡ count = omega arith in
+    rw all
+
+-- a place that is still zero is one of the array's
+room : (read : List ℕ) (i : ℕ) → i < 2 * vertexLimit → drop i read ≡ replicate (2 * vertexLimit - i) 0 → i < length read
+room read i h z =
+    let n : length read - i ≡ 2 * vertexLimit - i = sym (length-drop i read) ∙ ap length z ∙ length-replicate (2 * vertexLimit - i) 0 in
+    omega arith
+
+pub one-more : (s read : List ℕ) (count i place : ℕ) (f : Field) (t : List ℕ) → i < count → count ≤ 2 * vertexLimit → f ≡ fieldAt s place Eight
+    → drop i read ≡ replicate (2 * vertexLimit - i) 0 → take i read ++ walk s place (eights (count - i)) ≡ t
+    → take (i + 1) (set read i (f .value)) ++ walk s (f .after) (eights (count - (i + 1))) ≡ t
+one-more s read count i place f t h few e z so =
+    let g = room read i (omega arith) z in
+    let left : count - i ≡ suc (count - (i + 1)) = omega arith in
+    let rest = walk s (min (place + 8) (length s)) (eights (count - (i + 1))) in
+    let took : take (i + 1) (set read i (u64At s place)) ≡ take i read ++ (u64At s place ∷ []) = rw (add-one i) (take-suc-set read i (u64At s place) g) in
+    rw (e, took, append-assoc (take i read) (u64At s place ∷ []) rest) (ap (λ (l : List ℕ). take i read ++ l) (sym (walk-eight s place (count - i) (count - (i + 1)) left)) ∙ so)
+
+drop-one : (n m : ℕ) → n ≡ suc m → drop {A = ℕ} 1 (replicate n 0) ≡ replicate m 0
+drop-one n m e = rw e
+
+pub rest-zero : (read : List ℕ) (i x : ℕ) → i < 2 * vertexLimit → drop i read ≡ replicate (2 * vertexLimit - i) 0
+    → drop (i + 1) (set read i x) ≡ replicate (2 * vertexLimit - (i + 1)) 0
+rest-zero read i x h e =
+    drop-set-lt (i + 1) read i x (omega arith) ∙ sym (drop-drop 1 i read) ∙ ap (drop 1) e
+    ∙ drop-one (2 * vertexLimit - i) (2 * vertexLimit - (i + 1)) (omega arith)
+
+walk-none : (s : List ℕ) (at n : ℕ) → n ≡ 0 → walk s at (eights n) ≡ []
+unfolding walk
+walk-none s at n e = rw e
+
+pub all-read : (s read : List ℕ) (count i at place : ℕ) → i ≤ count → count ≤ i → take i read ++ walk s place (eights (count - i)) ≡ walk s at (eights count)
+    → drop i read ≡ replicate (2 * vertexLimit - i) 0 → read ≡ filled (walk s at (eights count))
+unfolding filled
+all-read s read count i at place h g e z =
+    let t = walk s at (eights count) in
+    let none : walk s place (eights (count - i)) ≡ [] = walk-none s place (count - i) (omega arith) in
+    let n : length t ≡ i = walk-length s at (eights count) ∙ length-replicate count Eight ∙ omega arith in
+    let front : take i read ≡ t = sym (append-nil (take i read)) ∙ ap (λ (l : List ℕ). take i read ++ l) (sym none) ∙ e in
+    sym (take-append-drop i read) ∙ ap (λ (l : List ℕ). l ++ drop i read) front ∙ ap (λ (l : List ℕ). t ++ l) z
+    ∙ ap (λ (m : ℕ). t ++ replicate (2 * vertexLimit - m) 0) (sym n)

@@ -1,0 +1,23 @@
+-- What is claimed of a walk: in file order it gives what `card` reads, on any bytes. Assumes nothing.
+use mathlib.Core.Path.{_≡_}
+use mathlib.Core.List.{List, _∷_}
+use Prim.Native.Nat.{ℕ, _+_}
+use lib.Ieee.{binary64, ofBits}
+use Rattle.answer.specs.declared.Point.{Point}
+use Rattle.block.specs.Field.{u64At}
+use Rattle.card.specs.Layout.{payload, idOf, tagOf, vertexCountOf, typeOf, fillerOf}
+use Rattle.card.specs.Values.{pointAt}
+use Rattle.reader.specs.Walk.{walk}
+use Rattle.reader.specs.OnCard.{headOf, headWidths, headList, coordinatesFrom, contourWidths}
+
+-- the head
+abbrev pub HeadInOrder : Type 0
+HeadInOrder = (s : List ℕ) → walk s (payload 0) headWidths ≡ headList (headOf s)
+
+-- a contour with so many vertices
+abbrev pub ContourInOrder : Type 0
+ContourInOrder = (s : List ℕ) (k v : ℕ) → walk s (payload (k + 1)) (contourWidths v) ≡ idOf s k ∷ tagOf s k ∷ vertexCountOf s k ∷ typeOf s k ∷ fillerOf s k ∷ coordinatesFrom s k 0 v
+
+-- a point, home or a vertex, is the two numbers whose bits are walked
+abbrev pub PointOfBits : Type 0
+PointOfBits = (s : List ℕ) (at : ℕ) → _≡_ {A = Point} (record { x = ofBits binary64 (u64At s at); y = ofBits binary64 (u64At s (at + 8)) }) (pointAt s at)

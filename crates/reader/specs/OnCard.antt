@@ -1,0 +1,73 @@
+-- A card's head and a contour, field by field as `card` reads them, and the widths of their fields in file order. Assumes nothing.
+use mathlib.Core.List.{List, [], _∷_, _++_}
+use Prim.Native.Nat.{ℕ, zero, suc, _+_, _*_, _-_, min}
+use lib.ListN.{length, replicate}
+use Rattle.block.specs.Field.{byteAt, u16At, u32At, u64At}
+use Rattle.card.specs.Limits.{vertexLimit}
+use Rattle.card.specs.Layout.{jobOf, contoursOf, pairsOf, perContourOf, passesOf, moveLimitOf, homePlace, exteriorOf, interiorOf, idOf, tagOf, vertexCountOf, typeOf, fillerOf, vertexPlace}
+use Rattle.reader.specs.declared.Width.{Width}
+use Rattle.reader.specs.declared.Width.the-variants.{One, Two, Four, Eight}
+use Rattle.reader.specs.declared.Head.{Head}
+use Rattle.reader.specs.declared.ContourHead.{ContourHead}
+use Rattle.reader.specs.declared.Contour.{Contour}
+use Rattle.reader.specs.Walk.{eights}
+
+-- ---- the head
+
+unfoldable pub headOf : List ℕ → Head
+headOf s = record {
+  job = jobOf s;
+  contours = contoursOf s;
+  pairs = pairsOf s;
+  candidates = perContourOf s;
+  passes = passesOf s;
+  moves = moveLimitOf s;
+  x = u64At s homePlace;
+  y = u64At s (homePlace + 8);
+  exterior = exteriorOf s;
+  interior = interiorOf s;
+}
+
+abbrev pub headWidths : List Width
+headWidths = Four ∷ Two ∷ Two ∷ Two ∷ Two ∷ Four ∷ Eight ∷ Eight ∷ One ∷ One ∷ []
+
+-- a head's fields in the order of the file
+abbrev pub headList : Head → List ℕ
+headList h = h .job ∷ h .contours ∷ h .pairs ∷ h .candidates ∷ h .passes ∷ h .moves ∷ h .x ∷ h .y ∷ h .exterior ∷ h .interior ∷ []
+
+-- ---- a contour
+
+-- the five fields that stand before the vertices, from a place on, and the place after them
+unfoldable pub contourHead : List ℕ → ℕ → ContourHead
+contourHead s at = record {
+  id = u32At s at;
+  tag = u32At s (at + 4);
+  vertices = u16At s (at + 8);
+  kind = byteAt s (at + 10);
+  filler = byteAt s (at + 11);
+  after = min (at + 12) (length s);
+}
+
+-- the coordinates of so many vertices of contour k, from vertex j on
+unfoldable pub coordinatesFrom : List ℕ → ℕ → ℕ → ℕ → List ℕ
+coordinatesFrom s k j zero = []
+coordinatesFrom s k j (suc v) = u64At s (vertexPlace k j) ∷ u64At s (vertexPlace k j + 8) ∷ coordinatesFrom s k (suc j) v
+
+-- as many places as the most vertices have coordinates, the rest of them zero
+unfoldable pub filled : List ℕ → List ℕ
+filled l = l ++ replicate (2 * vertexLimit - length l) 0
+
+unfoldable pub contourOf : List ℕ → ℕ → Contour
+unfolding coordinatesFrom filled
+contourOf s k = record {
+  id = idOf s k;
+  tag = tagOf s k;
+  vertices = vertexCountOf s k;
+  kind = typeOf s k;
+  filler = fillerOf s k;
+  coordinates = filled (coordinatesFrom s k 0 (min (vertexCountOf s k) vertexLimit));
+}
+
+-- the five fields, then two coordinates a vertex
+abbrev pub contourWidths : ℕ → List Width
+contourWidths v = Four ∷ Four ∷ Two ∷ One ∷ One ∷ eights (2 * v)
