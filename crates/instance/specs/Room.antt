@@ -1,0 +1,64 @@
+-- The candidates as the code holds them: lists in rooms of fixed size, what is not used blank. Assumes nothing.
+use mathlib.Core.Path.{_≡_}
+use mathlib.Core.List.{List, [], _∷_, _++_}
+use Prim.Native.Nat.{ℕ, _+_, _*_, _-_, _<_, _≤_}
+use lib.ListN.{length, replicate, set}
+use lib.Seq.{paste}
+use lib.Ieee.{Float}
+use Rattle.answer.specs.declared.Point.{Point}
+use Rattle.candidates.specs.declared.Candidates.{Candidates}
+use Rattle.cost.specs.Closest.{zero64}
+use Rattle.candidates.specs.Generate.{mostCandidates, blank}
+use Rattle.closure.specs.Limits.{CONTOURS}
+use Rattle.card.specs.Limits.{candidateLimit, vertexLimit}
+use Rattle.instance.specs.declared.Instance.{Instance}
+use Rattle.instance.specs.declared.Outline.{Outline}
+use Rattle.instance.specs.Gather.{gathered, owners, firsts, heldOf}
+
+-- a list in a room for so many
+abbrev pub padded : {A : Type 0} → ℕ → A → List A → List A
+padded size spare l = l ++ replicate (size - length l) spare
+
+-- points as numbers, two each
+unfoldable pub flat : List Point → List Float
+flat [] = []
+flat (p ∷ more) = p .x ∷ p .y ∷ flat more
+
+-- a contour's numbers in their room
+unfoldable pub outlined : List Point → Outline
+outlined ps = record { numbers = padded (2 * vertexLimit) zero64 (flat ps); count = length (flat ps) }
+
+-- the first k contours' candidates in their rooms
+unfoldable pub heldAt : List ℕ → ℕ → Instance
+unfolding gathered owners firsts
+heldAt s k = record {
+  items = padded candidateLimit blank (gathered s k);
+  owner = padded candidateLimit 0 (owners s k);
+  first = padded (CONTOURS + 1) 0 (firsts s k);
+  contours = k;
+  count = length (gathered s k);
+}
+
+-- all that is held of a card
+unfoldable pub instanceOf : List ℕ → Instance
+unfolding heldAt
+instanceOf s = heldAt s (heldOf s)
+
+-- one contour more, number k, with these candidates
+unfoldable pub joined : Instance → Candidates → ℕ → Instance
+joined held found k = record {
+  items = paste (held .items) (held .count) (found .items) (found .count);
+  owner = paste (held .owner) (held .count) (replicate (found .count) k) (found .count);
+  first = set (held .first) (k + 1) (held .count + found .count);
+  contours = k + 1;
+  count = held .count + found .count;
+}
+
+-- there is room for these candidates of contour k
+pub record Roomy (held : Instance) (found : Candidates) (k : ℕ) : Type 0 where
+  pub below : k < CONTOURS
+  pub few : found .count ≤ mostCandidates
+  pub whole : length (found .items) ≡ mostCandidates
+  pub room : held .count + found .count ≤ candidateLimit
+  pub items-whole : length (held .items) ≡ candidateLimit
+  pub owner-whole : length (held .owner) ≡ candidateLimit

@@ -1,0 +1,165 @@
+// A card's candidates gathered for the search: all of them, contour after contour, with the contour that each belongs to and the
+// number of each contour's first. Every question takes the card as any bytes; a card whose head asks for more than can be held has
+// no contours here.
+ghost use mathlib.Core.Path.{_≡_};
+ghost use mathlib.Core.List.{[]};
+ghost use Prim.Native.Nat.{min};
+ghost use Rattle.card.specs.Limits.{vertexLimit};
+ghost use Rattle.candidates.specs.Generate.{filled};
+ghost use Rattle.instance.specs.Gather.{outlineOf, offersOf, heldOf};
+ghost use Rattle.instance.specs.Room.{outlined, heldAt, joined, Roomy, instanceOf};
+use answer::CutDirection;
+use candidates::Candidate;
+use candidates::Candidates;
+use card::CANDIDATES;
+use card::PER_CONTOUR;
+use card::VERTICES;
+use closure::CONTOURS;
+
+// The numbers of the most vertices of a contour, two each.
+const NUMBERS: usize = 2 * VERTICES;
+
+// A number for each contour, and one for the end.
+const FIRSTS: usize = CONTOURS + 1;
+
+// What is held of a card: the first `count` items are its candidates, each with the contour that it belongs to, and of `first` the
+// first `contours` are the numbers of the contours' first candidates, with the count after them.
+pub struct Instance {
+    pub items: [Candidate; CANDIDATES],
+    pub owner: [u8; CANDIDATES],
+    pub first: [u8; FIRSTS],
+    pub contours: usize,
+    pub count: usize,
+}
+
+// A contour's vertices, two numbers each: the first `count` of the numbers.
+struct Outline {
+    numbers: [f64; NUMBERS],
+    count: usize,
+}
+
+// As many vertices as there are, or as can be held.
+fn most(v: usize) -> usize
+    ensures { λ r. ⌜ r ≡ min v vertexLimit ⌝ }
+{
+    if v < VERTICES {
+        return v;
+    }
+    VERTICES
+}
+
+// Contour k's vertices.
+fn outline_of(card: &[u8], k: usize) -> Outline
+    ensures { λ r. ⌜ r ≡ outlined (outlineOf (now (card .entry)) k) ⌝ }
+{
+    let v = most(card::vertices(card, k));
+    let mut numbers = [0.0; NUMBERS];
+    let mut j = 0;
+    while j < v {
+        let p = card::vertex(card, k, j);
+        numbers[2 * j] = p.x;
+        numbers[2 * j + 1] = p.y;
+        j += 1;
+    }
+    Outline {
+        numbers,
+        count: 2 * v,
+    }
+}
+
+// Contour k's candidates.
+fn offers(card: &[u8], k: usize) -> Candidates
+    ensures { λ r. ⌜ r ≡ filled (offersOf (now (card .entry)) k) ⌝ }
+{
+    let o = outline_of(card, k);
+    let numbers = o.numbers;
+    let end = o.count;
+    let kind = card::contour_type(card, k);
+    let exterior = card::exterior(card);
+    let interior = card::interior(card);
+    let c = card::per_contour(card);
+    candidates::candidates_of(&numbers[..end], c, kind, exterior, interior)
+}
+
+// No contours.
+fn none() -> Instance
+    ensures { λ r. ⌜ r ≡ heldAt [] 0 ⌝ }
+{
+    let blank = Candidate {
+        x: 0.0,
+        y: 0.0,
+        end_x: 0.0,
+        end_y: 0.0,
+        vertex: 0,
+        direction: CutDirection::Ccw,
+    };
+    Instance {
+        items: [blank; CANDIDATES],
+        owner: [0; CANDIDATES],
+        first: [0; FIRSTS],
+        contours: 0,
+        count: 0,
+    }
+}
+
+// One contour more, number k, with the candidates found.
+fn joined(held: Instance, found: Candidates, k: usize) -> Instance
+    requires { ⌜ Roomy held found k ⌝ }
+    ensures { λ r. ⌜ r ≡ joined held found k ⌝ }
+{
+    let mut items = held.items;
+    let mut owner = held.owner;
+    let mut first = held.first;
+    let from = held.count;
+    let more = found.items;
+    let end = found.count;
+    let mut j = 0;
+    while j < end {
+        items[from + j] = more[j];
+        owner[from + j] = k as u8;
+        j += 1;
+    }
+    first[k + 1] = (from + end) as u8;
+    Instance {
+        items,
+        owner,
+        first,
+        contours: k + 1,
+        count: from + end,
+    }
+}
+
+// How many contours are gathered.
+fn held(card: &[u8]) -> usize
+    ensures { λ r. ⌜ r ≡ heldOf (now (card .entry)) ⌝ }
+{
+    let n = card::contours(card);
+    let c = card::per_contour(card);
+    if n > CONTOURS {
+        return 0;
+    }
+    if c < 1 {
+        return 0;
+    }
+    if c > PER_CONTOUR {
+        return 0;
+    }
+    if n * c > CANDIDATES {
+        return 0;
+    }
+    n
+}
+
+// All of a card's candidates.
+pub fn gather(card: &[u8]) -> Instance
+    ensures { λ r. ⌜ r ≡ instanceOf (now (card .entry)) ⌝ }
+{
+    let n = held(card);
+    let mut all = none();
+    let mut k = 0;
+    while k < n {
+        all = joined(all, offers(card, k), k);
+        k += 1;
+    }
+    all
+}
