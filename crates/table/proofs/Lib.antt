@@ -1,3 +1,6 @@
 pub mod WalkLaws
 pub mod PlaceLaws
 pub mod EachLaws
+pub mod FillLaws
+pub mod RoomLaws
+pub mod DistanceLaws

@@ -1,3 +1,4 @@
 pub mod Walk
 pub mod Evaluate
 pub mod Each
+pub mod Distances

@@ -1,8 +1,21 @@
 // The distances between candidates, and how long a tour over them is.
+use answer::Point;
+use candidates::Candidate;
+use card::CANDIDATES;
 ghost use mathlib.Core.Path.{_≡_};
-ghost use lib.ListN.{getD};
+ghost use mathlib.Core.List.{_++_};
+ghost use Prim.Native.Nat.{_≤_, _<_};
+ghost use lib.ListN.{getD, take, drop};
 ghost use lib.Ieee.{nan};
+ghost use Rattle.card.specs.Limits.{candidateLimit};
 ghost use Rattle.table.specs.Evaluate.{homeAt, distanceAt, lengthOf};
+ghost use Rattle.table.specs.Distances.{legOf, rowOf, homed, tabled};
+
+// The most entries that the distances of a card take.
+pub const ENTRIES: usize = CANDIDATES * CANDIDATES;
+
+// The largest float: what stands between candidates of one contour.
+const HUGE: f64 = 1.7976931348623157e308;
 
 // The float at a place, and not a number past the end.
 pub fn float_at(s: &[f64], i: usize) -> f64
@@ -55,4 +68,73 @@ pub fn evaluate_solution(home: &[f64], table: &[f64], t: u8, tour: &[u8]) -> f64
         i += 1;
     }
     total
+}
+
+// The way from one candidate of contour k to another of contour m: from where the beam stands after the first cut to where it
+// pierces next. Candidates of one contour stay as far apart as can be.
+fn leg(from: Candidate, k: u8, to: Candidate, m: u8) -> f64
+    ensures { λ r. ⌜ r ≡ legOf from k to m ⌝ }
+{
+    if k == m {
+        return HUGE;
+    }
+    cost::distance(
+        Point {
+            x: from.end_x,
+            y: from.end_y,
+        },
+        Point { x: to.x, y: to.y },
+    )
+}
+
+// The row of candidate a: the way from it to each of the t candidates.
+fn fill_row(room: &mut [f64], items: [Candidate; CANDIDATES], t: usize, owner: &[u8], a: usize)
+    requires { ⌜ (t ≤ candidateLimit) × (a < t) ⌝ }
+    requires { do ⌜ t ≤ (← ⟦room.len()⟧) ⌝ }
+    ensures { λ r. ⌜ now (room .exit) ≡ rowOf (take t items) (now (owner .entry)) t a ++ drop t (now (room .entry)) ⌝ }
+{
+    let from = items[a];
+    let k = byte_at(owner, a);
+    let mut b = 0;
+    while b < t {
+        let to = items[b];
+        room[b] = leg(from, k, to, byte_at(owner, b));
+        b += 1;
+    }
+}
+
+// The distances of the first t candidates, row by row, with the contour of each. Nothing is written where the room is too small.
+pub fn fill_table(room: &mut [f64], items: [Candidate; CANDIDATES], t: usize, owner: &[u8])
+    ensures { λ r. ⌜ now (room .exit) ≡ tabled items t (now (owner .entry)) (now (room .entry)) ⌝ }
+{
+    if t > CANDIDATES {
+        return;
+    }
+    if room.len() < t * t {
+        return;
+    }
+    let mut a = 0;
+    while a < t {
+        let at = a * t;
+        fill_row(&mut room[at..], items, t, owner, a);
+        a += 1;
+    }
+}
+
+// How far each of the first t candidates is from home. Nothing is written where the room is too small.
+pub fn fill_home(room: &mut [f64], items: [Candidate; CANDIDATES], t: usize, home: Point)
+    ensures { λ r. ⌜ now (room .exit) ≡ homed items t home (now (room .entry)) ⌝ }
+{
+    if t > CANDIDATES {
+        return;
+    }
+    if room.len() < t {
+        return;
+    }
+    let mut a = 0;
+    while a < t {
+        let to = items[a];
+        room[a] = cost::distance(home, Point { x: to.x, y: to.y });
+        a += 1;
+    }
 }

@@ -1,0 +1,81 @@
+-- `table::fill_home` meets its contract. The invariant: the first a entries are filled, the rest of the room kept. Assumes nothing.
+use mathlib.Core.Path.{_≡_, refl, ap}
+use mathlib.Core.List.{_++_}
+use Prim.Native.Nat.{_≤_, _-_}
+use native.Mathlib.Omega.{arith}
+use borrow.Author.Needs.{needs}
+use lib.ListN.{length, take, drop, length-set}
+use Rattle.table.specs.Distances.{listed, homeLeg}
+use Rattle.table.proofs.RoomLaws.{home-many, home-short, home-all, home-more}
+use Rattle.table.proofs.fill_home.Statement.{statement}
+use Rattle.table.proofs.fill_home.Tie as tie
+
+abbrev Inv-loop : tie.InvT-loop
+Inv-loop room₀ t home items a₀ room a = (a ≤ t) × (length room ≡ length room₀) × (room ≡ listed (homeLeg (take t items) home) a 0 ++ drop a room₀)
+
+abbrev μ-loop : tie.MeasureT-loop
+μ-loop room₀ t home items a₀ room a = t - a
+
+returns : tie.Need-returns Inv-loop μ-loop
+returns c = home-many _ _ _ _ (c .if1 .taken)
+
+returns-2 : tie.Need-returns-2 Inv-loop μ-loop
+returns-2 c = home-short _ _ _ _ (omega arith) (c .if2 .taken)
+
+loop-holds : tie.Need-loop-holds Inv-loop μ-loop
+unfolding listed
+loop-holds c = (omega arith, refl, refl)
+
+mul-to : tie.Need-mul-to Inv-loop μ-loop
+mul-to c = search needs
+
+array-copy-out-to : tie.Need-array-copy-out-to Inv-loop μ-loop
+array-copy-out-to c = omega arith
+
+distance-requires : tie.Need-distance-requires Inv-loop μ-loop
+distance-requires c κs = tt
+
+mul-room : tie.Need-mul-room Inv-loop μ-loop
+mul-room c = search needs
+
+slice-write-room : tie.Need-slice-write-room Inv-loop μ-loop
+slice-write-room c = search needs
+
+add-a : tie.Need-add-a Inv-loop μ-loop
+add-a c = search needs
+
+loop-less : tie.Need-loop-less Inv-loop μ-loop
+loop-less c = search needs
+
+loop-again : tie.Need-loop-again Inv-loop μ-loop
+loop-again c =
+    let h = c .before .before .before in
+    (omega arith, simp length-set (h .loop .inv .1), home-more _ _ _ _ _ _ (h .loop .inv .2) _ (c .before .before .loop-test .taken) (omega arith) (c .distance .ensures))
+
+same-length : tie.Need-same-length Inv-loop μ-loop
+same-length c = ap (λ n. n) (c .before .loop .inv .1)
+
+returns-3 : tie.Need-returns-3 Inv-loop μ-loop
+returns-3 c =
+    let s = c .before .before .before .before .before in
+    home-all _ _ _ _ _ _ (c .before .loop .inv .2) (omega arith) (omega arith) (s .good .1 .0 .1 .0 .1) (omega arith)
+
+pub fill-home-spec : {M : Type 1} → statement M
+fill-home-spec =
+    tie.close
+    (tie.spec
+    Inv-loop
+    μ-loop
+    returns
+    returns-2
+    loop-holds
+    mul-to
+    array-copy-out-to
+    distance-requires
+    mul-room
+    slice-write-room
+    add-a
+    loop-less
+    loop-again
+    same-length
+    returns-3)
