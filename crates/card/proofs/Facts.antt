@@ -98,7 +98,7 @@ module _ (s : List ℕ) (sound : Sound s) where
       record {
         is-contour = has .is-contour;
         same-id = has .same;
-        same-tag = must-be _ _ (λ d. no-other-tag s row9 row10 row11 q h (OtherTag.first (beforeOf s q) has d))
+        same-tag = must-be _ _ (λ d. no-other-tag s row9 row10 row11 q h (OtherTag.first (beforeOf s q) has d));
       }
 
   after-names : (q : ℕ) → q < pairsOf s → Names s (afterIdOf s q) (afterTagOf s q) (afterOf s q)
@@ -107,7 +107,7 @@ module _ (s : List ℕ) (sound : Sound s) where
       record {
         is-contour = has .is-contour;
         same-id = has .same;
-        same-tag = must-be _ _ (λ d. no-other-tag s row9 row10 row11 q h (OtherTag.second (afterOf s q) has d))
+        same-tag = must-be _ _ (λ d. no-other-tag s row9 row10 row11 q h (OtherTag.second (afterOf s q) has d));
       }
 
   facts : Accepted s
@@ -130,7 +130,7 @@ module _ (s : List ℕ) (sound : Sound s) where
         ids-differ = λ j k hj hk e. same-contour s row9 (idOf s k) j k (record { is-contour = hj; same = e }) (record { is-contour = hk; same = refl });
         before-named = before-names;
         after-named = after-names;
-        acyclic = λ k h. false-unless (onCycle (contoursOf s) (seatsOf s (pairsOf s)) k) (λ t. no-cycle s row12 k h t)
+        acyclic = λ k h. false-unless (onCycle (contoursOf s) (seatsOf s (pairsOf s)) k) (λ t. no-cycle s row12 k h t);
       }
 
 pub accepted : (s : List ℕ) → checkOf s ≡ Fine → Accepted s

@@ -66,7 +66,7 @@ cardOf s =
       exterior = asPreference (exteriorOf s);
       interior = asPreference (interiorOf s);
       contours = each (contourOf s) (contoursOf s);
-      pairs = each (pairOf s) (pairsOf s)
+      pairs = each (pairOf s) (pairsOf s);
     }
 
 -- ---- what every fine card has
