@@ -13,6 +13,9 @@ ghost use Rattle.candidates.specs.Question.{offeredOf};
 ghost use Rattle.hierarchy.specs.Questions.{numContours, precedencesOf, violatesOf, predecessorsOf, successorsOf, validSequence, topologicalSort};
 ghost use Rattle.card.specs.Verdict.{checkOf};
 ghost use Rattle.table.specs.Evaluate.{lengthOf};
+ghost use mathlib.Core.List.{[]};
+ghost use Rattle.start.specs.Nearest.{nearest};
+ghost use Rattle.start.specs.Code.{groundOf, Written};
 ghost use Rattle.improve.specs.Search.{searched};
 ghost use Rattle.improve.specs.Code.{Reached, sheetOf};
 use answer::Check;
@@ -417,4 +420,35 @@ pub extern "C" fn probe_improve(
         (searched (sheetOf (now (home .entry)) (now (table .entry)) t (now (owner .entry)) (now (first .entry)) (now (pairs .entry))) passes limit (now (tour .entry))) ⌝ }
 {
     improve::improve(home, table, t, owner, first, pairs, tour, passes, limit)
+}
+
+#[no_mangle]
+pub extern "C" fn probe_start(
+    home: &[f64],
+    table: &[f64],
+    t: u8,
+    first: &[u8],
+    pairs: &[u8],
+    tour: &mut [u8],
+) -> usize
+    ensures { λ r. do
+      n ← ⟦tour.len()⟧ .entry
+      ⌜ Written (nearest (groundOf (now (home .entry)) (now (table .entry)) t (now (first .entry)) (now (pairs .entry))) n) (now (tour .entry)) r (now (tour .exit)) ⌝ }
+{
+    start::nn_constrained(home, table, t, first, pairs, tour)
+}
+
+#[no_mangle]
+pub extern "C" fn probe_solve_nn(
+    home: &[f64],
+    table: &[f64],
+    t: u8,
+    first: &[u8],
+    tour: &mut [u8],
+) -> usize
+    ensures { λ r. do
+      n ← ⟦tour.len()⟧ .entry
+      ⌜ Written (nearest (groundOf (now (home .entry)) (now (table .entry)) t (now (first .entry)) []) n) (now (tour .entry)) r (now (tour .exit)) ⌝ }
+{
+    start::solve_nn(home, table, t, first, tour)
 }

@@ -5,8 +5,10 @@
 use oracle::run::Wanted;
 use oracle::{candidates, check, cost, fuzz, hierarchy, root, search, start, tour};
 
+type Part = (&'static str, fn(Wanted) -> bool);
+
 /// `fuzz` runs only where it is named.
-const PARTS: [(&str, fn(Wanted) -> bool); 9] = [
+const PARTS: [Part; 9] = [
     ("root", root::compare),
     ("cost", cost::compare),
     ("hierarchy", hierarchy::compare),
