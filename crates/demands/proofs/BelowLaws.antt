@@ -1,0 +1,86 @@
+-- A search over candidates below t comes to tours of candidates below t only. Assumes nothing.
+use mathlib.Core.Path.{_≡_, refl, sym, ap, _∙_, subst}
+use mathlib.Core.List.{List, [], _∷_, _++_}
+use Prim.Native.Nat.{ℕ, zero, suc, _≤_, _<_}
+use native.Mathlib.Omega.{arith}
+use lib.ListN.{length, getD, set, length-set}
+use lib.Seq.{set-set}
+use Rattle.bytes.proofs.Laws.{rev-append}
+use Rattle.bytes.specs.Bytes.{rev}
+use Rattle.improve.specs.Search.{Sheet, contourOf, turned, searched}
+use Rattle.improve.proofs.Keeps.{search-keeps}
+use Rattle.improve.proofs.ReversalLaws.{Parts, parts, turned-parts, length-turned}
+use Rattle.improve.proofs.TourLaws.{KeepsTour, tour-keeps}
+
+-- every number of a list is below t
+unfoldable pub AllBelow : ℕ → List ℕ → Type 0
+AllBelow t [] = Unit {0}
+AllBelow t (x ∷ l) = (x < t) × AllBelow t l
+
+pub below-at : (t : ℕ) (l : List ℕ) (p : ℕ) → AllBelow t l → p < length l → getD l p 0 < t
+unfolding AllBelow
+below-at t [] p h g = absurd (omega arith)
+below-at t (x ∷ l) zero h g = h .0
+below-at t (x ∷ l) (suc p) h g = below-at t l p (h .1) (omega arith)
+
+below-both : (t : ℕ) (a b : List ℕ) → AllBelow t a → AllBelow t b → AllBelow t (a ++ b)
+unfolding AllBelow
+below-both t [] b h g = g
+below-both t (x ∷ a) b h g = (h .0, below-both t a b (h .1) g)
+
+below-front : (t : ℕ) (a b : List ℕ) → AllBelow t (a ++ b) → AllBelow t a
+unfolding AllBelow
+below-front t [] b h = tt
+below-front t (x ∷ a) b h = (h .0, below-front t a b (h .1))
+
+below-back : (t : ℕ) (a b : List ℕ) → AllBelow t (a ++ b) → AllBelow t b
+unfolding AllBelow
+below-back t [] b h = h
+below-back t (x ∷ a) b h = below-back t a b (h .1)
+
+below-rev : (t : ℕ) (b : List ℕ) → AllBelow t b → AllBelow t (rev b)
+unfolding AllBelow rev
+below-rev t [] h = tt
+below-rev t (x ∷ b) h = subst (AllBelow t) (sym (rev-append (x ∷ []) b)) (below-both t (rev b) (x ∷ []) (below-rev t b (h .1)) (h .0, tt))
+
+below-set : (t : ℕ) (l : List ℕ) (p a : ℕ) → AllBelow t l → a < t → AllBelow t (set l p a)
+unfolding AllBelow
+below-set t [] p a h g = tt
+below-set t (x ∷ l) zero a h g = (g, h .1)
+below-set t (x ∷ l) (suc p) a h g = (h .0, below-set t l p a (h .1) g)
+
+-- a tour of n candidates below t
+record Held (t n : ℕ) (tour : List ℕ) : Type 0 where
+  long : length tour ≡ n
+  below : AllBelow t tour
+
+turned-below : (t f u : ℕ) (l : List ℕ) → f ≤ u → u ≤ length l → AllBelow t l → AllBelow t (turned f u l)
+turned-below t f u l h g w = go (parts f u l h g)
+  where
+    go : Parts f u l → AllBelow t (turned f u l)
+    go p =
+        let a = p .front in
+        let b = p .middle in
+        let c = p .back in
+        let e : turned f u l ≡ a ++ (rev b ++ c) = ap (turned f u) (p .joined) ∙ turned-parts a b c f u (p .starts) (p .ends) in
+        let all : AllBelow t (a ++ (b ++ c)) = subst (AllBelow t) (p .joined) w in
+        let rest : AllBelow t (b ++ c) = below-back t a (b ++ c) all in
+        subst (AllBelow t) (sym e) (below-both t a (rev b ++ c) (below-front t a (b ++ c) all) (below-both t (rev b) c (below-rev t b (below-front t b c rest)) (below-back t b c rest)))
+
+held-kept : (sheet : Sheet) (t n : ℕ) → ((k : ℕ) → getD (sheet .first) k 0 ≤ t) → KeepsTour sheet n (Held t n)
+held-kept sheet t n bound = record {
+  swapped = λ p held a tour h o w. record {
+    long = simp length-set (simp length-set at (w .long));
+    below = subst (AllBelow t) (set-set tour p held a) (below-set t (set tour p held) p a (w .below) (let m = bound (suc (contourOf (sheet .owner) held)) in omega (arith, o .to)));
+  };
+  flipped = λ i j tour h g l w. record {
+    long = length-turned (suc i) (suc j) tour (omega arith) (omega (arith, w .long)) ∙ w .long;
+    below = turned-below t (suc i) (suc j) tour (omega arith) (omega (arith, w .long)) (w .below);
+  };
+}
+
+pub below-kept : (sheet : Sheet) (most limit t : ℕ) (tour : List ℕ) → ((k : ℕ) → getD (sheet .first) k 0 ≤ t) → AllBelow t tour
+    → AllBelow t (searched sheet most limit tour .tour)
+below-kept sheet most limit t tour bound h =
+    search-keeps sheet most limit tour (λ s. Held t (length tour) (s .tour)) (tour-keeps sheet limit (length tour) _ (held-kept sheet t (length tour) bound))
+    (record { long = refl; below = h }) .below
