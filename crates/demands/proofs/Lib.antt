@@ -1,4 +1,0 @@
-pub mod PairLaws
-pub mod Demand1
-pub mod ShuffleLaws
-pub mod BelowLaws
