@@ -7,16 +7,9 @@ use native.Mathlib.Omega.{arith}
 use lib.Dec.{eqb}
 use lib.ListN.{length, getD}
 use lib.Seq.{set-getD}
+use Rattle.table.proofs.EachLaws.{each-keeps}
 use Rattle.table.specs.Each.{each}
 use Rattle.improve.specs.Search.{Sheet, State, lengthIn, contourOf, legal, atLimit, stopped, tried, givenBack, swap, alternative, turn, flip, reversal, row, fresh, pass, repeated, begun, worthwhile, searched}
-
--- what each step of a loop keeps, the loop keeps
-pub each-keeps : {S : Type 0} (P : S → Type 0) (step : ℕ → S → S) (k a : ℕ)
-    → ((i : ℕ) → a ≤ i → i < a + k → (s : S) → P s → P (step i s)) → (s : S) → P s → P (each step k a s)
-unfolding each
-each-keeps P step zero a h s p = p
-each-keeps P step (suc k) a h s p =
-    each-keeps P step k (suc a) (λ i l g. h i (omega arith) (omega arith)) (step a s) (h a (omega arith) (omega arith) s p)
 
 -- ---- what is asked of a property
 

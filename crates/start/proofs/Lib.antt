@@ -1,1 +1,4 @@
 pub mod StepLaws
+pub mod ChoiceLaws
+pub mod FreeLaws
+pub mod StartLaws
