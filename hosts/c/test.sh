@@ -7,7 +7,8 @@ cd "$(dirname "$0")/../.."
 [ -f target/staticlib/libtour.a ] || { echo 'C host: left out, no archive of the crate tour'; exit 0; }
 command -v cc >/dev/null || { echo 'C host: left out, no cc on this machine'; exit 0; }
 list=target/staticlib/list
-cc -std=c11 -O2 -Wall -Wextra -Werror -pedantic -o "$list" hosts/c/list.c target/staticlib/libtour.a
+# -lm: the remainder of two floats is the C library's fmod
+cc -std=c11 -O2 -Wall -Wextra -Werror -pedantic -o "$list" hosts/c/list.c target/staticlib/libtour.a -lm
 cards=0
 for card in examples/*.card; do
     "$list" <"$card" | cmp - "${card%.card}.list"
