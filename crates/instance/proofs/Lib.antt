@@ -1,2 +1,4 @@
 pub mod RoomLaws
 pub mod GatherLaws
+pub mod FineLaws
+pub mod OwnerLaws
