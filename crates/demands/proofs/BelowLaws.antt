@@ -1,12 +1,19 @@
--- A search over candidates below t comes to tours of candidates below t only. Assumes nothing.
+-- A start and a search over candidates below t come to tours of candidates below t only. Assumes nothing.
 use mathlib.Core.Path.{_≡_, refl, sym, ap, _∙_, subst}
+use mathlib.Core.Bool.{Bool, true, false, cond}
 use mathlib.Core.List.{List, [], _∷_, _++_}
 use Prim.Native.Nat.{ℕ, zero, suc, _≤_, _<_}
 use native.Mathlib.Omega.{arith}
+use lib.Dec.{leb}
 use lib.ListN.{length, getD, set, length-set}
 use lib.Seq.{set-set}
 use Rattle.bytes.proofs.Laws.{rev-append}
 use Rattle.bytes.specs.Bytes.{rev}
+use Rattle.closure.specs.Limits.{CONTOURS}
+use Rattle.table.specs.Each.{each}
+use Rattle.table.proofs.EachLaws.{each-keeps}
+use Rattle.start.specs.Nearest.{Ground, Way, reachOf, lastOf, chosen, visit, step, setOut, walked, nearest}
+use Rattle.start.proofs.ChoiceLaws.{chosen-fair}
 use Rattle.improve.specs.Search.{Sheet, contourOf, turned, searched}
 use Rattle.improve.proofs.Keeps.{search-keeps}
 use Rattle.improve.proofs.ReversalLaws.{Parts, parts, turned-parts, length-turned}
@@ -84,3 +91,30 @@ pub below-kept : (sheet : Sheet) (most limit t : ℕ) (tour : List ℕ) → ((k 
 below-kept sheet most limit t tour bound h =
     search-keeps sheet most limit tour (λ s. Held t (length tour) (s .tour)) (tour-keeps sheet limit (length tour) _ (held-kept sheet t (length tour) bound))
     (record { long = refl; below = h }) .below
+
+-- ---- the start
+
+step-below : (g : Ground) (n t i : ℕ) (w : Way) → ((k : ℕ) → getD (g .first) k 0 ≤ t) → AllBelow t (w .tour) → AllBelow t (step g n i w .tour)
+unfolding step visit AllBelow
+step-below g n t i w bound h =
+    let reach = reachOf (g .home) (g .table) (g .t) (length (w .tour)) (lastOf (w .tour)) in
+    let choice = chosen reach (g .first) (g .pairs) (w .visited) n in
+    go (choice .found) (choice .contour) (choice .candidate) (λ e.
+    let f = chosen-fair reach (g .first) (g .pairs) (w .visited) n e in
+    let m = bound (suc (choice .contour)) in
+    omega (arith, f .candidate .to))
+  where
+    go : (b : Bool) (k a : ℕ) → (b ≡ true → a < t) → AllBelow t (cond b (record { tour = w .tour ++ (a ∷ []); visited = set (w .visited) k 1 }) w .tour)
+    go true k a less = below-both t (w .tour) (a ∷ []) h (less refl, tt)
+    go false k a less = h
+
+pub start-below : (g : Ground) (n t : ℕ) → ((k : ℕ) → getD (g .first) k 0 ≤ t) → AllBelow t (nearest g n)
+unfolding nearest walked AllBelow
+start-below g n t bound = go (leb n CONTOURS)
+  where
+    all : AllBelow t (each (step g n) n 0 setOut .tour)
+    all = each-keeps (λ w. AllBelow t (w .tour)) (step g n) n 0 (λ i l h w. step-below g n t i w bound) setOut tt
+
+    go : (b : Bool) → AllBelow t (cond b (each (step g n) n 0 setOut .tour) [])
+    go true = all
+    go false = tt

@@ -23,10 +23,10 @@ abbrev pub RefusedWith : ℕ → List ℕ → Type 0
 RefusedWith number s = (place : ℕ) × (checkOf s ≡ Refused (record { number = number; place = place }))
 
 -- what is claimed of the bytes s, whatever they are
-pub record Judged (s : List ℕ) : Type 0 where
+pub record Checked (s : List ℕ) : Type 0 where
   pub refused : (r : Refusal) → (checkOf s ≡ Refused r) ↔ Given s (r .number) (r .place)
-  pub accepted : (checkOf s ≡ Fine) ↔ Sound s
+  pub fine : (checkOf s ≡ Fine) ↔ Sound s
   pub impossible : Past11 s → RefusedWith 12 s ↔ (((order : List ℕ) × LegalOrder s order) → ⊥)
 
 abbrev pub Claim : Type 0
-Claim = (s : List ℕ) → Judged s
+Claim = (s : List ℕ) → Checked s
