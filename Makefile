@@ -1,6 +1,6 @@
 # The proofs are rt's; this file joins them with what is built around them in Rust and C.
 #   make               proves every crate and builds the programs
-#   make test          every test, then the gate (rt ci); the last line is the gate's own
+#   make test          the gate (rt ci), then every test on what it proved; the last line is the gate's own
 #   make differential  the comparisons in full size          make bench   the speed figures
 #   make soak SECONDS=600 SEED=7   comparisons from a seed for a time
 #   make fuzz SECONDS=600 SEED=7   any bytes through the exports, between guard pages
@@ -28,8 +28,13 @@ ORACLE = $(CARGO) run --release --offline --quiet --package oracle $(ORIGINAL) -
 all:
 	rt check
 
-test: $(if $(shell command -v $(CARGO)),hosts,no-cargo)
-	rt ci
+# The gate starts from nothing and leaves what it proved, so that the archives below need no second proof. Its last line
+# is said again at the end; whatever fails before ends the run.
+test:
+	@log=$$(mktemp) && trap "rm -f $$log" EXIT && \
+	{ rt ci >$$log 2>&1 || { cat $$log; exit 1; }; } && cat $$log && \
+	$(MAKE) --no-print-directory $(if $(shell command -v $(CARGO)),hosts,no-cargo) && \
+	tail -n 1 $$log
 
 hosts: archives
 	$(TEST) --package oracle $(ORIGINAL)

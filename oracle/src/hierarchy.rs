@@ -79,7 +79,6 @@ fn refusal(contours: usize, pairs: &[u32]) -> Option<u64> {
     }
 }
 
-#[cfg(has_order)]
 /// The lowest position that pairs of positions below the count lead back to.
 fn on_cycle(contours: usize, pairs: &[u32]) -> Option<u64> {
     let mut leads = vec![vec![false; contours]; contours];
@@ -140,12 +139,6 @@ fn one(q: &Asked) -> Result<u64, String> {
     Ok(6 + order(q, &dag)?)
 }
 
-#[cfg(not(has_order))]
-fn order(_: &Asked, _: &CuttingDag) -> Result<u64, String> {
-    Ok(0)
-}
-
-#[cfg(has_order)]
 fn order(q: &Asked, dag: &CuttingDag) -> Result<u64, String> {
     let (at, length) = (q.pairs.as_ptr(), q.pairs.len());
     let ours = list(|ids, count| unsafe { probe_topological_sort(q.contours, at, length, ids, count) });

@@ -1,6 +1,5 @@
 //! What the proved crates are held against: the Rust original, the processor's own root, and a second
-//! reading of the paper. A part is compared where its doors are in the archives (build.rs) and, where
-//! the original is needed, its folder is at hand (feature `original`).
+//! reading of the paper. What needs the original is compared where its folder is at hand (feature `original`).
 
 pub mod card;
 pub mod doors;
@@ -30,12 +29,13 @@ macro_rules! part {
         }
     };
 }
-part!(root, "no door to it", has_root);
-part!(cost, "no door to it, or the original is not at hand", all(has_cost, feature = "original"));
-part!(hierarchy, "no door to it, or the original is not at hand", all(has_hierarchy, feature = "original"));
-part!(candidates, "no door to it, or the original is not at hand", all(has_candidates, feature = "original"));
-part!(start, "no door to it, or the original is not at hand", all(has_start, feature = "original"));
-part!(search, "no door to it, or the original is not at hand", all(has_improve, feature = "original"));
-part!(check, "no door to it", has_check);
-part!(tour, "no export jl_tour, or the original is not at hand", all(has_tour, feature = "original"));
-part!(fuzz, "no export jl_tour", has_tour);
+pub mod check;
+pub mod root;
+part!(cost, "the original is not at hand", feature = "original");
+part!(hierarchy, "the original is not at hand", feature = "original");
+part!(candidates, "the original is not at hand", feature = "original");
+part!(table, "the original is not at hand", feature = "original");
+part!(start, "the original is not at hand", feature = "original");
+part!(search, "the original is not at hand", feature = "original");
+part!(tour, "no crate tour yet, or the original is not at hand", all(has_tour, feature = "original"));
+part!(fuzz, "no crate tour yet", has_tour);

@@ -1,8 +1,8 @@
 -- What a store into the table of flags does to each flag, and what joining rows comes to. Assumes nothing.
-use mathlib.Core.Bool.{Bool, true, false, _&&_, _||_, true-and, or-self, or-true, or-false}
+use mathlib.Core.Bool.{Bool, true, false, _&&_, _||_, or-true, or-false}
 use mathlib.Core.Path.{_≡_, refl, sym, ap, _∙_, subst}
 use mathlib.Core.Logic.{_⊎_, inl, inr, ⊎-elim}
-use mathlib.Core.List.{List, [], _∷_}
+use mathlib.Core.List.{List}
 use Prim.Native.Nat.{ℕ, zero, suc, _+_, _*_, _≤_, _<_, min}
 use native.Mathlib.Numerals.{add-one}
 use native.Mathlib.Omega.{arith}
@@ -13,12 +13,9 @@ use Rattle.answer.proofs.LowestLaws.{LowestAt, Nowhere, at-is, absent-is, searc
 use borrow.Author.Tests.{lt-ltb}
 use Rattle.closure.proofs.PairLaws.{same-or, lt-or, pairAt, paired-more, paired-end, is-pair, no-pair}
 use Rattle.closure.specs.Limits.{CONTOURS}
-use Rattle.closure.specs.Pairs.{Pair, paired, someOf, isPair}
+use Rattle.closure.specs.Pairs.{paired, someOf, isPair}
 use Rattle.closure.specs.Cycle.{linked, leads, onCycle, firstOnCycle}
 use Rattle.closure.specs.Flags.{flag, Whole, RowJoined, RowsJoined, Noted, Says}
-
-pub cell-within : (i j : ℕ) → i < CONTOURS → j < CONTOURS → i * CONTOURS + j < CONTOURS * CONTOURS
-cell-within i j hi hj = omega arith
 
 pub set-here : (f : List Bool) (i j : ℕ) (v : Bool) → Whole f → i < CONTOURS → j < CONTOURS → flag (set f (i * CONTOURS + j) v) i j ≡ v
 set-here f i j v w hi hj = getD-set-same f (i * CONTOURS + j) v false (omega arith)
@@ -221,15 +218,21 @@ pub linked-is : (n : ℕ) (pairs : List ℕ) (i j : ℕ) → i < n → j < n →
 unfolding linked
 linked-is n pairs i j hi hj = rw (lt-ltb i n hi, lt-ltb j n hj)
 
-pub diagonal : (n : ℕ) (pairs : List ℕ) (f g : List Bool) → n ≤ CONTOURS → Noted n pairs (replicate (CONTOURS * CONTOURS) false) f → Says n (leads (flag f) n) g →
+-- the flags of the pairs are the links
+noted-linked : (n : ℕ) (pairs : List ℕ) (f : List Bool) → n ≤ CONTOURS → Noted n pairs (replicate (CONTOURS * CONTOURS) false) f → (i j : ℕ) → i < n → j < n → flag f i j ≡ linked n pairs i j
+noted-linked n pairs f small noted i j h l =
+    let e : flag (replicate (CONTOURS * CONTOURS) false) i j ≡ false = getD-replicate (CONTOURS * CONTOURS) (i * CONTOURS + j) false false (omega arith) in
+    noted .told i j h l ∙ rw e (sym (linked-is n pairs i j h l))
+
+-- each flag of the closed table says where the pairs lead
+pub closed-leads : (n : ℕ) (pairs : List ℕ) (f g : List Bool) → n ≤ CONTOURS → Noted n pairs (replicate (CONTOURS * CONTOURS) false) f → Says n (leads (flag f) n) g →
+    (i j : ℕ) → i < n → j < n → flag g i j ≡ leads (linked n pairs) n i j
+closed-leads n pairs f g small noted says i j h l =
+    says .told i j h l ∙ leads-same n n (flag f) (linked n pairs) (noted-linked n pairs f small noted) (omega arith) i j h l
+
+diagonal : (n : ℕ) (pairs : List ℕ) (f g : List Bool) → n ≤ CONTOURS → Noted n pairs (replicate (CONTOURS * CONTOURS) false) f → Says n (leads (flag f) n) g →
     lowest (λ i. flag g i i) n ≡ lowest (onCycle n pairs) n
-diagonal n pairs f g small noted says =
-    lowest-same n (λ i. flag g i i) (onCycle n pairs) (λ i h. says .told i i h h ∙ leads-same n n (flag f) (linked n pairs) first (omega arith) i i h h)
-  where
-    first : (i j : ℕ) → i < n → j < n → flag f i j ≡ linked n pairs i j
-    first i j h l =
-        let e : flag (replicate (CONTOURS * CONTOURS) false) i j ≡ false = getD-replicate (CONTOURS * CONTOURS) (i * CONTOURS + j) false false (omega arith) in
-        noted .told i j h l ∙ rw e (sym (linked-is n pairs i j h l))
+diagonal n pairs f g small noted says = lowest-same n (λ i. flag g i i) (onCycle n pairs) (λ i h. closed-leads n pairs f g small noted says i i h h)
 
 -- and so for the number of contours, cut to the limit
 pub diagonal-capped : (contours n : ℕ) (pairs : List ℕ) (f g : List Bool) → n ≡ min contours CONTOURS →

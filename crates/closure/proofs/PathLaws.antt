@@ -1,16 +1,20 @@
 -- `leads` says yes exactly where a path is: links that lead from one position to another. Assumes nothing.
 use mathlib.Core.Bool.{Bool, true, false, _&&_, _||_}
-use mathlib.Core.Path.{_≡_, refl, sym, ap, _∙_, subst}
+use mathlib.Core.Path.{_≡_, refl, sym, _∙_}
 use mathlib.Core.Logic.{_⊎_, inl, inr, ⊎-elim, _↔_}
 use mathlib.Core.List.{List}
-use Prim.Native.Nat.{ℕ, zero, suc, _≤_, _<_}
+use Prim.Native.Nat.{ℕ, zero, suc, _*_, _≤_, _<_}
 use native.Mathlib.Nat.{eq-or-lt-of-le, le-of-suc-le-suc, not-suc-le-zero}
 use native.Mathlib.Omega.{arith}
 use lib.Dec.{ltb}
 use borrow.Author.Tests.{ltb-true}
 use Rattle.answer.specs.declared.Found.{Found}
 use Rattle.answer.specs.Lowest.{lowest}
-use Rattle.answer.proofs.LowestLaws.{LowestAt, Nowhere, at-is, absent-is, is-at, is-absent}
+use Rattle.answer.proofs.LowestLaws.{absent-is, is-absent}
+use lib.ListN.{replicate}
+use Rattle.closure.specs.Limits.{CONTOURS}
+use Rattle.closure.specs.Flags.{flag, Noted, Says}
+use Rattle.closure.proofs.FlagLaws.{closed-leads}
 use Rattle.closure.specs.Pairs.{paired, someOf, isPair}
 use Rattle.closure.specs.Cycle.{linked, Reaches, step, onward, leads, onCycle, Acyclic}
 
@@ -132,3 +136,10 @@ cycle-exactly n pairs i = (leads-reaches (linked n pairs) n i i, reaches-leads n
 pub absent-exactly : (n : ℕ) (pairs : List ℕ) → (lowest (onCycle n pairs) n ≡ Found.Absent) ↔ Acyclic n pairs
 absent-exactly n pairs =
     ((λ e i h r. true-false (reaches-leads n (linked n pairs) (linked-within n pairs) r) (is-absent (onCycle n pairs) n e i h)), (λ free. absent-is (onCycle n pairs) n (λ i h. ⊎-elim (λ (t : onCycle n pairs i ≡ true). absurd (free i h (leads-reaches (linked n pairs) n i i t))) (λ (f : onCycle n pairs i ≡ false). f) (yes-or-no (onCycle n pairs i)))))
+
+-- in the closed table the flag of i and j says yes exactly where pairs lead from i to j
+pub flags-exactly : (n : ℕ) (pairs : List ℕ) (f g : List Bool) → n ≤ CONTOURS → Noted n pairs (replicate (CONTOURS * CONTOURS) false) f → Says n (leads (flag f) n) g →
+    (i j : ℕ) → i < n → j < n → (flag g i j ≡ true) ↔ Reaches (linked n pairs) i j
+flags-exactly n pairs f g small noted says i j h l =
+    let e : flag g i j ≡ leads (linked n pairs) n i j = closed-leads n pairs f g small noted says i j h l in
+    ((λ t. leads-reaches (linked n pairs) n i j (sym e ∙ t)), (λ r. e ∙ reaches-leads n (linked n pairs) (linked-within n pairs) r))

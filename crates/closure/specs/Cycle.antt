@@ -1,11 +1,11 @@
 -- Where pairs of positions lead, and the lowest position on a cycle. Assumes nothing.
-use mathlib.Core.Bool.{Bool, true, false, _&&_, _||_}
+use mathlib.Core.Bool.{Bool, true, _&&_, _||_}
 use mathlib.Core.Path.{_≡_}
-use mathlib.Core.List.{List, [], _∷_}
+use mathlib.Core.List.{List}
 use Prim.Native.Nat.{ℕ, zero, suc, _<_, min}
 use lib.Dec.{ltb}
 use Rattle.answer.specs.declared.Found.{Found}
-use Rattle.answer.specs.Lowest.{lowest, lowestFrom}
+use Rattle.answer.specs.Lowest.{lowest}
 use Rattle.closure.specs.Limits.{CONTOURS}
 use Rattle.closure.specs.Pairs.{paired, someOf, isPair}
 

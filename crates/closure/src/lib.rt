@@ -1,13 +1,12 @@
 // Where pairs of positions lead: one flag for each ordered pair of contours, closed under
 // reachability, and the lowest position on a cycle read off the diagonal.
 use answer::Found;
-ghost use mathlib.Core.Bool.{Bool, true, false};
+ghost use mathlib.Core.Bool.{true};
 ghost use mathlib.Core.Path.{_≡_};
-ghost use Prim.Native.Nat.{ℕ, _<_, _≤_, min};
-ghost use lib.ListN.{replicate};
+ghost use Prim.Native.Nat.{_<_, _≤_, min};
 ghost use Rattle.answer.specs.Lowest.{lowest};
 ghost use Rattle.closure.specs.Limits.{CONTOURS};
-ghost use Rattle.closure.specs.Cycle.{linked, leads, onCycle, firstOnCycle};
+ghost use Rattle.closure.specs.Cycle.{leads, firstOnCycle};
 ghost use Rattle.closure.specs.Flags.{flag, Whole, RowJoined, RowsJoined, Noted, Says};
 
 // The most contours that a question on pairs takes.

@@ -1,6 +1,6 @@
 -- Which refusal the first of the checks on a list of pairs gives. Assumes nothing.
-use mathlib.Core.Bool.{Bool, true, false}
-use mathlib.Core.Path.{_≡_, refl, sym, ap, _∙_}
+use mathlib.Core.Bool.{Bool}
+use mathlib.Core.Path.{_≡_, sym, ap, _∙_}
 use mathlib.Core.Logic.{⊎-elim}
 use mathlib.Core.List.{List}
 use Prim.Native.Nat.{ℕ, _+_, _*_, _/_, _%_, _≤_, _<_}
@@ -9,7 +9,7 @@ use borrow.Author.Tests.{lt-ltb, le-ltb, eq-eqb, ne-eqb}
 use lib.ListN.{length, replicate}
 use Rattle.answer.specs.declared.Refusal.{Refusal}
 use Rattle.answer.specs.declared.Check.{Check}
-use Rattle.answer.specs.Stage.{orElse, firstRefusal}
+use Rattle.answer.specs.Stage.{firstRefusal}
 use Rattle.closure.specs.Limits.{CONTOURS, PAIRS}
 use Rattle.closure.proofs.PairLaws.{same-or, lt-or}
 use Rattle.hierarchy.specs.declared.Verdict.{Verdict}
@@ -20,7 +20,7 @@ use Rattle.answer.specs.declared.Found.{Found}
 use Rattle.closure.specs.Cycle.{firstOnCycle}
 use Rattle.hierarchy.specs.Sort.{sortedBy}
 use Rattle.hierarchy.specs.Keep.{keepsPairs}
-use Rattle.hierarchy.specs.Questions.{refuseIf, pairsCheck, verdictOf, pairListOf, idsOf, orderOf, validSequence, topologicalSort}
+use Rattle.hierarchy.specs.Questions.{pairsCheck, verdictOf, pairListOf, idsOf, orderOf, validSequence, topologicalSort}
 
 module _ (contours : ℕ) (pairs : List ℕ) where
   pub check-contours : CONTOURS < contours → Check.Refused (record { number = 4; place = 1 }) ≡ pairsCheck contours pairs
@@ -44,7 +44,6 @@ module _ (contours : ℕ) (pairs : List ℕ) where
 pub record Small (contours : ℕ) (pairs : List ℕ) : Type 0 where
   pub few : contours ≤ CONTOURS
   pub short : length pairs ≤ 2 * PAIRS
-  pub even : length pairs % 2 ≡ 0
 
 pub fine-small : (contours : ℕ) (pairs : List ℕ) → Check.Fine ≡ pairsCheck contours pairs → Small contours pairs
 fine-small contours pairs e = ⊎-elim
@@ -53,7 +52,7 @@ fine-small contours pairs e = ⊎-elim
     (λ (l : PAIRS < length pairs / 2 + length pairs % 2). absurd (never (e ∙ sym (check-pairs contours pairs h l))))
     (λ (l : length pairs / 2 + length pairs % 2 ≤ PAIRS). ⊎-elim
     (λ (o : length pairs % 2 ≡ 1). absurd (never (e ∙ sym (check-half contours pairs h l o))))
-    (λ (o : length pairs % 2 ≡ 1 → ⊥). record { few = h; short = omega arith; even = omega arith }) (same-or (length pairs % 2) 1))
+    (λ (o : length pairs % 2 ≡ 1 → ⊥). record { few = h; short = omega arith }) (same-or (length pairs % 2) 1))
     (lt-or PAIRS (length pairs / 2 + length pairs % 2)))
     (lt-or CONTOURS contours)
   where

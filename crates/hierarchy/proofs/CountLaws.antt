@@ -1,5 +1,5 @@
 -- Counting positions: a descent ends, and n different positions below n are all of them. Assumes nothing.
-use mathlib.Core.Bool.{Bool, true, false, cond, not, _&&_, _||_}
+use mathlib.Core.Bool.{Bool, true, false, cond, _&&_, _||_}
 use mathlib.Core.Path.{_≡_, refl, sym, ap, _∙_}
 use mathlib.Core.Logic.{_⊎_, inl, inr, ⊎-elim}
 use mathlib.Core.List.{List}
@@ -8,10 +8,10 @@ use native.Mathlib.Nat.{eq-or-lt-of-le, le-of-suc-le-suc, not-suc-le-zero}
 use native.Mathlib.Omega.{arith}
 use lib.Dec.{eqb}
 use borrow.Author.Tests.{eq-eqb, ne-eqb, eqb-true}
-use lib.ListN.{length, getD}
+use lib.ListN.{getD}
 use Rattle.answer.proofs.LowestLaws.{LowestAt, Nowhere, search-through}
 use Rattle.closure.specs.Cycle.{Reaches, step, leads}
-use Rattle.closure.proofs.PairLaws.{same-or, lt-or}
+use Rattle.closure.proofs.PairLaws.{same-or}
 use Rattle.closure.proofs.PathLaws.{or-cases, or-left, or-right, and-first, and-second, both-true, yes-or-no, true-false, leads-on, leads-reaches, reaches-leads, Within}
 
 -- how many places below n pass the test

@@ -1,13 +1,13 @@
 -- A list held in the first entries of an array, the rest 0; and how the numbers picked from pairs fill one. Assumes nothing.
-use mathlib.Core.Bool.{Bool, true, false, cond}
+use mathlib.Core.Bool.{Bool, true, false}
 use mathlib.Core.Path.{_≡_, refl, sym, ap, _∙_}
 use mathlib.Core.List.{List, [], _∷_, _++_, append-assoc, append-nil}
-use Prim.Native.Nat.{ℕ, zero, suc, _+_, _-_, _*_, _/_, _≤_, _<_}
+use Prim.Native.Nat.{ℕ, suc, _+_, _-_, _*_, _/_, _≤_, _<_}
 use native.Mathlib.Numerals.{add-one}
 use native.Mathlib.Nat.{sub-zero}
 use native.Mathlib.Omega.{arith}
-use lib.ListN.{length, getD, set, take, drop, replicate, length-append, length-replicate, length-take}
-use lib.Seq.{set-append-seam, take-suc, take-all, take-at}
+use lib.ListN.{length, getD, set, take, drop, replicate, length-append}
+use lib.Seq.{set-append-seam, take-suc, take-all}
 use Rattle.answer.specs.declared.Check.{Check}
 use Rattle.closure.specs.Limits.{PAIRS}
 use Rattle.closure.specs.Pairs.{Pair, paired}

@@ -1,6 +1,6 @@
 -- Legal orders: none where a position reaches itself, one is always ready where none does, and `keepsPairs` says yes exactly to them. Assumes nothing.
-use mathlib.Core.Bool.{Bool, true, false, not, _&&_, _||_, or-true}
-use mathlib.Core.Path.{_≡_, refl, sym, ap, _∙_, subst}
+use mathlib.Core.Bool.{Bool, true, false, not, _||_, or-true}
+use mathlib.Core.Path.{_≡_, refl, sym, ap, _∙_}
 use mathlib.Core.Logic.{_⊎_, inl, inr, ⊎-elim, _↔_}
 use mathlib.Core.List.{List, [], _∷_}
 use Prim.Native.Nat.{ℕ, zero, suc, _+_, _≤_, _<_}
@@ -8,15 +8,14 @@ use native.Mathlib.Nat.{not-suc-le-zero, le-of-suc-le-suc, zero-lt-suc, add-zero
 use Prim.Native.Nat.{suc-le-suc}
 use native.Mathlib.Omega.{arith}
 use lib.Dec.{eqb, ltb}
-use borrow.Author.Tests.{eq-eqb, ne-eqb, eqb-true, lt-ltb, le-ltb, ltb-true}
+use borrow.Author.Tests.{eq-eqb, ne-eqb, eqb-true, lt-ltb, ltb-true}
 use lib.ListN.{length, getD}
 use Rattle.answer.specs.declared.Check.{Check}
-use Rattle.closure.specs.Limits.{CONTOURS}
 use Rattle.closure.specs.Pairs.{Pair, paired, every, someOf, isPair}
 use Rattle.closure.specs.Cycle.{linked, Reaches, step, onward, Acyclic}
 use Rattle.closure.proofs.PairLaws.{same-or, lt-or, is-pair}
 use Rattle.closure.proofs.FlagLaws.{linked-is}
-use Rattle.closure.proofs.PathLaws.{or-cases, or-left, or-right, and-first, and-second, both-true, yes-or-no, true-false, linked-within}
+use Rattle.closure.proofs.PathLaws.{or-cases, or-left, or-right, and-first, and-second, both-true, yes-or-no, linked-within}
 use Rattle.hierarchy.specs.declared.Verdict.{Verdict}
 use Rattle.hierarchy.specs.Keep.{latest, lastPlace, keptAt, keptIn, keepsPairs, readyBy, readyIn}
 use Rattle.hierarchy.specs.Sort.{both}

@@ -1,14 +1,14 @@
 -- The arrays of the topological order, step by step. Assumes nothing.
 use mathlib.Core.Bool.{Bool, true, false, cond, _&&_, and-false}
 use mathlib.Core.Path.{_≡_, refl, sym, ap, _∙_, subst}
-use mathlib.Core.Logic.{_⊎_, inl, inr, ⊎-elim}
+use mathlib.Core.Logic.{⊎-elim}
 use mathlib.Core.List.{List, [], _∷_, _++_, append-nil}
-use Prim.Native.Nat.{ℕ, zero, suc, _+_, _-_, _*_, _≤_, _<_}
+use Prim.Native.Nat.{ℕ, zero, suc, _+_, _-_, _≤_, _<_}
 use native.Mathlib.Numerals.{add-one}
 use native.Mathlib.Omega.{arith}
 use lib.Dec.{eqb, ltb}
 use borrow.Author.Tests.{eq-eqb, ne-eqb, lt-ltb, le-ltb}
-use lib.ListN.{length, getD, set, take, drop, replicate, length-set, length-append, length-replicate, length-take, length-drop, take-append-drop}
+use lib.ListN.{length, getD, set, take, drop, replicate, length-set, length-append, length-replicate, length-drop, take-append-drop}
 use lib.Seq.{getD-set-same, getD-set-other, take-suc, take-suc-set, take-at, getD-take}
 use Rattle.closure.specs.Limits.{CONTOURS}
 use Rattle.closure.specs.Pairs.{Pair, paired}

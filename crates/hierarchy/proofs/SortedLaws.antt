@@ -22,10 +22,10 @@ use Rattle.closure.proofs.PathLaws.{or-cases, or-left, or-right, and-first, and
 use Rattle.hierarchy.specs.Sort.{Sorting, both, heldBack, tallied, freeBelow, loosened, released, settled, unsettled, sortedBy}
 use Rattle.hierarchy.specs.declared.Order.{Order}
 use Rattle.hierarchy.specs.Questions.{pairsCheck, orderOf, topologicalSort}
-use Rattle.hierarchy.specs.Legal.{EachOnce, Legal}
+use Rattle.hierarchy.specs.Legal.{Legal}
 use Rattle.hierarchy.proofs.CheckLaws.{fine-small, sort-cycle, sort-told}
-use Rattle.hierarchy.proofs.SortLaws.{both-yes, zeros, tallied-length, settled-step, settled-end}
-use Rattle.hierarchy.proofs.CountLaws.{anyBelow, met, met-is, met-at, Different, fewer, met-not, different-few, all-many, Least, least}
+use Rattle.hierarchy.proofs.SortLaws.{both-yes, zeros, tallied-length}
+use Rattle.hierarchy.proofs.CountLaws.{anyBelow, met, met-is, met-at, Different, met-not, different-few, all-many, Least, least}
 use Rattle.hierarchy.proofs.OrderLaws.{linked-pair, pair-linked, legal-acyclic}
 
 -- ---- how many pairs pass a test

@@ -1,9 +1,9 @@
 -- Whether an order keeps to the pairs, and whether all that must come before a position has been visited. Assumes nothing.
-use mathlib.Core.Bool.{Bool, true, false, cond, not, _&&_, _||_}
+use mathlib.Core.Bool.{Bool, cond, not, _||_}
 use mathlib.Core.List.{List, [], _∷_}
 use mathlib.Core.Path.{_≡_}
-use Prim.Native.Nat.{ℕ, zero, suc, _<_}
-use lib.Dec.{ltb, leb, eqb}
+use Prim.Native.Nat.{ℕ, suc, _<_}
+use lib.Dec.{ltb, eqb}
 use lib.ListN.{getD}
 use Rattle.closure.specs.Pairs.{Pair, paired, every}
 

@@ -16,7 +16,7 @@ ghost use lib.ListN.{length, getD, replicate};
 ghost use Rattle.hierarchy.specs.Keep.{PlacesOf, lastPlace, keptAt, keepsPairs, readyBy, readyIn};
 ghost use Rattle.hierarchy.specs.Questions.{pairsCheck, picked, endsAt, startsAt, pairListOf, idsOf, numContours, precedencesOf, violatesOf, predecessorsOf, successorsOf, validSequence, orderOf, topologicalSort};
 ghost use Rattle.hierarchy.specs.Fill.{Filled};
-ghost use Rattle.hierarchy.specs.Sort.{both, tallied, freeBelow, loosened, released, settled, unsettled, sortedBy, standing, Sound, Stands};
+ghost use Rattle.hierarchy.specs.Sort.{both, tallied, freeBelow, loosened, released, settled, sortedBy, standing, Sound, Stands};
 
 // A number, or why there is none.
 pub enum Count {

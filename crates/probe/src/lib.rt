@@ -12,6 +12,10 @@ ghost use Rattle.answer.specs.Code.{codeOf};
 ghost use Rattle.candidates.specs.Question.{offeredOf};
 ghost use Rattle.hierarchy.specs.Questions.{numContours, precedencesOf, violatesOf, predecessorsOf, successorsOf, validSequence, topologicalSort};
 ghost use Rattle.card.specs.Verdict.{checkOf};
+ghost use Rattle.card.specs.Layout.{homePlace};
+ghost use Rattle.card.specs.Values.{pointAt};
+ghost use Rattle.instance.specs.Room.{instanceOf};
+ghost use Rattle.table.specs.Distances.{homed, tabled};
 ghost use Rattle.table.specs.Evaluate.{lengthOf};
 ghost use mathlib.Core.List.{[]};
 ghost use Rattle.start.specs.Nearest.{nearest};
@@ -451,4 +455,24 @@ pub extern "C" fn probe_solve_nn(
       ⌜ Written (nearest (groundOf (now (home .entry)) (now (table .entry)) t (now (first .entry)) []) n) (now (tour .entry)) r (now (tour .exit)) ⌝ }
 {
     start::solve_nn(home, table, t, first, tour)
+}
+
+// The distances from home and between the candidates of a card, and how many candidates there are.
+#[no_mangle]
+pub extern "C" fn probe_distances(
+    card: &[u8],
+    home: &mut [f64],
+    table: &mut [f64],
+    count: &mut usize,
+)
+    ensures { λ _. ⌜ now (home .exit) ≡ homed (instanceOf (now (card .entry)) .items) (instanceOf (now (card .entry)) .count) (pointAt (now (card .entry)) homePlace) (now (home .entry)) ⌝ }
+    ensures { λ _. ⌜ now (table .exit) ≡ tabled (instanceOf (now (card .entry)) .items) (instanceOf (now (card .entry)) .count) (instanceOf (now (card .entry)) .owner) (now (table .entry)) ⌝ }
+    ensures { λ _. ⌜ now (count .exit) ≡ instanceOf (now (card .entry)) .count ⌝ }
+{
+    let all = instance::gather(card);
+    let items = all.items;
+    let owner = all.owner;
+    table::fill_home(home, items, all.count, card::home(card));
+    table::fill_table(table, items, all.count, &owner);
+    *count = all.count;
 }

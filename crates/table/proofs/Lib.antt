@@ -4,3 +4,4 @@ pub mod EachLaws
 pub mod FillLaws
 pub mod RoomLaws
 pub mod DistanceLaws
+pub mod NearLaws

@@ -4,7 +4,6 @@
 use std::time::Instant;
 
 /// Times `a` and `b` in turns and gives the shortest time of each, in nanoseconds.
-#[allow(dead_code)]
 fn both(rounds: usize, mut a: impl FnMut(), mut b: impl FnMut()) -> (f64, f64) {
     let once = |work: &mut dyn FnMut()| {
         let began = Instant::now();
@@ -18,7 +17,6 @@ fn both(rounds: usize, mut a: impl FnMut(), mut b: impl FnMut()) -> (f64, f64) {
     best
 }
 
-#[cfg(has_root)]
 fn root() {
     use oracle::random::Random;
     use std::hint::black_box;
@@ -34,12 +32,6 @@ fn root() {
     println!("root: {:.2} ns, the instruction {:.2} ns, {:.1} times", ours / each, hardware / each, ours / hardware);
 }
 
-#[cfg(not(has_root))]
-fn root() {
-    println!("root: left out, no door to it");
-}
-
-#[cfg(has_check)]
 fn check() {
     use oracle::{check, generate, random::Random, reading};
     use std::hint::black_box;
@@ -58,17 +50,12 @@ fn check() {
     );
 }
 
-#[cfg(not(has_check))]
-fn check() {
-    println!("check: left out, no door to it");
-}
-
 /// The classes of cards: contours, candidates a contour, pairs.
 #[cfg(feature = "original")]
 const CLASSES: [(usize, u16, usize); 5] = [(40, 2, 0), (40, 2, 40), (40, 1, 124), (20, 4, 0), (10, 8, 0)];
 
 /// Times ten cards of each class. `ours` and `theirs` make of a card what is timed.
-#[cfg(all(has_improve, feature = "original"))]
+#[cfg(feature = "original")]
 fn classes<A: FnMut(), B: FnMut()>(
     what: &str,
     ours: impl Fn(&oracle::card::Card) -> A,
@@ -96,7 +83,7 @@ fn classes<A: FnMut(), B: FnMut()>(
 }
 
 /// The search alone, on distances that are there: ours from the original's start on, the original with its start.
-#[cfg(all(has_improve, feature = "original"))]
+#[cfg(feature = "original")]
 fn search() {
     use oracle::{answer::Problem, search};
     classes(
@@ -114,9 +101,9 @@ fn search() {
     );
 }
 
-#[cfg(not(all(has_improve, feature = "original")))]
+#[cfg(not(feature = "original"))]
 fn search() {
-    println!("search: left out, no door to it, or the original is not at hand");
+    println!("search: left out, the original is not at hand");
 }
 
 /// From a card's bytes, or for the original from its fields, to the tour.
@@ -138,7 +125,7 @@ fn tour() {
 
 #[cfg(not(all(has_tour, feature = "original")))]
 fn tour() {
-    println!("tour: left out, no export jl_tour, or the original is not at hand");
+    println!("tour: left out, no crate tour yet, or the original is not at hand");
 }
 
 fn main() {

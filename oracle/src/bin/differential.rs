@@ -3,16 +3,17 @@
 //! on from seed to seed until the time is over.
 
 use oracle::run::Wanted;
-use oracle::{candidates, check, cost, fuzz, hierarchy, root, search, start, tour};
+use oracle::{candidates, check, cost, fuzz, hierarchy, root, search, start, table, tour};
 
 type Part = (&'static str, fn(Wanted) -> bool);
 
 /// `fuzz` runs only where it is named.
-const PARTS: [Part; 9] = [
+const PARTS: [Part; 10] = [
     ("root", root::compare),
     ("cost", cost::compare),
     ("hierarchy", hierarchy::compare),
     ("candidates", candidates::compare),
+    ("table", table::compare),
     ("start", start::compare),
     ("search", search::compare),
     ("check", check::compare),

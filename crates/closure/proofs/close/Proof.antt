@@ -1,5 +1,5 @@
 -- `closure::close` meets its contract. Assumes nothing.
-use Prim.Native.Nat.{_≤_, _-_}
+use Prim.Native.Nat.{_-_}
 use borrow.Author.Needs.{needs}
 use Rattle.closure.proofs.FlagLaws.{ClosedPart, closed-none, closed-more, closed-all}
 use Rattle.closure.proofs.close.Statement.{statement}

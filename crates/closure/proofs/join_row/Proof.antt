@@ -1,6 +1,5 @@
 -- `closure::join_row` meets its contract. Assumes nothing.
-use Prim.Native.Nat.{_≤_, _-_}
-use native.Mathlib.Omega.{arith}
+use Prim.Native.Nat.{_-_}
 use borrow.Author.Needs.{needs}
 use Rattle.closure.proofs.FlagLaws.{RowPart, row-none, row-more, row-joined, row-kept}
 use Rattle.closure.proofs.join_row.Statement.{statement}

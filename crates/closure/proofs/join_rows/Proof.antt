@@ -1,5 +1,5 @@
 -- `closure::join_rows` meets its contract. Assumes nothing.
-use Prim.Native.Nat.{_≤_, _-_}
+use Prim.Native.Nat.{_-_}
 use borrow.Author.Needs.{needs}
 use Rattle.closure.proofs.FlagLaws.{RowsPart, rows-none, rows-more, rows-joined}
 use Rattle.closure.proofs.join_rows.Statement.{statement}

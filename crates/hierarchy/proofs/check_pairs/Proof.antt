@@ -1,5 +1,4 @@
 -- `hierarchy::check_pairs` meets its contract. Assumes nothing.
-use native.Mathlib.Omega.{arith}
 use Rattle.hierarchy.proofs.CheckLaws.{check-contours, check-pairs, check-half, check-fine}
 use borrow.Author.Needs.{needs}
 use Rattle.hierarchy.proofs.check_pairs.Statement.{statement}

@@ -1,8 +1,6 @@
 -- `hierarchy::list_free` meets its contract. Assumes nothing.
 use Prim.Native.Nat.{_-_}
-use lib.ListN.{length}
 use borrow.Author.Needs.{needs}
-use native.Mathlib.Omega.{arith}
 use Rattle.hierarchy.proofs.SortLaws.{FreePart, free-none, free-yes, free-no, free-all}
 use Rattle.hierarchy.proofs.list_free.Statement.{statement}
 use Rattle.hierarchy.proofs.list_free.Tie as tie

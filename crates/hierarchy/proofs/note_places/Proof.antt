@@ -1,7 +1,6 @@
 -- `hierarchy::note_places` meets its contract. Assumes nothing.
 use Prim.Native.Nat.{_-_}
 use lib.ListN.{length}
-use native.Mathlib.Omega.{arith}
 use borrow.Author.Needs.{needs}
 use Rattle.hierarchy.proofs.PlaceLaws.{PlacesPart, places-none, places-more, places-all}
 use Rattle.hierarchy.proofs.note_places.Statement.{statement}

@@ -2,7 +2,6 @@
 use Prim.Native.Nat.{_-_}
 use mathlib.Core.Path.{refl}
 use borrow.Author.Needs.{needs}
-use native.Mathlib.Omega.{arith}
 use Rattle.closure.specs.Limits.{CONTOURS}
 use Rattle.hierarchy.specs.Sort.{standing}
 use Rattle.hierarchy.proofs.SortLaws.{SettlePart, settle-none, settle-more, settle-all}

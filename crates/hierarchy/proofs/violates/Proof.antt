@@ -1,5 +1,4 @@
 -- `hierarchy::violates` meets its contract. Assumes nothing.
-use mathlib.Core.Path.{sym, _∙_}
 use Rattle.hierarchy.proofs.CheckLaws.{verdict-fine, verdict-refused}
 use borrow.Author.Needs.{needs}
 use Rattle.hierarchy.proofs.violates.Statement.{statement}

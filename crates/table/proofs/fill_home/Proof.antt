@@ -1,5 +1,5 @@
 -- `table::fill_home` meets its contract. The invariant: the first a entries are filled, the rest of the room kept. Assumes nothing.
-use mathlib.Core.Path.{_≡_, refl, ap}
+use mathlib.Core.Path.{_≡_, refl}
 use mathlib.Core.List.{_++_}
 use Prim.Native.Nat.{_≤_, _-_}
 use native.Mathlib.Omega.{arith}
@@ -53,7 +53,7 @@ loop-again c =
     (omega arith, simp length-set (h .loop .inv .1), home-more _ _ _ _ _ _ (h .loop .inv .2) _ (c .before .before .loop-test .taken) (omega arith) (c .distance .ensures))
 
 same-length : tie.Need-same-length Inv-loop μ-loop
-same-length c = ap (λ n. n) (c .before .loop .inv .1)
+same-length c = c .before .loop .inv .1
 
 returns-3 : tie.Need-returns-3 Inv-loop μ-loop
 returns-3 c =

@@ -1,9 +1,8 @@
 -- `table::fill_row` meets its contract. The invariant: the first b entries are filled, the rest of the room kept. Assumes nothing.
-use mathlib.Core.Path.{_≡_, refl, ap}
+use mathlib.Core.Path.{_≡_, refl}
 use mathlib.Core.List.{_++_}
 use Prim.Native.Nat.{_≤_, _-_}
 use native.Mathlib.Omega.{arith}
-use borrow.Author.Needs.{needs}
 use lib.ListN.{length, take, drop, length-set}
 use Rattle.table.specs.Distances.{listed, legAt}
 use Rattle.table.proofs.RoomLaws.{row-more, row-all}
@@ -60,7 +59,7 @@ loop-again c =
     (omega arith, simp length-set (h .loop .inv .1), row-more _ _ _ _ _ _ _ (h .loop .inv .2) _ _ _ (g .pre .0 .1) (c .before .before .before .loop-test .taken) (g .pre .1) (h .before .byte-at .ensures) (c .before .byte-at2 .ensures) (c .leg .ensures))
 
 same-length : tie.Need-same-length Inv-loop μ-loop
-same-length c = ap (λ n. n) (c .before .loop .inv .1)
+same-length c = c .before .loop .inv .1
 
 returns : tie.Need-returns Inv-loop μ-loop
 returns c = let e : c .before .loop .b ≡ c .before .before .before .before .before .before .args .t = omega arith in row-all _ _ _ _ _ _ _ (c .before .loop .inv .2) e

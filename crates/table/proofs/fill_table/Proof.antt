@@ -1,12 +1,10 @@
 -- `table::fill_table` meets its contract. The invariant: the first a rows are filled, the rest of the room kept. Assumes nothing.
-use mathlib.Core.Path.{_≡_, refl, ap, _∙_}
+use mathlib.Core.Path.{_≡_, refl, _∙_}
 use mathlib.Core.List.{_++_}
 use Prim.Native.Nat.{_≤_, _-_, _*_}
 use native.Mathlib.Nat.{zero-mul}
 use native.Mathlib.Omega.{arith}
-use borrow.Author.Needs.{needs}
 use lib.ListN.{length, take, drop, length-take, length-drop}
-use borrow.Rule.Slice.PartMut.{same-len-mid}
 use denote.Ref.{now}
 use Rattle.table.specs.Distances.{chained, rowOf}
 use Rattle.table.proofs.PlaceLaws.{square-small, row-fits}
@@ -68,7 +66,7 @@ loop-again c =
     (omega arith, c .before .room .given .1 ∙ h .inv .1, table-more (s .items) (s .t) (now (s .owner)) (now (s .room)) (h .a) (h .room) (h .inv .2) (r .last .0) (r .ensures))
 
 same-length : tie.Need-same-length Inv-loop μ-loop
-same-length c = ap (λ n. n) (c .before .loop .inv .1)
+same-length c = c .before .loop .inv .1
 
 returns-3 : tie.Need-returns-3 Inv-loop μ-loop
 returns-3 c =
