@@ -6,8 +6,8 @@ use mathlib.Core.List.{List, [], _∷_, _++_}
 use Prim.Native.Nat.{ℕ, zero, suc, _+_, _-_, _≤_, _<_}
 use native.Mathlib.Nat.{eq-or-lt-of-le, le-of-suc-le-suc, not-suc-le-zero}
 use native.Mathlib.Omega.{arith}
-use borrow.Author.Tests.{leb-true, leb-false}
-use lib.Dec.{leb}
+use borrow.Author.Tests.{leb-true, leb-false, ltb-true, ltb-false}
+use lib.Dec.{leb, ltb}
 use lib.ListN.{length, getD, replicate, length-append, List·getD-append, List·getD-eq-default, getD-replicate}
 use lib.Seq.{getD-at, getD-append-add}
 use Rattle.instance.specs.Gather.{offersOf, gathered, owners, firsts}
@@ -74,3 +74,32 @@ module _ (s : List ℕ) where
           let f′ : length (gathered s k) ≤ a = rw (first-at n k (omega arith)) at f in
           let g′ : a < length (gathered s (suc k)) = rw (first-at n (suc k) h) at g in
           owner-at n k a h f′ g′
+
+  -- candidate a, one of the first n contours', is contour k's
+  pub record Seat (n a k : ℕ) : Type 0 where
+    pub below : k < n
+    pub from : length (gathered s k) ≤ a
+    pub to : a < length (gathered s (suc k))
+
+  -- every candidate is some contour's
+  pub seat-of : (n a : ℕ) → a < length (gathered s n) → (k : ℕ) × Seat n a k
+  unfolding gathered
+  seat-of zero a h = absurd (not-suc-le-zero h)
+  seat-of (suc n) a h = go (ltb a (length (gathered s n))) refl (seat-of n a)
+    where
+      go : (b : Bool) → ltb a (length (gathered s n)) ≡ b → (a < length (gathered s n) → (k : ℕ) × Seat n a k) → (k : ℕ) × Seat (suc n) a k
+      go true e earlier =
+          let p = earlier (ltb-true a (length (gathered s n)) e) in
+          let q = p .1 .below in
+          (p .0, record { below = omega arith; from = p .1 .from; to = p .1 .to })
+      go false e earlier = (n, record { below = omega arith; from = ltb-false a (length (gathered s n)) e; to = h })
+
+  pub owner-below : (n a : ℕ) → a < length (gathered s n) → getD (owners s n) a 0 < n
+  owner-below n a h = let p = seat-of n a h in rw (owner-at n (p .0) a (p .1 .below) (p .1 .from) (p .1 .to)) (p .1 .below)
+
+  -- its contour's first candidate does not come after it
+  pub first-before : (n a : ℕ) → a < length (gathered s n) → getD (firsts s n) (getD (owners s n) a 0) 0 ≤ a
+  first-before n a h =
+      let p = seat-of n a h in
+      let b = p .1 .below in
+      rw (owner-at n (p .0) a (p .1 .below) (p .1 .from) (p .1 .to), first-at n (p .0) (omega arith)) (p .1 .from)

@@ -1,0 +1,109 @@
+-- The doors: which refusal is told, and that the parts of a room that were lent come back at their place. Assumes nothing.
+use mathlib.Core.Path.{_≡_, refl, sym, ap, _∙_}
+use mathlib.Core.Bool.{Bool, true, false}
+use mathlib.Core.List.{List, [], _∷_, _++_, append-assoc}
+use Prim.Native.Nat.{ℕ, _+_, _*_, _-_, _≤_, _<_}
+use native.Mathlib.Omega.{arith}
+use lib.Dec.{ltb, leb}
+use lib.ListN.{length, getD, take, drop, length-append, take-append-drop}
+use lib.Seq.{drop-append-le, length-take-le}
+use native.Mathlib.Nat.{mul-le-mul}
+use Rattle.card.specs.Limits.{candidateLimit}
+use lib.Ieee.{Float}
+use borrow.Author.Tests.{lt-ltb, le-ltb, le-leb, lt-leb}
+use Rattle.answer.specs.declared.Check.{Check}
+use Rattle.answer.specs.declared.Check.the-variants.{Fine, Refused}
+use Rattle.answer.specs.declared.Refusal.{Refusal}
+use Rattle.answer.specs.Stage.{firstRefusal}
+use Rattle.cost.specs.Bad.{refuseIf}
+use Rattle.card.specs.Layout.{contoursOf}
+use Rattle.card.specs.Verdict.{checkOf}
+use Rattle.card.proofs.GroupLaws.{last-stage}
+use Rattle.solve.specs.declared.Outcome.{Outcome}
+use Rattle.solve.specs.Solve.{placed, Solved}
+use Rattle.tour.specs.declared.Toured.{Toured}
+use Rattle.tour.specs.declared.Toured.the-variants as answer
+use Rattle.tour.specs.declared.Located.{Located}
+use Rattle.tour.specs.declared.Located.the-variants as located
+use Rattle.tour.specs.Search.{countOn, tableOn, sheetOn, endOn, tourOn, outcomeOn}
+use Rattle.tour.specs.Tour.{Left, left, roomCheck, tourCheck, toured, touredUnless, tourOf}
+use Rattle.tour.specs.Questions.{numberCheck, placeOn, locatedUnless, locatedOf}
+
+-- ---- the rooms' sizes
+
+module _ (s : List ℕ) (entries distances n t : ℕ) (en : n ≡ contoursOf s) (et : t ≡ countOn s) where
+  pub short-room : entries < n → Refused (record { number = 13; place = n }) ≡ roomCheck s entries distances
+  unfolding roomCheck firstRefusal
+  short-room h = rw (← en, lt-ltb entries n h)
+
+  pub short-table : n ≤ entries → distances < t * t → Refused (record { number = 13; place = t * t }) ≡ roomCheck s entries distances
+  unfolding roomCheck firstRefusal
+  short-table h g = rw (← et, ← en, le-ltb entries n h, lt-ltb distances (t * t) g)
+
+  pub rooms-fine : n ≤ entries → t * t ≤ distances → Fine ≡ roomCheck s entries distances
+  unfolding roomCheck firstRefusal
+  rooms-fine h g = rw (← et, ← en, le-ltb entries n h, le-ltb distances (t * t) g)
+
+-- ---- parts that were lent
+
+-- what was written into the first n entries stands at the front of the whole room
+pub room-back : (tour room after : List ℕ) (n : ℕ) → after ≡ placed tour (take n room) → length after ≡ length (take n room) → after ++ drop n room ≡ placed tour room
+room-back tour room after n e k =
+    let front = take n room in
+    let l : length after ≡ length tour + length (drop (length tour) front) = ap length e ∙ length-append tour (drop (length tour) front) in
+    let inside : length tour ≤ length front = omega arith in
+    ap (λ (x : List ℕ). x ++ drop n room) e
+    ∙ append-assoc tour (drop (length tour) front) (drop n room)
+    ∙ ap (λ (x : List ℕ). tour ++ x) (sym (drop-append-le (length tour) front (drop n room) inside) ∙ ap (drop (length tour)) (take-append-drop n room))
+
+pub toured-is : (s room part : List ℕ) (table after : List Float) (o : Outcome) (n d : ℕ) → Solved (sheetOn s) (endOn s) (take n room) o part
+    → length part ≡ length (take n room) → after ≡ tableOn s → d ≡ countOn s * countOn s
+    → left (answer.Done o) (part ++ drop n room) (after ++ drop d table) ≡ toured s room table
+toured-is s room part table after o n d w k e f =
+    rw (w .told, room-back (tourOn s) room part n (w .held) k, e, f)
+
+-- ---- the doors
+
+module _ (s room : List ℕ) (table : List Float) (a : Check) (is : a ≡ checkOf s) where
+  pub tour-refused : (r : Refusal) → a ≡ Refused r → left (answer.Refused r) room table ≡ tourOf s room table
+  unfolding tourOf tourCheck firstRefusal
+  tour-refused r e = rw (← is, e)
+
+  pub tour-fine : (l : Left) → a ≡ Fine → l ≡ touredUnless (roomCheck s (length room) (length table)) (toured s room table) room table → l ≡ tourOf s room table
+  unfolding tourOf tourCheck firstRefusal
+  tour-fine l e f =
+      let rooms = roomCheck s (length room) (length table) in
+      let same : rooms ≡ tourCheck s (length room) (length table) = rw (← is, e) (last-stage rooms rooms refl) in
+      f ∙ ap (λ (c : Check). touredUnless c (toured s room table) room table) same
+
+module _ (s : List ℕ) (number : ℕ) (a : Check) (is : a ≡ checkOf s) where
+  pub place-refused : (r : Refusal) → a ≡ Refused r → located.Refused r ≡ locatedOf s number
+  unfolding locatedOf numberCheck firstRefusal
+  place-refused r e = rw (← is, e)
+
+  pub place-fine : (l : Located) → a ≡ Fine → l ≡ locatedUnless (refuseIf (leb (countOn s) number) 15 number) (placeOn s number) → l ≡ locatedOf s number
+  unfolding locatedOf numberCheck firstRefusal
+  place-fine l e f =
+      let known = refuseIf (leb (countOn s) number) 15 number in
+      let same : known ≡ numberCheck s number = rw (← is, e) (last-stage known known refl) in
+      f ∙ ap (λ (c : Check). locatedUnless c (placeOn s number)) same
+
+-- ---- what the code meets on the way
+
+pub part-lent : {A : Type 0} (l : List A) (n : ℕ) → n ≤ length l → n ≡ length (take n l)
+part-lent l n h = sym (length-take-le n l h)
+
+pub few-distances : (t : ℕ) → t ≤ candidateLimit → t * t ≤ candidateLimit * candidateLimit
+few-distances t h = mul-le-mul {n₂ = candidateLimit} {m₂ = candidateLimit} h h
+
+module _ (s room : List ℕ) (table : List Float) (n t : ℕ) (en : n ≡ contoursOf s) (et : t ≡ countOn s) where
+  pub room-refused : length room < n → left (answer.Refused (record { number = 13; place = n })) room table
+      ≡ touredUnless (roomCheck s (length room) (length table)) (toured s room table) room table
+  room-refused h = ap (λ (c : Check). touredUnless c (toured s room table) room table) (short-room s (length room) (length table) n t en et h)
+
+  pub table-refused : n ≤ length room → length table < t * t → left (answer.Refused (record { number = 13; place = t * t })) room table
+      ≡ touredUnless (roomCheck s (length room) (length table)) (toured s room table) room table
+  table-refused h g = ap (λ (c : Check). touredUnless c (toured s room table) room table) (short-table s (length room) (length table) n t en et h g)
+
+  pub rooms-passed : (l : Left) → n ≤ length room → t * t ≤ length table → l ≡ toured s room table → l ≡ touredUnless (roomCheck s (length room) (length table)) (toured s room table) room table
+  rooms-passed l h g e = e ∙ ap (λ (c : Check). touredUnless c (toured s room table) room table) (rooms-fine s (length room) (length table) n t en et h g)

@@ -1,0 +1,4 @@
+pub mod RunLaws
+pub mod DoorLaws
+pub mod HostLaws
+pub mod PlaceLaws

@@ -1,0 +1,18 @@
+-- `tour::jl_check` meets its contract. Assumes nothing.
+use mathlib.Core.Path.{ap, _∙_}
+use Rattle.answer.specs.Code.{codeOf}
+use borrow.Author.Needs.{needs}
+use Rattle.tour.proofs.jl_check.Statement.{statement}
+use Rattle.tour.proofs.jl_check.Tie as tie
+
+check-requires : tie.Need-check-requires
+check-requires c κs = search needs
+
+code-requires : tie.Need-code-requires
+code-requires c κs = search needs
+
+returns : tie.Need-returns
+returns c = c .code .ensures ∙ ap codeOf (c .before .check .ensures)
+
+pub jl-check-spec : {M : Type 1} → statement M
+jl-check-spec = tie.close (tie.spec check-requires code-requires returns)

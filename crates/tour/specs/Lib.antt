@@ -1,0 +1,4 @@
+pub mod Search
+pub mod Tour
+pub mod Questions
+pub mod Hosts

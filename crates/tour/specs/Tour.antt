@@ -1,0 +1,57 @@
+-- The tour of any bytes, with the rooms lent for it. Assumes nothing.
+use mathlib.Core.List.{List, [], _∷_, _++_}
+use Prim.Native.Nat.{ℕ, _*_}
+use lib.Dec.{ltb}
+use lib.ListN.{length, drop, replicate}
+use lib.Ieee.{Float}
+use Rattle.answer.specs.declared.Check.{Check}
+use Rattle.answer.specs.declared.Check.the-variants.{Fine, Refused}
+use Rattle.answer.specs.Stage.{firstRefusal}
+use Rattle.cost.specs.Bad.{refuseIf}
+use Rattle.cost.specs.Closest.{zero64}
+use Rattle.card.specs.Limits.{candidateLimit}
+use Rattle.card.specs.Layout.{contoursOf}
+use Rattle.card.specs.Verdict.{checkOf}
+use Rattle.solve.specs.Solve.{placed}
+use Rattle.tour.specs.declared.Toured.{Toured}
+use Rattle.tour.specs.declared.Toured.the-variants as answer
+use Rattle.tour.specs.Search.{countOn, tableOn, tourOn, outcomeOn}
+
+-- what a call leaves behind: its answer, the tour's room and the table's
+pub record Left : Type 0 where
+  pub answer : Toured
+  pub room : List ℕ
+  pub table : List Float
+
+abbrev pub left : Toured → List ℕ → List Float → Left
+left answer room table = record { answer = answer; room = room; table = table }
+
+-- a room for the distances from home
+abbrev pub noDistances : List Float
+noDistances = replicate candidateLimit zero64
+
+-- 13: the tour's room has fewer entries than there are contours; else the table's has fewer than there are distances
+unfoldable pub roomCheck : List ℕ → ℕ → ℕ → Check
+unfolding firstRefusal
+roomCheck s entries distances =
+    let t = countOn s in
+    firstRefusal (refuseIf (ltb entries (contoursOf s)) 13 (contoursOf s) ∷ refuseIf (ltb distances (t * t)) 13 (t * t) ∷ [])
+
+-- the card's own refusals come first
+unfoldable pub tourCheck : List ℕ → ℕ → ℕ → Check
+unfolding firstRefusal roomCheck
+tourCheck s entries distances = firstRefusal (checkOf s ∷ roomCheck s entries distances ∷ [])
+
+-- an accepted card: the tour and the distances stand at the front of their rooms, whose rests are kept
+abbrev pub toured : List ℕ → List ℕ → List Float → Left
+toured s room table = left (answer.Done (outcomeOn s)) (placed (tourOn s) room) (tableOn s ++ drop (countOn s * countOn s) table)
+
+-- a refusal changes nothing
+abbrev pub touredUnless : Check → Left → List ℕ → List Float → Left
+touredUnless Fine done room table = done
+touredUnless (Refused r) done room table = left (answer.Refused r) room table
+
+-- the tour of any bytes
+unfoldable pub tourOf : List ℕ → List ℕ → List Float → Left
+unfolding tourCheck
+tourOf s room table = touredUnless (tourCheck s (length room) (length table)) (toured s room table) room table
