@@ -1,13 +1,13 @@
 -- A card's pairs, one by one: the list of positions has pair q exactly where the card has it. Assumes nothing.
-use mathlib.Core.Path.{_≡_, refl, sym, ap, _∙_}
+use mathlib.Core.Path.{_≡_, refl, sym, ap}
 use mathlib.Core.Logic.{_⊎_, inl, inr}
-use mathlib.Core.Bool.{Bool, true, false, _&&_, _||_}
+use mathlib.Core.Bool.{Bool, true, false, _||_}
 use mathlib.Core.List.{List, [], _∷_, _++_}
-use Prim.Native.Nat.{ℕ, zero, suc, _+_, _*_, _≤_, _<_}
+use Prim.Native.Nat.{ℕ, zero, suc, _*_, _<_}
 use native.Mathlib.Omega.{arith}
 use lib.Dec.{eqb}
 use borrow.Author.Tests.{eqb-true}
-use lib.ListN.{length, getD}
+use lib.ListN.{length}
 use Rattle.closure.specs.Pairs.{Pair, paired, someOf, isPair}
 use Rattle.closure.proofs.PairLaws.{is-pair, same-or}
 use Rattle.closure.proofs.PathLaws.{or-cases, or-left, or-right, and-first, and-second}

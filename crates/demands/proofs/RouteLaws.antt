@@ -1,7 +1,7 @@
 -- A tour's evaluation is the sum along its route: from home through the points where its candidates are pierced. Assumes nothing.
 use mathlib.Core.Path.{_≡_, refl, ap, _∙_}
 use mathlib.Core.List.{List, [], _∷_, map}
-use Prim.Native.Nat.{ℕ, zero, suc, _<_}
+use Prim.Native.Nat.{ℕ, suc, _<_}
 use native.Mathlib.Omega.{arith}
 use lib.Ieee.{Float, binary64, add, ofBits, ofFields, odd}
 use lib.ListN.{length, getD}
@@ -9,8 +9,8 @@ use Rattle.answer.specs.declared.Point.{Point}
 use Rattle.cost.specs.Distance.{distanceOf}
 use Rattle.candidates.specs.declared.Candidate.{Candidate}
 use Rattle.table.specs.Walk.{walk, legs}
-use Rattle.table.specs.Evaluate.{homeAt, distanceAt, addLeg, lengthOf}
-use Rattle.table.specs.Distances.{absent, pierced, left, homesOf, distancesOf}
+use Rattle.table.specs.Evaluate.{distanceAt, addLeg, lengthOf}
+use Rattle.table.specs.Distances.{absent, pierced, homesOf, distancesOf}
 use Rattle.table.proofs.DistanceLaws.{other-contour, homes-at}
 use Rattle.exact.specs.Length.{alongRoute, summed, total}
 use Rattle.demands.proofs.GatherLaws.{EndsThere}
