@@ -1,0 +1,159 @@
+-- Demand 2 holds. Assumes nothing.
+use mathlib.Core.Path.{_≡_, refl, sym, ap, _∙_}
+use mathlib.Core.Logic.{_⊎_, inl, inr}
+use mathlib.Core.Bool.{false, true≢false}
+use mathlib.Core.List.{List, [], _∷_, _++_}
+use Prim.Native.Nat.{ℕ, zero, suc, _+_, _≤_, _<_}
+use native.Mathlib.Omega.{arith}
+use lib.ListN.{length, getD, take, drop, length-append, List·getD-append}
+use lib.Seq.{take-at, getD-append-add}
+use Rattle.answer.specs.declared.Point.{Point}
+use Rattle.answer.specs.declared.Check.the-variants.{Fine}
+use Rattle.candidates.specs.declared.Candidate.{Candidate}
+use Rattle.candidates.specs.Generate.{candidatesOf}
+use Rattle.closure.proofs.PairLaws.{same-or}
+use Rattle.card.specs.Layout.{contoursOf, perContourOf, passesOf, vertexCountOf, vertexPlace}
+use Rattle.card.specs.Values.{pointAt}
+use Rattle.card.specs.Card.{each}
+use Rattle.card.specs.Verdict.{checkOf}
+use Rattle.card.proofs.Verdicts.{exactly}
+use Rattle.table.specs.Distances.{absent}
+use Rattle.table.proofs.DistanceLaws.{same-contour, other-contour}
+use Rattle.improve.specs.Search.{State, swap, flip, judged, atLimit}
+use Rattle.improve.proofs.Keeps.{Keeps, search-keeps}
+use Rattle.improve.proofs.TourLaws.{moves-at-most}
+use Rattle.improve.proofs.PrefixLaws.{After, Twin, search-twin, cut-at-limit, limit-idle}
+use Rattle.instance.specs.Gather.{verticesOf, wayOf, offersOf, gathered}
+use Rattle.instance.proofs.FineLaws.{outline-whole}
+use Rattle.instance.proofs.OwnerLaws.{first-at, gathered-grows, owner-at}
+use Rattle.solve.specs.declared.Outcome.{Outcome}
+use Rattle.tour.specs.declared.Toured.the-variants.{Done}
+use Rattle.tour.specs.Search.{candidatesOn, countOn, ownersOn, sheetOn, startOn, endOn, tourOn, outcomeOn}
+use Rattle.tour.specs.Tour.{Left, tourOf}
+use Rattle.demands.specs.Demand2.{ownOn, Numbered, Apart, Trials, searchOn, Cut, Claim}
+use Rattle.demands.proofs.AskedLaws.{toured-if, done-fine, fine-nothing}
+use Rattle.demands.proofs.TourLaws.{tour-long}
+
+-- ---- candidates
+
+vertices-are : (s : List ℕ) (k v : ℕ) → verticesOf s k v ≡ each (λ j. pointAt s (vertexPlace k j)) v
+unfolding verticesOf each
+vertices-are s k zero = refl
+vertices-are s k (suc v) = ap (λ (l : List Point). l ++ (pointAt s (vertexPlace k v) ∷ [])) (vertices-are s k v)
+
+-- the candidates gathered up to n hold those of each contour before
+gathered-own : (s : List ℕ) (n k j : ℕ) → k < n → j < length (offersOf s k) → getD (gathered s n) (length (gathered s k) + j) absent ≡ getD (offersOf s k) j absent
+unfolding gathered
+gathered-own s zero k j h l = absurd (omega arith)
+gathered-own s (suc n) k j h l = go (same-or k n) (λ g. gathered-own s n k j g l)
+  where
+    go : (k ≡ n) ⊎ (k ≡ n → ⊥) → (k < n → getD (gathered s n) (length (gathered s k) + j) absent ≡ getD (offersOf s k) j absent)
+        → getD (gathered s n ++ offersOf s n) (length (gathered s k) + j) absent ≡ getD (offersOf s k) j absent
+    go (inl e) earlier =
+        ap (λ (i : ℕ). getD (gathered s n ++ offersOf s n) (length (gathered s i) + j) absent) e
+        ∙ getD-append-add (gathered s n) (offersOf s n) j absent
+        ∙ ap (λ (i : ℕ). getD (offersOf s i) j absent) (sym e)
+    go (inr d) earlier =
+        let more = gathered-grows s n (suc k) (omega arith) in
+        let next = length-append (gathered s k) (offersOf s k) in
+        List·getD-append (gathered s n) (offersOf s n) absent (length (gathered s k) + j) (omega arith) ∙ earlier (omega arith)
+
+module _ (s : List ℕ) (fine : checkOf s ≡ Fine) where
+  own-is : (k : ℕ) → k < contoursOf s → offersOf s k ≡ ownOn s k
+  unfolding offersOf
+  own-is k h = ap (λ (ps : List Point). candidatesOf (wayOf s k) ps (perContourOf s)) (outline-whole s fine k h ∙ vertices-are s k (vertexCountOf s k))
+
+  numbered : Numbered s
+  unfolding gathered
+  numbered = record {
+    first = first-at s (contoursOf s) 0 (omega arith);
+    next = λ k h.
+        first-at s (contoursOf s) (suc k) (omega arith)
+        ∙ length-append (gathered s k) (offersOf s k)
+        ∙ rw (first-at s (contoursOf s) k (omega arith), own-is k h);
+    all = sym (first-at s (contoursOf s) (contoursOf s) (omega arith));
+    own = λ k j h l.
+        let room : j < length (offersOf s k) = rw (own-is k h) l in
+        rw (first-at s (contoursOf s) k (omega arith)) (gathered-own s (contoursOf s) k j h room ∙ ap (λ (cs : List Candidate). getD cs j absent) (own-is k h));
+    owner = λ k j h l.
+        let room : j < length (offersOf s k) = rw (own-is k h) l in
+        let next = length-append (gathered s k) (offersOf s k) in
+        rw (first-at s (contoursOf s) k (omega arith)) (owner-at s (contoursOf s) k (length (gathered s k) + j) h (omega arith) (omega arith));
+  }
+
+apart : (s : List ℕ) (a b : ℕ) → a < countOn s → b < countOn s → Apart s a b
+apart s a b here there = record {
+  same = same-contour (candidatesOn s) (ownersOn s) a b here there;
+  other = other-contour (candidatesOn s) (ownersOn s) a b here there;
+}
+
+-- ---- trials
+
+trials : (s : List ℕ) (v : State) → Trials s v
+unfolding swap flip judged
+trials s v = record {
+  other-taken = λ p held a e. (rw e, rw e);
+  other-left = λ p held a e. (rw e, rw e);
+  other-counts = λ p held a. refl;
+  reversal-taken = λ i j e. (rw e, rw e);
+  reversal-left = λ i j e. (rw e, rw e);
+  reversal-counts = λ i j. refl;
+}
+
+-- ---- the limit
+
+no-limit : (moves : ℕ) → atLimit 0 moves ≡ false
+unfolding atLimit
+no-limit moves = refl
+
+module _ (s : List ℕ) where
+  never-cut : searchOn s 0 .cut ≡ false
+  unfolding swap flip judged
+  never-cut = search-keeps (sheetOn s) (passesOf s) 0 (startOn s) (λ v. v .cut ≡ false) keeps refl
+    where
+      keeps : Keeps (sheetOn s) 0 (length (startOn s)) (λ v. v .cut ≡ false)
+      keeps = record {
+        stops = λ v l q. absurd (true≢false (sym l ∙ no-limit (v .moves)));
+        begins = λ v q. q;
+        swaps = λ p held a v h o m q b. (q, q);
+        flips = λ i j v h g m q. q;
+      }
+
+  cut-short : (M : ℕ) → 0 < M → M < searchOn s 0 .moves → (searchOn s M .moves ≡ M) × ((k : ℕ) × After (sheetOn s) (searchOn s M) (suc k) (searchOn s 0))
+  cut-short M h l = go (search-twin (sheetOn s) (passesOf s) M 0 (startOn s) (λ m e. absurd (true≢false (sym e ∙ no-limit m))))
+    where
+      most : searchOn s M .moves ≤ M
+      most = moves-at-most (sheetOn s) (passesOf s) M (startOn s) h
+
+      go : Twin (sheetOn s) (searchOn s M) (searchOn s 0) → (searchOn s M .moves ≡ M) × ((k : ℕ) × After (sheetOn s) (searchOn s M) (suc k) (searchOn s 0))
+      go (inl e) = let f : searchOn s M .moves ≡ searchOn s 0 .moves = ap (λ (v : State). v .moves) e in absurd (omega (arith, most))
+      go (inr w) = let least = cut-at-limit (sheetOn s) (passesOf s) M (startOn s) (w .0) in (omega (arith, most), w .1)
+
+  limit : Cut s
+  limit = record { enough = λ M h. limit-idle (sheetOn s) (passesOf s) M (startOn s) h; cut = cut-short; unlimited = never-cut }
+
+-- ---- the answer
+
+pub claim : Claim
+unfolding endOn sheetOn
+claim s room table told h =
+    let clear = toured-if s room table told h in
+    let fine = exactly s .fine-if (fine-nothing s room table clear .sound) in
+    let all = done-fine s room table clear in
+    let long = tour-long s fine in
+    let e : outcomeOn s ≡ told = (let d : Done (outcomeOn s) ≡ Done told = sym (ap (λ (l : Left). l .answer) all) ∙ h in cc) in
+    let front : take (contoursOf s) (tourOf s room table .room) ≡ tourOn s =
+    ap (λ (l : Left). take (contoursOf s) (l .room)) all ∙ take-at (tourOn s) (drop (length (tourOn s)) room) (contoursOf s) long in
+    record {
+      numbered = numbered s fine;
+      apart = apart s;
+      trials = trials s;
+      limit = limit s;
+      told-so = record {
+        tour = ap (λ (l : Left). l .room) all ∙ ap (λ (k : ℕ). tourOn s ++ drop k room) long;
+        entries = long;
+        distances = ap (λ (l : Left). l .table) all;
+        moves = ap (λ (o : Outcome). o .moves) (sym e);
+        rapid = ap (λ (o : Outcome). o .length) (sym e) ∙ rw front;
+      };
+    }

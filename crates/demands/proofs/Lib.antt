@@ -1,0 +1,15 @@
+pub mod PairLaws
+pub mod OrderLaws
+pub mod AskedLaws
+pub mod Demand1
+pub mod ShuffleLaws
+pub mod BelowLaws
+pub mod GatherLaws
+pub mod RouteLaws
+pub mod TourLaws
+pub mod Demand2
+pub mod Demand3
+pub mod Starred
+pub mod Hosts
+pub mod Unique
+pub mod Examples

@@ -1,0 +1,134 @@
+-- The start and the tour of a fine card: each contour once, each pair's first before its second, all of them candidates of the card.
+-- Assumes nothing.
+use mathlib.Core.Path.{_≡_, refl, sym, _∙_}
+use mathlib.Core.Bool.{true}
+use mathlib.Core.List.{List, [], _∷_}
+use Prim.Native.Nat.{ℕ, zero, suc, _<_}
+use native.Mathlib.Omega.{arith}
+use lib.Dec.{lit≤}
+use lib.ListN.{length, getD, length-map, length-append}
+use Rattle.answer.specs.declared.Check.the-variants.{Fine}
+use Rattle.cost.proofs.SizeLaws.{Near, near-more, good-near, distance-below}
+use Rattle.hierarchy.specs.Legal.{EachOnce, Legal}
+use Rattle.hierarchy.proofs.OrderLaws.{keeps-legal, legal-keeps}
+use Rattle.card.specs.Layout.{contoursOf, passesOf, moveLimitOf}
+use Rattle.card.specs.Verdict.{checkOf}
+use Rattle.card.proofs.Facts.{accepted}
+use Rattle.card.proofs.OrderRows.{links}
+use Rattle.card.proofs.Verdicts.{exactly}
+use Rattle.table.proofs.DistanceLaws.{homes-at}
+use Rattle.start.proofs.ChoiceLaws.{InContour}
+use Rattle.start.proofs.StartLaws.{Within, start-finishes, start-legal}
+use Rattle.improve.specs.Search.{contourOf, contours, legal}
+use Rattle.improve.proofs.TourLaws.{same-length, contours-kept, legal-kept}
+use Rattle.instance.specs.Gather.{gathered, offersOf}
+use Rattle.instance.proofs.FineLaws.{some-offers}
+use Rattle.instance.proofs.OwnerLaws.{first-at, grouped}
+use Rattle.solve.specs.Solve.{groundIn}
+use Rattle.tour.specs.Search.{homeOn, candidatesOn, countOn, ownersOn, firstsOn, pairsOn, sheetOn, startOn, endOn, tourOn}
+use Rattle.demands.specs.Demand1.{LegalOrder}
+use Rattle.demands.proofs.BelowLaws.{AllBelow, below-at, below-kept, start-below}
+use Rattle.demands.proofs.GatherLaws.{firsts-below, ends-gathered, candidate-near}
+use Rattle.demands.proofs.OrderLaws.{by-ids}
+use Rattle.demands.proofs.RouteLaws.{stopOf, Rides, leg-is}
+use Rattle.demands.proofs.ShuffleLaws.{shuffled-once}
+
+-- the contour at a place of a tour
+contour-at : (owner tour : List ℕ) (p : ℕ) → p < length tour → getD (contours owner tour) p 0 ≡ getD owner (getD tour p 0) 0
+unfolding contours
+contour-at owner [] p h = absurd (omega arith)
+contour-at owner (a ∷ tour) zero h = refl
+contour-at owner (a ∷ tour) (suc p) h = contour-at owner tour p (omega arith)
+
+contours-long : (owner tour : List ℕ) → length (contours owner tour) ≡ length tour
+unfolding contours
+contours-long owner tour = length-map tour (contourOf owner)
+
+module _ (s : List ℕ) (fine : checkOf s ≡ Fine) where
+  -- ---- what the start asks for
+
+  home-near : Near 160 (homeOn s)
+  home-near = near-more 20 160 (homeOn s) (lit≤ tt) (good-near (homeOn s) (accepted s fine .home-near))
+
+  among : (k a : ℕ) → InContour (firstsOn s) k a → a < countOn s
+  among k a m = let l = firsts-below s (contoursOf s) (suc k) in omega (arith, m .to)
+
+  near : Within (groundIn (sheetOn s)) (contoursOf s)
+  unfolding sheetOn gathered
+  near = record {
+    some = λ k h.
+        let more = length-append (gathered s k) (offersOf s k) in
+        let some = some-offers s fine k h in
+        rw (first-at s (contoursOf s) k (omega arith), first-at s (contoursOf s) (suc k) (omega arith)) (omega arith);
+    home = λ k a h m.
+        let l = among k a m in
+        rw (homes-at (candidatesOn s) (homeOn s) a l) (distance-below 160 (homeOn s) (stopOf (candidatesOn s) a) (lit≤ tt) home-near (candidate-near s fine a l));
+    apart = λ k j a b hk hj d m w.
+        let here = among k a m in
+        let there = among j b w in
+        let x = grouped s (contoursOf s) k a (m .from) (m .to) in
+        let y = grouped s (contoursOf s) j b (w .from) (w .to) in
+        rw (leg-is (candidatesOn s) (ownersOn s) (ends-gathered s (contoursOf s)) b a there here (λ e. d (sym x ∙ sym e ∙ y)))
+        (distance-below 160 (stopOf (candidatesOn s) b) (stopOf (candidatesOn s) a) (lit≤ tt) (candidate-near s fine b there) (candidate-near s fine a here));
+  }
+
+  -- ---- the start
+
+  pub start-long : length (startOn s) ≡ contoursOf s
+  unfolding sheetOn
+  start-long = start-finishes (groundIn (sheetOn s)) (contoursOf s) near (accepted s fine .acyclic) (links s fine .all-contours) (accepted s fine .few-contours)
+
+  start-order : Legal (contoursOf s) (pairsOn s) (contours (ownersOn s) (startOn s))
+  unfolding sheetOn contours
+  start-order = start-legal (groundIn (sheetOn s)) (contoursOf s) near (accepted s fine .acyclic) (links s fine .all-contours) (accepted s fine .few-contours) (ownersOn s) (grouped s (contoursOf s))
+
+  pub start-among : AllBelow (countOn s) (startOn s)
+  unfolding sheetOn
+  start-among = start-below (groundIn (sheetOn s)) (contoursOf s) (countOn s) (firsts-below s (contoursOf s))
+
+  -- ---- the tour
+
+  pub tour-long : length (tourOn s) ≡ contoursOf s
+  unfolding endOn
+  tour-long = same-length (sheetOn s) (passesOf s) (moveLimitOf s) (startOn s) ∙ start-long
+
+  tour-each : EachOnce (contoursOf s) (contours (ownersOn s) (tourOn s))
+  unfolding endOn sheetOn
+  tour-each =
+      shuffled-once (contoursOf s) (contours (ownersOn s) (startOn s)) (contours (ownersOn s) (tourOn s)) (start-order .each)
+      (contours-long (ownersOn s) (tourOn s) ∙ tour-long) (contours-kept (sheetOn s) (passesOf s) (moveLimitOf s) (startOn s) (grouped s (contoursOf s)))
+
+  tour-keeps : legal (sheetOn s) (tourOn s) ≡ true
+  unfolding endOn sheetOn
+  tour-keeps =
+      legal-kept (sheetOn s) (passesOf s) (moveLimitOf s) (startOn s) (grouped s (contoursOf s))
+      (legal-keeps (contoursOf s) (contours (ownersOn s) (startOn s)) (start-order .each) (pairsOn s) start-order)
+
+  pub tour-legal : LegalOrder s (contours (ownersOn s) (tourOn s))
+  unfolding sheetOn
+  tour-legal =
+      let sound = exactly s .fine-only fine in
+      by-ids s (sound .0 .0 .0 .1) (sound .0 .0 .1) (contours (ownersOn s) (tourOn s))
+      (keeps-legal (contoursOf s) (contours (ownersOn s) (tourOn s)) tour-each (pairsOn s) tour-keeps)
+
+  pub tour-among : AllBelow (countOn s) (tourOn s)
+  unfolding endOn sheetOn
+  tour-among = below-kept (sheetOn s) (passesOf s) (moveLimitOf s) (countOn s) (startOn s) (firsts-below s (contoursOf s)) start-among
+
+  -- ---- as routes
+
+  rides : (tour : List ℕ) → length tour ≡ contoursOf s → AllBelow (countOn s) tour → EachOnce (contoursOf s) (contours (ownersOn s) tour)
+      → Rides (candidatesOn s) (ownersOn s) tour
+  rides tour long below each = record {
+    within = λ p h. below-at (countOn s) tour p below h;
+    onward = λ p h e. (
+        let q : p ≡ suc p = each .once p (suc p) (omega arith) (omega arith)
+        (contour-at (ownersOn s) tour p (omega arith) ∙ e ∙ sym (contour-at (ownersOn s) tour (suc p) h)) in
+        omega arith);
+  }
+
+  pub start-rides : Rides (candidatesOn s) (ownersOn s) (startOn s)
+  start-rides = rides (startOn s) start-long start-among (start-order .each)
+
+  pub tour-rides : Rides (candidatesOn s) (ownersOn s) (tourOn s)
+  tour-rides = rides (tourOn s) tour-long tour-among tour-each

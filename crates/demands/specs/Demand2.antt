@@ -1,0 +1,95 @@
+-- Demand 2: on an accepted card the candidates, the table, the tour, the number of trials and the length are those of the search as it is
+-- defined; a move limit cuts that search after so many trials and changes nothing else; and the length told is evaluated from the tour
+-- handed out. Assumes nothing.
+use mathlib.Core.Path.{_≡_}
+use mathlib.Core.Bool.{true, false, _&&_}
+use mathlib.Core.List.{List, _++_}
+use Prim.Native.Nat.{ℕ, suc, _+_, _*_, _≤_, _<_}
+use lib.Ieee.{Float}
+use lib.ListN.{length, getD, set, take, drop}
+use Rattle.cost.specs.Closest.{huge}
+use Rattle.cost.specs.Distance.{distanceOf}
+use Rattle.candidates.specs.declared.Candidate.{Candidate}
+use Rattle.candidates.specs.Direction.{directionOf}
+use Rattle.candidates.specs.Generate.{candidatesOf}
+use Rattle.card.specs.Layout.{contoursOf, passesOf, moveLimitOf}
+use Rattle.card.specs.Card.{cardOf, contourOf}
+use Rattle.table.specs.Evaluate.{distanceAt, lengthOf}
+use Rattle.table.specs.Distances.{absent, pierced, left}
+use Rattle.improve.specs.Search.{State, lengthIn, legal, shorter, swap, reversed, flip, searched}
+use Rattle.improve.proofs.PrefixLaws.{After}
+use Rattle.solve.specs.declared.Outcome.{Outcome}
+use Rattle.tour.specs.declared.Toured.the-variants.{Done}
+use Rattle.tour.specs.Search.{candidatesOn, countOn, ownersOn, firstsOn, homesOn, tableOn, sheetOn, startOn}
+use Rattle.tour.specs.Tour.{tourOf}
+
+-- ---- candidates and table
+
+-- the candidates of contour k: those of its vertices, c of them, cut in the direction that the card asks for
+abbrev pub ownOn : List ℕ → ℕ → List Candidate
+ownOn s k = candidatesOf (directionOf (contourOf s k .kind) (cardOf s .exterior) (cardOf s .interior)) (contourOf s k .vertices) (cardOf s .per-contour)
+
+-- the candidates are numbered contour after contour, each contour's in their order
+pub record Numbered (s : List ℕ) : Type 0 where
+  pub first : getD (firstsOn s) 0 0 ≡ 0
+  pub next : (k : ℕ) → k < contoursOf s → getD (firstsOn s) (suc k) 0 ≡ getD (firstsOn s) k 0 + length (ownOn s k)
+  pub all : countOn s ≡ getD (firstsOn s) (contoursOf s) 0
+  pub own : (k j : ℕ) → k < contoursOf s → j < length (ownOn s k) → getD (candidatesOn s) (getD (firstsOn s) k 0 + j) absent ≡ getD (ownOn s k) j absent
+  pub owner : (k j : ℕ) → k < contoursOf s → j < length (ownOn s k) → getD (ownersOn s) (getD (firstsOn s) k 0 + j) 0 ≡ k
+
+-- from candidate a's end point to candidate b's point; the largest float where both are of one contour
+pub record Apart (s : List ℕ) (a b : ℕ) : Type 0 where
+  pub same : getD (ownersOn s) a 0 ≡ getD (ownersOn s) b 0 → distanceAt (tableOn s) (countOn s) a b ≡ huge
+  pub other : (getD (ownersOn s) a 0 ≡ getD (ownersOn s) b 0 → ⊥)
+      → distanceAt (tableOn s) (countOn s) a b ≡ distanceOf (left (getD (candidatesOn s) a absent)) (pierced (getD (candidatesOn s) b absent))
+
+-- ---- trials
+
+-- a trial is accepted if it is shorter by more than 1e-10 and, for a reversal, legal; then its tour and its length are held. If not, a
+-- candidate gives the position back the one held when its turn began, a reversal the tour as it was, and the length stays. Each counts one
+pub record Trials (s : List ℕ) (v : State) : Type 0 where
+  pub other-taken : (p held a : ℕ) → shorter (lengthIn (sheetOn s) (set (v .tour) p a)) (v .cost) ≡ true
+      → (swap (lengthIn (sheetOn s)) p held a v .tour ≡ set (v .tour) p a) × (swap (lengthIn (sheetOn s)) p held a v .cost ≡ lengthIn (sheetOn s) (set (v .tour) p a))
+  pub other-left : (p held a : ℕ) → shorter (lengthIn (sheetOn s) (set (v .tour) p a)) (v .cost) ≡ false
+      → (swap (lengthIn (sheetOn s)) p held a v .tour ≡ set (v .tour) p held) × (swap (lengthIn (sheetOn s)) p held a v .cost ≡ v .cost)
+  pub other-counts : (p held a : ℕ) → swap (lengthIn (sheetOn s)) p held a v .moves ≡ suc (v .moves)
+  pub reversal-taken : (i j : ℕ) → (shorter (lengthIn (sheetOn s) (reversed i j (v .tour))) (v .cost) && legal (sheetOn s) (reversed i j (v .tour))) ≡ true
+      → (flip (lengthIn (sheetOn s)) (legal (sheetOn s)) i j v .tour ≡ reversed i j (v .tour))
+      × (flip (lengthIn (sheetOn s)) (legal (sheetOn s)) i j v .cost ≡ lengthIn (sheetOn s) (reversed i j (v .tour)))
+  pub reversal-left : (i j : ℕ) → (shorter (lengthIn (sheetOn s) (reversed i j (v .tour))) (v .cost) && legal (sheetOn s) (reversed i j (v .tour))) ≡ false
+      → (flip (lengthIn (sheetOn s)) (legal (sheetOn s)) i j v .tour ≡ v .tour) × (flip (lengthIn (sheetOn s)) (legal (sheetOn s)) i j v .cost ≡ v .cost)
+  pub reversal-counts : (i j : ℕ) → flip (lengthIn (sheetOn s)) (legal (sheetOn s)) i j v .moves ≡ suc (v .moves)
+
+-- ---- the limit
+
+-- the search of the card with a limit; 0 is none
+abbrev pub searchOn : List ℕ → ℕ → State
+searchOn s limit = searched (sheetOn s) (passesOf s) limit (startOn s)
+
+-- a limit that the search does not need changes nothing; another cuts it after exactly so many trials, and without it the search makes
+-- more trials from there on; without a limit it is never cut
+pub record Cut (s : List ℕ) : Type 0 where
+  pub enough : (M : ℕ) → searchOn s 0 .moves ≤ M → searchOn s M ≡ searchOn s 0
+  pub cut : (M : ℕ) → 0 < M → M < searchOn s 0 .moves → (searchOn s M .moves ≡ M) × ((k : ℕ) × After (sheetOn s) (searchOn s M) (suc k) (searchOn s 0))
+  pub unlimited : searchOn s 0 .cut ≡ false
+
+-- ---- the answer
+
+-- what is told, and what stands in the rooms: the tour and the table at their fronts, their rests as they were
+pub record Told (s room : List ℕ) (table : List Float) (told : Outcome) : Type 0 where
+  pub tour : tourOf s room table .room ≡ searchOn s (moveLimitOf s) .tour ++ drop (contoursOf s) room
+  pub entries : length (searchOn s (moveLimitOf s) .tour) ≡ contoursOf s
+  pub distances : tourOf s room table .table ≡ tableOn s ++ drop (countOn s * countOn s) table
+  pub moves : told .moves ≡ searchOn s (moveLimitOf s) .moves
+  pub rapid : told .length ≡ lengthOf (homesOn s) (tableOn s) (countOn s) (take (contoursOf s) (tourOf s room table .room))
+
+pub record Follows (s room : List ℕ) (table : List Float) (told : Outcome) : Type 0 where
+  pub numbered : Numbered s
+  pub apart : (a b : ℕ) → a < countOn s → b < countOn s → Apart s a b
+  pub trials : (v : State) → Trials s v
+  pub limit : Cut s
+  pub told-so : Told s room table told
+
+-- of any bytes with any rooms, if the answer is a tour
+abbrev pub Claim : Type 0
+Claim = (s room : List ℕ) (table : List Float) (told : Outcome) → tourOf s room table .answer ≡ Done told → Follows s room table told

@@ -1,0 +1,54 @@
+-- Demand 3: where home and all candidates of a card lie on a grid, the tour that is handed out cuts each contour once and of each pair
+-- the first before the second; the length reported is within 2^-28 mm of the exact one; and the tour is at most 2^-27 mm longer than
+-- the start, exactly. Assumes nothing.
+use mathlib.Core.Path.{_≡_}
+use mathlib.Core.List.{List, map}
+use Prim.Native.Nat.{ℕ, _+_, _*_, _^_, _≤_, _<_}
+use lib.Dec.{T}
+use lib.Ieee.{Float}
+use lib.ListN.{getD, take}
+use Rattle.answer.specs.declared.Point.{Point}
+use Rattle.table.specs.Distances.{absent, pierced}
+use Rattle.exact.specs.Grid.{gridPoint, squaredLength}
+use Rattle.exact.specs.Length.{alongRoute, lowerEnd, upperEnd, step40}
+use Rattle.exact.specs.Bound.{NearEnds}
+use Rattle.improve.specs.Search.{contours}
+use Rattle.solve.specs.declared.Outcome.{Outcome}
+use Rattle.card.specs.Layout.{contoursOf}
+use Rattle.tour.specs.declared.Toured.the-variants.{Done}
+use Rattle.tour.specs.Search.{homeOn, candidatesOn, countOn, ownersOn, startOn}
+use Rattle.tour.specs.Tour.{tourOf}
+use Rattle.demands.specs.Demand1.{LegalOrder}
+
+-- where candidate a of the card is pierced
+abbrev pub stopOn : List ℕ → ℕ → Point
+stopOn s a = pierced (getD (candidatesOn s) a absent)
+
+-- home and all candidates are whole numbers of 1/1024 mm, none above 8192 mm in size
+pub record OnGrid (s : List ℕ) : Type 0 where
+  pub home : T (gridPoint (homeOn s))
+  pub candidate : (a : ℕ) → a < countOn s → T (gridPoint (stopOn s a))
+
+-- the squared lengths of a tour's legs, from home on, in squares of 1/1024 mm
+abbrev pub legsOn : List ℕ → List ℕ → List ℕ
+legsOn s tour = alongRoute squaredLength (homeOn s) (map (stopOn s) tour)
+
+-- 2^-28 mm and 2^-27 mm, in steps of 2^-40 mm
+abbrev pub nearness : ℕ
+nearness = 2 ^ 12
+
+abbrev pub excess : ℕ
+excess = 2 ^ 13
+
+-- what is claimed of a tour and what is told of it: legal; near to both ends of the interval that the exact length lies in; and its upper
+-- end no more than the excess above the start's lower end. All lengths are whole numbers of steps of 2^-1074 mm
+pub record Good (s tour : List ℕ) (told : Outcome) : Type 0 where
+  pub legal : LegalOrder s (contours (ownersOn s) tour)
+  pub near : NearEnds nearness (told .length) (legsOn s tour)
+  pub not-longer : upperEnd (legsOn s tour) * step40 ≤ lowerEnd (legsOn s (startOn s)) * step40 + excess * step40
+
+-- of every card that lies on the grid, with whatever rooms and whatever move limit, if the answer is a tour
+abbrev pub Claim : Type 0
+Claim =
+    (s room : List ℕ) (table : List Float) (told : Outcome) → OnGrid s → tourOf s room table .answer ≡ Done told
+    → Good s (take (contoursOf s) (tourOf s room table .room)) told
