@@ -18,8 +18,6 @@ PERCENT ?= 5
 CARGO = cargo
 # Without the original the comparisons with it are left out, and say so.
 ORIGINAL = $(if $(wildcard $(U_NESTING_SRC)/gtsp.rs),--features original)
-# The hosts call the crate tour.
-TOUR = $(shell grep '^tour:' crates.txt)
 TEST = $(CARGO) test --release --offline --quiet
 ORACLE = $(CARGO) run --release --offline --quiet --package oracle $(ORIGINAL) --bin
 
@@ -38,7 +36,7 @@ test:
 
 hosts: archives
 	$(TEST) --package oracle $(ORIGINAL)
-	$(if $(TOUR),$(TEST) --package jambolive,@echo 'Rust host: left out, no crate tour yet')
+	$(TEST) --package jambolive
 	hosts/c/test.sh
 	$(ORACLE) differential -- --seed $(SEED) --percent $(PERCENT)
 
@@ -54,7 +52,7 @@ differential: archives
 
 bench: archives
 	$(ORACLE) bench
-	$(if $(TOUR),$(CARGO) bench --offline --quiet --package jambolive --bench calls,@echo 'Rust host: left out, no crate tour yet')
+	$(CARGO) bench --offline --quiet --package jambolive --bench calls
 
 soak: archives
 	$(ORACLE) differential -- --seed $(SEED) --percent 1 --seconds $(SECONDS)

@@ -101,13 +101,8 @@ fn search() {
     );
 }
 
-#[cfg(not(feature = "original"))]
-fn search() {
-    println!("search: left out, the original is not at hand");
-}
-
 /// From a card's bytes, or for the original from its fields, to the tour.
-#[cfg(all(has_tour, feature = "original"))]
+#[cfg(feature = "original")]
 fn tour() {
     use oracle::{answer::Problem, exports};
     classes(
@@ -123,14 +118,14 @@ fn tour() {
     );
 }
 
-#[cfg(not(all(has_tour, feature = "original")))]
-fn tour() {
-    println!("tour: left out, no crate tour yet, or the original is not at hand");
-}
-
 fn main() {
     root();
     check();
-    search();
-    tour();
+    #[cfg(feature = "original")]
+    {
+        search();
+        tour();
+    }
+    #[cfg(not(feature = "original"))]
+    println!("search, tour: left out, the original is not at hand");
 }
