@@ -1,10 +1,12 @@
 -- Demand 2 holds. Assumes nothing.
 use mathlib.Core.Path.{_≡_, refl, sym, ap, _∙_}
 use mathlib.Core.Logic.{_⊎_, inl, inr}
-use mathlib.Core.Bool.{false, true≢false}
+use mathlib.Core.Bool.{false, true≢false, and-false}
 use mathlib.Core.List.{List, [], _∷_, _++_}
 use Prim.Native.Nat.{ℕ, zero, suc, _+_, _≤_, _<_}
 use native.Mathlib.Omega.{arith}
+use borrow.Author.Tests.{lt-leb}
+use lib.Dec.{ltb}
 use lib.ListN.{length, getD, take, drop, length-append, List·getD-append}
 use lib.Seq.{take-at, getD-append-add}
 use Rattle.answer.specs.declared.Point.{Point}
@@ -19,7 +21,7 @@ use Rattle.card.specs.Verdict.{checkOf}
 use Rattle.card.proofs.Verdicts.{exactly}
 use Rattle.table.specs.Distances.{absent}
 use Rattle.table.proofs.DistanceLaws.{same-contour, other-contour}
-use Rattle.improve.specs.Search.{State, swap, flip, judged, atLimit}
+use Rattle.improve.specs.Search.{State, lengthIn, swap, flip, judged, atLimit, begun, worthwhile, searched}
 use Rattle.improve.proofs.Keeps.{Keeps, search-keeps}
 use Rattle.improve.proofs.TourLaws.{moves-at-most}
 use Rattle.improve.proofs.PrefixLaws.{After, Twin, search-twin, cut-at-limit, limit-idle}
@@ -32,7 +34,7 @@ use Rattle.tour.specs.Search.{candidatesOn, countOn, ownersOn, sheetOn, startOn
 use Rattle.tour.specs.Tour.{Left, tourOf}
 use Rattle.demands.specs.Demand2.{ownOn, Numbered, Apart, Trials, searchOn, Cut, Claim}
 use Rattle.demands.proofs.AskedLaws.{toured-if, done-fine, fine-nothing}
-use Rattle.demands.proofs.TourLaws.{tour-long}
+use Rattle.demands.proofs.TourLaws.{start-long, tour-long, tour-legal}
 
 -- ---- candidates
 
@@ -129,8 +131,24 @@ module _ (s : List ℕ) where
       go (inl e) = let f : searchOn s M .moves ≡ searchOn s 0 .moves = ap (λ (v : State). v .moves) e in absurd (omega (arith, most))
       go (inr w) = let least = cut-at-limit (sheetOn s) (passesOf s) M (startOn s) (w .0) in (omega (arith, most), w .1)
 
-  limit : Cut s
-  limit = record { enough = λ M h. limit-idle (sheetOn s) (passesOf s) M (startOn s) h; cut = cut-short; unlimited = never-cut }
+  stays : (M : ℕ) → worthwhile (passesOf s) (length (startOn s)) ≡ false → searchOn s M ≡ begun (sheetOn s) (startOn s)
+  unfolding searched
+  stays M e = rw e
+
+-- few contours or no passes: nothing is worth a search
+not-worthwhile : (most n : ℕ) → (most ≡ 0) ⊎ (n < 3) → worthwhile most n ≡ false
+not-worthwhile most n (inl e) = rw e
+not-worthwhile most n (inr h) = rw (lt-leb 3 n h) (and-false (ltb 0 most))
+
+limit : (s : List ℕ) → checkOf s ≡ Fine → Cut s
+limit s fine = record {
+  enough = λ M h. limit-idle (sheetOn s) (passesOf s) M (startOn s) h;
+  cut = cut-short s;
+  unlimited = never-cut s;
+  idle = λ M w. (
+      let e = stays s M (not-worthwhile (passesOf s) (length (startOn s)) (rw (start-long s fine) w)) in
+      (ap (λ (v : State). v .tour) e, ap (λ (v : State). v .moves) e));
+}
 
 -- ---- the answer
 
@@ -148,12 +166,12 @@ claim s room table told h =
       numbered = numbered s fine;
       apart = apart s;
       trials = trials s;
-      limit = limit s;
+      limit = limit s fine;
       told-so = record {
         tour = ap (λ (l : Left). l .room) all ∙ ap (λ (k : ℕ). tourOn s ++ drop k room) long;
-        entries = long;
+        legal-so = tour-legal s fine;
         distances = ap (λ (l : Left). l .table) all;
         moves = ap (λ (o : Outcome). o .moves) (sym e);
-        rapid = ap (λ (o : Outcome). o .length) (sym e) ∙ rw front;
+        rapid = ap (λ (o : Outcome). o .length) (sym e) ∙ ap (lengthIn (sheetOn s)) (sym front);
       };
     }

@@ -3,6 +3,7 @@
 -- handed out. Assumes nothing.
 use mathlib.Core.Path.{_≡_}
 use mathlib.Core.Bool.{true, false, _&&_}
+use mathlib.Core.Logic.{_⊎_}
 use mathlib.Core.List.{List, _++_}
 use Prim.Native.Nat.{ℕ, suc, _+_, _*_, _≤_, _<_}
 use lib.Ieee.{Float}
@@ -16,12 +17,13 @@ use Rattle.card.specs.Layout.{contoursOf, passesOf, moveLimitOf}
 use Rattle.card.specs.Card.{cardOf, contourOf}
 use Rattle.table.specs.Evaluate.{distanceAt, lengthOf}
 use Rattle.table.specs.Distances.{absent, pierced, left}
-use Rattle.improve.specs.Search.{State, lengthIn, legal, shorter, swap, reversed, flip, searched}
+use Rattle.improve.specs.Search.{State, contours, lengthIn, legal, shorter, swap, reversed, flip, searched}
 use Rattle.improve.proofs.PrefixLaws.{After}
 use Rattle.solve.specs.declared.Outcome.{Outcome}
 use Rattle.tour.specs.declared.Toured.the-variants.{Done}
 use Rattle.tour.specs.Search.{candidatesOn, countOn, ownersOn, firstsOn, homesOn, tableOn, sheetOn, startOn}
 use Rattle.tour.specs.Tour.{tourOf}
+use Rattle.demands.specs.Demand1.{LegalOrder}
 
 -- ---- candidates and table
 
@@ -67,18 +69,21 @@ abbrev pub searchOn : List ℕ → ℕ → State
 searchOn s limit = searched (sheetOn s) (passesOf s) limit (startOn s)
 
 -- a limit that the search does not need changes nothing; another cuts it after exactly so many trials, and without it the search makes
--- more trials from there on; without a limit it is never cut
+-- more trials from there on; without a limit it is never cut; and where no pass is allowed or there are fewer than three contours, it
+-- stays at the start and makes no trial
 pub record Cut (s : List ℕ) : Type 0 where
   pub enough : (M : ℕ) → searchOn s 0 .moves ≤ M → searchOn s M ≡ searchOn s 0
   pub cut : (M : ℕ) → 0 < M → M < searchOn s 0 .moves → (searchOn s M .moves ≡ M) × ((k : ℕ) × After (sheetOn s) (searchOn s M) (suc k) (searchOn s 0))
   pub unlimited : searchOn s 0 .cut ≡ false
+  pub idle : (M : ℕ) → (passesOf s ≡ 0) ⊎ (contoursOf s < 3) → (searchOn s M .tour ≡ startOn s) × (searchOn s M .moves ≡ 0)
 
 -- ---- the answer
 
--- what is told, and what stands in the rooms: the tour and the table at their fronts, their rests as they were
+-- what is told, and what stands in the rooms: the tour and the table at their fronts, their rests as they were; the tour cuts each
+-- contour once, and of each pair the first before the second
 pub record Told (s room : List ℕ) (table : List Float) (told : Outcome) : Type 0 where
   pub tour : tourOf s room table .room ≡ searchOn s (moveLimitOf s) .tour ++ drop (contoursOf s) room
-  pub entries : length (searchOn s (moveLimitOf s) .tour) ≡ contoursOf s
+  pub legal-so : LegalOrder s (contours (ownersOn s) (searchOn s (moveLimitOf s) .tour))
   pub distances : tourOf s room table .table ≡ tableOn s ++ drop (countOn s * countOn s) table
   pub moves : told .moves ≡ searchOn s (moveLimitOf s) .moves
   pub rapid : told .length ≡ lengthOf (homesOn s) (tableOn s) (countOn s) (take (contoursOf s) (tourOf s room table .room))
