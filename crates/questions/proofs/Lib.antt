@@ -1,2 +1,3 @@
 pub mod OrderLaws
 pub mod IndexLaws
+pub mod NearestLaws

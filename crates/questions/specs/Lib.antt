@@ -1,2 +1,3 @@
 pub mod Order
+pub mod Nearest
 pub mod Index

@@ -10,6 +10,7 @@ ghost use Rattle.improve.specs.Search.{lengthIn};
 ghost use Prim.Native.Nat.{_+_};
 ghost use Rattle.tour.specs.Search.{candidatesOn, countOn, firstsOn, sheetOn};
 ghost use Rattle.questions.specs.Order.{stopAt, metBefore, badStop, firstBadStop, orderCheck, measuredUnless, evaluated};
+ghost use Rattle.questions.specs.Nearest.{stopsOf, nearestOn, nearestOf};
 ghost use Rattle.questions.specs.Index.{pickedUnless, pickedOf, localCheck, countUnless, globalOf};
 ghost use lib.Dec.{leb};
 ghost use lib.ListN.{getD};
@@ -17,6 +18,7 @@ use answer::Check;
 use answer::Found;
 use answer::Refusal;
 use candidates::Candidate;
+use closure::CONTOURS;
 use cost::Measured;
 use hierarchy::Count;
 use instance::Instance;
@@ -26,6 +28,13 @@ use table::ENTRIES;
 pub enum Picked {
     Is(Candidate),
     Refused(Refusal),
+}
+
+// The stops of a start, the first count of the entries, or why there are none.
+pub struct Stops {
+    pub check: Check,
+    pub entries: [u8; CONTOURS],
+    pub count: usize,
 }
 
 // A byte as a position.
@@ -131,6 +140,54 @@ pub fn evaluate(card: &[u8], order: &[u8]) -> Measured
         Check::Refused(r) => Measured::Refused(r),
         Check::Fine => evaluated_on_fine(card, order),
     }
+}
+
+// ---- the start that no pair binds
+
+// That start on an accepted card.
+fn nearest_on_fine(card: &[u8]) -> Stops
+    requires { ⌜ checkOf (now card) ≡ Fine ⌝ }
+    ensures { λ r. ⌜ r ≡ stopsOf (nearestOn (now (card .entry))) ⌝ }
+{
+    let all = instance::gather(card);
+    let homes = tour::homes_of(all, card::home(card));
+    let t = all.count;
+    let n = all.contours;
+    let items = all.items;
+    let owner = all.owner;
+    let first = all.first;
+    let firsts = n + 1;
+    let entries = t * t;
+    let mut distances = [0.0; ENTRIES];
+    table::fill_table(&mut distances, items, t, &owner[..t]);
+    let mut room = [0u8; CONTOURS];
+    let count = start::solve_nn(
+        &homes[..t],
+        &distances[..entries],
+        t as u8,
+        &first[..firsts],
+        &mut room[..n],
+    );
+    Stops {
+        check: Check::Fine,
+        entries: room,
+        count,
+    }
+}
+
+// The nearest-neighbour start of a card where no contour waits for another.
+pub fn solve_nn(card: &[u8]) -> Stops
+    ensures { λ r. ⌜ r ≡ nearestOf (now (card .entry)) ⌝ }
+{
+    let check = card::check(card);
+    let Check::Fine = check else {
+        return Stops {
+            check,
+            entries: [0u8; CONTOURS],
+            count: 0,
+        };
+    };
+    nearest_on_fine(card)
 }
 
 // ---- candidates by number

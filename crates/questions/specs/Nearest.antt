@@ -1,0 +1,35 @@
+-- The start of a card s that no pair binds. Assumes nothing.
+use mathlib.Core.List.{List, []}
+use Prim.Native.Nat.{ℕ}
+use lib.ListN.{length, replicate}
+use Rattle.answer.specs.declared.Check.{Check}
+use Rattle.answer.specs.declared.Check.the-variants.{Fine, Refused}
+use Rattle.closure.specs.Limits.{CONTOURS}
+use Rattle.card.specs.Layout.{contoursOf}
+use Rattle.card.specs.Verdict.{checkOf}
+use Rattle.start.specs.Nearest.{nearest}
+use Rattle.start.specs.Code.{groundOf}
+use Rattle.solve.specs.Solve.{placed}
+use Rattle.tour.specs.Search.{countOn, firstsOn, homesOn, tableOn}
+use Rattle.questions.specs.declared.Stops.{Stops}
+
+-- the start where no contour waits for another
+unfoldable pub nearestOn : List ℕ → List ℕ
+nearestOn s = nearest (groundOf (homesOn s) (tableOn s) (countOn s) (firstsOn s) []) (contoursOf s)
+
+-- a room for a stop a contour
+abbrev pub noStops : List ℕ
+noStops = replicate CONTOURS 0
+
+-- stops as they are handed out
+abbrev pub stopsOf : List ℕ → Stops
+stopsOf l = record { check = Fine; entries = placed l noStops; count = length l }
+
+-- none where the card is refused
+abbrev pub stopsUnless : Check → List ℕ → Stops
+stopsUnless Fine l = stopsOf l
+stopsUnless (Refused r) l = record { check = Refused r; entries = noStops; count = 0 }
+
+unfoldable pub nearestOf : List ℕ → Stops
+unfolding nearestOn
+nearestOf s = stopsUnless (checkOf s) (nearestOn s)
