@@ -6,7 +6,7 @@ use Prim.Native.Nat.{ℕ, zero, suc, _+_, _*_, _-_, _<_, _≤_, min}
 use native.Mathlib.Nat.{suc-mul, mul-le-mul-right, mul-le-mul}
 use native.Mathlib.Numerals.{add-one}
 use native.Mathlib.Omega.{arith}
-use lib.Dec.{ltb, leb, eqb}
+use lib.Dec.{ltb, leb}
 use lib.ListN.{length, getD, take, replicate, set, length-append, length-take, length-replicate, getD-replicate}
 use lib.Ieee.{Float}
 use lib.Seq.{paste, paste-suc, take-all, take-append-seam}

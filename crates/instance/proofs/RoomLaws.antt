@@ -1,12 +1,12 @@
 -- Lists in rooms of fixed size: what is added to one, and how points come to stand as numbers. Assumes nothing.
-use mathlib.Core.Path.{_≡_, refl, sym, ap, _∙_}
-use mathlib.Core.List.{List, [], _∷_, _++_, append-assoc, append-nil}
+use mathlib.Core.Path.{_≡_, refl, ap, _∙_}
+use mathlib.Core.List.{List, [], _∷_, _++_}
 use Prim.Native.Nat.{ℕ, zero, suc, _+_, _*_, _-_, _<_, _≤_}
-use native.Mathlib.Nat.{add-zero, add-suc, sub-zero, zero-sub}
-use native.Mathlib.Numerals.{add-one, add-two}
+use native.Mathlib.Nat.{sub-zero, zero-sub}
+use native.Mathlib.Numerals.{add-one}
 use native.Mathlib.Omega.{arith}
 use lib.ListN.{length, take, drop, set, replicate, length-append, length-replicate}
-use lib.Seq.{paste, sets, sets-eq, take-append-seam, take-at, drop-append-add, drop-nil, length-take-le, set-at}
+use lib.Seq.{paste, sets-eq, take-append-seam, take-at, drop-append-add, length-take-le}
 use lib.Ieee.{Float}
 use Rattle.answer.specs.declared.Point.{Point}
 use Rattle.cost.specs.Points.{points}

@@ -3,7 +3,6 @@ use mathlib.Core.Path.{_≡_, refl, sym, ap, _∙_}
 use mathlib.Core.List.{List, [], _∷_}
 use Prim.Native.Nat.{ℕ, zero, suc, _+_, _-_, _≤_, _<_}
 use native.Mathlib.Nat.{not-suc-le-zero, le-of-suc-le-suc}
-use native.Mathlib.Numerals.{add-one}
 use native.Mathlib.Omega.{arith}
 use lib.Dec.{leb}
 use lib.ListN.{length, getD}
@@ -23,14 +22,13 @@ use Rattle.card.specs.Verdict.{checkOf}
 use Rattle.card.proofs.GroupLaws.{last-stage}
 use Rattle.instance.specs.declared.Instance.{Instance}
 use Rattle.instance.specs.Room.{instanceOf}
-use Rattle.instance.specs.Gather.{gathered}
 use Rattle.instance.proofs.OwnerLaws.{gathered-grows, first-at}
 use Rattle.tour.specs.Search.{candidatesOn, countOn, firstsOn}
 use Rattle.tour.specs.Questions.{numberCheck}
 use Rattle.tour.proofs.RunLaws.{count-on, contours-on, items-on, first-on}
 use Rattle.questions.specs.declared.Picked.{Picked}
 use Rattle.questions.specs.declared.Picked.the-variants as picked
-use Rattle.questions.specs.Index.{pickedUnless, pickedOf, sizeOn, localCheck, countUnless, globalOf}
+use Rattle.questions.specs.Index.{pickedUnless, pickedOf, localCheck, countUnless, globalOf}
 
 -- an element of a list is the same whatever stands past the end
 any-default : {A : Type 0} (l : List A) (a : ℕ) (d e : A) → a < length l → getD l a d ≡ getD l a e

@@ -1,9 +1,8 @@
 -- What is wrong with a given order, as the code finds it, and how long the order is. Assumes nothing.
 use mathlib.Core.Path.{_≡_, refl, sym, ap, _∙_}
-use mathlib.Core.Bool.{Bool, true, false, not, _||_}
+use mathlib.Core.Bool.{Bool, true, false, _||_}
 use mathlib.Core.List.{List, [], _∷_}
-use Prim.Native.Nat.{ℕ, _+_, _*_, _≤_, _<_}
-use native.Mathlib.Omega.{arith}
+use Prim.Native.Nat.{ℕ, _*_, _≤_, _<_}
 use lib.Dec.{eqb, leb}
 use lib.ListN.{length, getD, take, replicate, length-replicate}
 use lib.Ieee.{Float}
@@ -13,11 +12,10 @@ use Rattle.answer.specs.declared.Found.the-variants.{At, Absent}
 use Rattle.answer.specs.declared.Check.{Check}
 use Rattle.answer.specs.declared.Check.the-variants.{Fine, Refused}
 use Rattle.answer.specs.declared.Refusal.{Refusal}
-use Rattle.answer.specs.Lowest.{lowest, refuseAt}
+use Rattle.answer.specs.Lowest.{lowest}
 use Rattle.answer.specs.Stage.{firstRefusal}
 use Rattle.cost.specs.declared.Measured.{Measured}
 use Rattle.cost.specs.declared.Measured.the-variants as measured
-use Rattle.cost.specs.Bad.{refuseIf}
 use Rattle.card.specs.Layout.{contoursOf}
 use Rattle.card.specs.Stages.{isAt}
 use Rattle.card.specs.Verdict.{checkOf}
@@ -28,7 +26,7 @@ use Rattle.table.specs.Distances.{entryLimit, tabled}
 use Rattle.instance.specs.declared.Instance.{Instance}
 use Rattle.instance.specs.Room.{instanceOf}
 use Rattle.tour.proofs.RunLaws.{entries-few, table-front, table-long, lent-whole, lent-within}
-use Rattle.improve.specs.Search.{contourOf, lengthIn}
+use Rattle.improve.specs.Search.{lengthIn}
 use Rattle.tour.specs.Search.{countOn, ownersOn, homesOn, tableOn, sheetOn}
 use Rattle.questions.specs.Order.{stopAt, metBefore, badStop, firstBadStop, orderCheck, measuredUnless, evaluated}
 

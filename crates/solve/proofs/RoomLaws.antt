@@ -1,5 +1,5 @@
 -- The tour's room through the search: the start writes its front, the improvement changes that part, and the rest is kept. Assumes nothing.
-use mathlib.Core.Path.{_≡_, refl, sym, ap, _∙_}
+use mathlib.Core.Path.{_≡_, sym, ap, _∙_}
 use mathlib.Core.List.{List, _++_}
 use Prim.Native.Nat.{ℕ, _≤_}
 use native.Mathlib.Omega.{arith}
@@ -7,10 +7,9 @@ use lib.ListN.{length, take, drop, length-append}
 use lib.Seq.{take-at, drop-at}
 use lib.Ieee.{Float}
 use Rattle.start.specs.Code.{Written}
-use Rattle.improve.specs.Search.{Sheet, State, lengthIn, searched}
+use Rattle.improve.specs.Search.{Sheet, lengthIn, searched}
 use Rattle.improve.specs.Code.{Reached}
-use Rattle.solve.specs.declared.Outcome.{Outcome}
-use Rattle.solve.specs.Solve.{startIn, endIn, outcomeIn, placed, Solved}
+use Rattle.solve.specs.Solve.{startIn, endIn, Solved}
 
 -- ---- after the start
 
@@ -44,16 +43,6 @@ module _ (tour room after : List ℕ) (made : ℕ) (w : Written tour room made a
 
     pub last-whole : made ≡ length (take made (last ++ drop made after))
     last-whole = sym as-long ∙ sym (ap length last-lent)
-
-    pub same-room : length after ≡ length room → length (last ++ drop made after) ≡ length room
-    same-room e =
-        let l = as-long in
-        let f = length-append last (drop made after) in
-        let g = length-append tour (drop (length tour) room) in
-        let b = ap length back in
-        let a = ap length (w .held) in
-        let m = w .counted in
-        omega arith
 
 module _ (sheet : Sheet) (n most limit : ℕ) (room after : List ℕ) (made : ℕ) (w : Written (startIn sheet n) room made after) (last : List ℕ) (k : length last ≡ length (take made after)) where
   pub solved : (moves : ℕ) (long : Float) → Reached moves last (searched sheet most limit (take made after))

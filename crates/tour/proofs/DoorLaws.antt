@@ -1,16 +1,15 @@
 -- The doors: which refusal is told, and that the parts of a room that were lent come back at their place. Assumes nothing.
 use mathlib.Core.Path.{_≡_, refl, sym, ap, _∙_}
-use mathlib.Core.Bool.{Bool, true, false}
-use mathlib.Core.List.{List, [], _∷_, _++_, append-assoc}
+use mathlib.Core.List.{List, _++_, append-assoc}
 use Prim.Native.Nat.{ℕ, _+_, _*_, _-_, _≤_, _<_}
 use native.Mathlib.Omega.{arith}
-use lib.Dec.{ltb, leb}
-use lib.ListN.{length, getD, take, drop, length-append, take-append-drop}
+use lib.Dec.{leb}
+use lib.ListN.{length, take, drop, length-append, take-append-drop}
 use lib.Seq.{drop-append-le, length-take-le}
 use native.Mathlib.Nat.{mul-le-mul}
 use Rattle.card.specs.Limits.{candidateLimit}
 use lib.Ieee.{Float}
-use borrow.Author.Tests.{lt-ltb, le-ltb, le-leb, lt-leb}
+use borrow.Author.Tests.{lt-ltb, le-ltb}
 use Rattle.answer.specs.declared.Check.{Check}
 use Rattle.answer.specs.declared.Check.the-variants.{Fine, Refused}
 use Rattle.answer.specs.declared.Refusal.{Refusal}
@@ -21,11 +20,10 @@ use Rattle.card.specs.Verdict.{checkOf}
 use Rattle.card.proofs.GroupLaws.{last-stage}
 use Rattle.solve.specs.declared.Outcome.{Outcome}
 use Rattle.solve.specs.Solve.{placed, Solved}
-use Rattle.tour.specs.declared.Toured.{Toured}
 use Rattle.tour.specs.declared.Toured.the-variants as answer
 use Rattle.tour.specs.declared.Located.{Located}
 use Rattle.tour.specs.declared.Located.the-variants as located
-use Rattle.tour.specs.Search.{countOn, tableOn, sheetOn, endOn, tourOn, outcomeOn}
+use Rattle.tour.specs.Search.{countOn, tableOn, sheetOn, endOn, tourOn}
 use Rattle.tour.specs.Tour.{Left, left, roomCheck, tourCheck, toured, touredUnless, tourOf}
 use Rattle.tour.specs.Questions.{numberCheck, placeOn, locatedUnless, locatedOf}
 

@@ -1,5 +1,5 @@
 -- Where a candidate is: what the gathered rooms say of it, and that this is the definition's place. Assumes nothing.
-use mathlib.Core.Path.{_≡_, refl, sym, ap, _∙_}
+use mathlib.Core.Path.{_≡_, sym, ap, _∙_}
 use mathlib.Core.List.{List}
 use Prim.Native.Nat.{ℕ, _+_, _-_, _≤_, _<_}
 use native.Mathlib.Omega.{arith}
@@ -16,7 +16,6 @@ use Rattle.card.proofs.Facts.{accepted}
 use Rattle.instance.specs.declared.Instance.{Instance}
 use Rattle.instance.specs.Room.{instanceOf}
 use Rattle.instance.proofs.OwnerLaws.{owner-below, first-before}
-use Rattle.tour.specs.declared.Located.{Located}
 use Rattle.tour.specs.declared.Located.the-variants as located
 use Rattle.tour.specs.Search.{countOn, ownersOn, firstsOn}
 use Rattle.tour.specs.Questions.{placeOn, locatedUnless}

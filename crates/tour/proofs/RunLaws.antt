@@ -1,19 +1,18 @@
 -- What an accepted card hands to the search: each part that is lent is what the definition reads. Assumes nothing.
-use mathlib.Core.Path.{_≡_, refl, sym, ap, subst, _∙_}
-use mathlib.Core.Bool.{true, cond, _&&_}
-use mathlib.Core.List.{List, [], _∷_, _++_, append-nil}
+use mathlib.Core.Path.{_≡_, sym, ap, subst, _∙_}
+use mathlib.Core.List.{List, append-nil}
 use Prim.Native.Nat.{ℕ, _+_, _*_, _≤_, _<_}
 use native.Mathlib.Nat.{mul-le-mul}
 use native.Mathlib.Omega.{arith}
-use lib.Dec.{leb, lit<}
-use lib.ListN.{length, take, drop, replicate, length-take}
+use lib.Dec.{lit<}
+use lib.ListN.{length, take, drop, length-take}
 use lib.Seq.{take-at, drop-length}
 use lib.Ieee.{Float}
 use borrow.Author.Tests.{le-leb, le-ltb}
 use Rattle.answer.specs.declared.Check.the-variants.{Fine}
 use Rattle.answer.specs.declared.Point.{Point}
 use Rattle.closure.specs.Limits.{CONTOURS, PAIRS}
-use Rattle.card.specs.Limits.{candidateLimit, passLimit}
+use Rattle.card.specs.Limits.{candidateLimit}
 use Rattle.card.specs.Layout.{contoursOf, pairsOf, passesOf, moveLimitOf}
 use Rattle.card.specs.declared.Named.{Named}
 use Rattle.card.specs.Names.{namedPairs, namedOf}

@@ -1,6 +1,5 @@
 -- `replay::read_some` meets its contract. Assumes nothing.
-use mathlib.Core.Path.{sym, _∙_}
-use native.Mathlib.Omega.{arith}
+use mathlib.Core.Path.{sym}
 use lib.Seq.{length-take-le}
 use Rattle.replay.proofs.CountLaws.{counts-on}
 use borrow.Author.Needs.{needs}

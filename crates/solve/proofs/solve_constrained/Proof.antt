@@ -1,5 +1,5 @@
 -- `solve::solve_constrained` meets its contract. Assumes nothing.
-use Rattle.solve.proofs.RoomLaws.{made-within, made-whole, last-within, last-whole, same-room, solved}
+use Rattle.solve.proofs.RoomLaws.{made-within, made-whole, last-within, last-whole, solved}
 use borrow.Author.Needs.{needs}
 use Rattle.solve.proofs.solve_constrained.Statement.{statement}
 use Rattle.solve.proofs.solve_constrained.Tie as tie

@@ -1,5 +1,4 @@
 -- `tour::jl_place` meets its contract. Assumes nothing.
-use mathlib.Core.Path.{sym}
 use Rattle.tour.proofs.HostLaws.{place-told-refused, place-told}
 use borrow.Author.Needs.{needs}
 use Rattle.tour.proofs.jl_place.Statement.{statement}
