@@ -2,7 +2,7 @@
 -- defined; a move limit cuts that search after so many trials and changes nothing else; and the length told is evaluated from the tour
 -- handed out. Assumes nothing.
 use mathlib.Core.Path.{_≡_}
-use mathlib.Core.Bool.{true, false, _&&_}
+use mathlib.Core.Bool.{true, false}
 use mathlib.Core.Logic.{_⊎_}
 use mathlib.Core.List.{List, _++_}
 use Prim.Native.Nat.{ℕ, suc, _+_, _*_, _≤_, _<_}
@@ -17,7 +17,7 @@ use Rattle.card.specs.Layout.{contoursOf, passesOf, moveLimitOf}
 use Rattle.card.specs.Card.{cardOf, contourOf}
 use Rattle.table.specs.Evaluate.{distanceAt, lengthOf}
 use Rattle.table.specs.Distances.{absent, pierced, left}
-use Rattle.improve.specs.Search.{State, contours, lengthIn, legal, shorter, swap, reversed, flip, searched}
+use Rattle.improve.specs.Search.{State, contours, lengthIn, legal, shorter, swap, reversed, flip, begun, searched}
 use Rattle.improve.proofs.PrefixLaws.{After}
 use Rattle.solve.specs.declared.Outcome.{Outcome}
 use Rattle.tour.specs.declared.Toured.the-variants.{Done}
@@ -29,14 +29,18 @@ use Rattle.demands.specs.Demand1.{LegalOrder}
 
 -- the candidates of contour k: those of its vertices, c of them, cut in the direction that the card asks for
 abbrev pub ownOn : List ℕ → ℕ → List Candidate
-ownOn s k = candidatesOf (directionOf (contourOf s k .kind) (cardOf s .exterior) (cardOf s .interior)) (contourOf s k .vertices) (cardOf s .per-contour)
+ownOn s k =
+    let contour = contourOf s k in
+    let card = cardOf s in
+    candidatesOf (directionOf (contour .kind) (card .exterior) (card .interior)) (contour .vertices) (card .per-contour)
 
 -- the candidates are numbered contour after contour, each contour's in their order
 pub record Numbered (s : List ℕ) : Type 0 where
   pub first : getD (firstsOn s) 0 0 ≡ 0
   pub next : (k : ℕ) → k < contoursOf s → getD (firstsOn s) (suc k) 0 ≡ getD (firstsOn s) k 0 + length (ownOn s k)
   pub all : countOn s ≡ getD (firstsOn s) (contoursOf s) 0
-  pub own : (k j : ℕ) → k < contoursOf s → j < length (ownOn s k) → getD (candidatesOn s) (getD (firstsOn s) k 0 + j) absent ≡ getD (ownOn s k) j absent
+  pub own : (k j : ℕ) → k < contoursOf s → j < length (ownOn s k)
+      → getD (candidatesOn s) (getD (firstsOn s) k 0 + j) absent ≡ getD (ownOn s k) j absent
   pub owner : (k j : ℕ) → k < contoursOf s → j < length (ownOn s k) → getD (ownersOn s) (getD (firstsOn s) k 0 + j) 0 ≡ k
 
 -- from candidate a's end point to candidate b's point; the largest float where both are of one contour
@@ -47,20 +51,35 @@ pub record Apart (s : List ℕ) (a b : ℕ) : Type 0 where
 
 -- ---- trials
 
--- a trial is accepted if it is shorter by more than 1e-10 and, for a reversal, legal; then its tour and its length are held. If not, a
+-- the length of a tour of the card
+abbrev pub longOn : List ℕ → List ℕ → Float
+longOn s tour = lengthIn (sheetOn s) tour
+
+-- the two trials: candidate a at position p, where `held` was held when its turn began; and the stretch from i+1 to j reversed
+abbrev pub otherOn : List ℕ → ℕ → ℕ → ℕ → State → State
+otherOn s p held a v = swap (longOn s) p held a v
+
+abbrev pub reversalOn : List ℕ → ℕ → ℕ → State → State
+reversalOn s i j v = flip (longOn s) (legal (sheetOn s)) i j v
+
+-- a trial leaves this tour, this length to beat, and so many trials made
+pub record Leaves (after : State) (tour : List ℕ) (cost : Float) (moves : ℕ) : Type 0 where
+  pub tour-is : after .tour ≡ tour
+  pub cost-is : after .cost ≡ cost
+  pub moves-is : after .moves ≡ moves
+
+-- a trial is accepted if it is shorter by more than 1e-10 and, for a reversal, legal: its tour and its length are then held. If not, a
 -- candidate gives the position back the one held when its turn began, a reversal the tour as it was, and the length stays. Each counts one
 pub record Trials (s : List ℕ) (v : State) : Type 0 where
-  pub other-taken : (p held a : ℕ) → shorter (lengthIn (sheetOn s) (set (v .tour) p a)) (v .cost) ≡ true
-      → (swap (lengthIn (sheetOn s)) p held a v .tour ≡ set (v .tour) p a) × (swap (lengthIn (sheetOn s)) p held a v .cost ≡ lengthIn (sheetOn s) (set (v .tour) p a))
-  pub other-left : (p held a : ℕ) → shorter (lengthIn (sheetOn s) (set (v .tour) p a)) (v .cost) ≡ false
-      → (swap (lengthIn (sheetOn s)) p held a v .tour ≡ set (v .tour) p held) × (swap (lengthIn (sheetOn s)) p held a v .cost ≡ v .cost)
-  pub other-counts : (p held a : ℕ) → swap (lengthIn (sheetOn s)) p held a v .moves ≡ suc (v .moves)
-  pub reversal-taken : (i j : ℕ) → (shorter (lengthIn (sheetOn s) (reversed i j (v .tour))) (v .cost) && legal (sheetOn s) (reversed i j (v .tour))) ≡ true
-      → (flip (lengthIn (sheetOn s)) (legal (sheetOn s)) i j v .tour ≡ reversed i j (v .tour))
-      × (flip (lengthIn (sheetOn s)) (legal (sheetOn s)) i j v .cost ≡ lengthIn (sheetOn s) (reversed i j (v .tour)))
-  pub reversal-left : (i j : ℕ) → (shorter (lengthIn (sheetOn s) (reversed i j (v .tour))) (v .cost) && legal (sheetOn s) (reversed i j (v .tour))) ≡ false
-      → (flip (lengthIn (sheetOn s)) (legal (sheetOn s)) i j v .tour ≡ v .tour) × (flip (lengthIn (sheetOn s)) (legal (sheetOn s)) i j v .cost ≡ v .cost)
-  pub reversal-counts : (i j : ℕ) → flip (lengthIn (sheetOn s)) (legal (sheetOn s)) i j v .moves ≡ suc (v .moves)
+  pub other-taken : (p held a : ℕ) → shorter (longOn s (set (v .tour) p a)) (v .cost) ≡ true
+      → Leaves (otherOn s p held a v) (set (v .tour) p a) (longOn s (set (v .tour) p a)) (suc (v .moves))
+  pub other-left : (p held a : ℕ) → shorter (longOn s (set (v .tour) p a)) (v .cost) ≡ false
+      → Leaves (otherOn s p held a v) (set (v .tour) p held) (v .cost) (suc (v .moves))
+  pub reversal-taken : (i j : ℕ) → shorter (longOn s (reversed i j (v .tour))) (v .cost) ≡ true → legal (sheetOn s) (reversed i j (v .tour)) ≡ true
+      → Leaves (reversalOn s i j v) (reversed i j (v .tour)) (longOn s (reversed i j (v .tour))) (suc (v .moves))
+  pub reversal-longer : (i j : ℕ) → shorter (longOn s (reversed i j (v .tour))) (v .cost) ≡ false
+      → Leaves (reversalOn s i j v) (v .tour) (v .cost) (suc (v .moves))
+  pub reversal-illegal : (i j : ℕ) → legal (sheetOn s) (reversed i j (v .tour)) ≡ false → Leaves (reversalOn s i j v) (v .tour) (v .cost) (suc (v .moves))
 
 -- ---- the limit
 
@@ -68,12 +87,19 @@ pub record Trials (s : List ℕ) (v : State) : Type 0 where
 abbrev pub searchOn : List ℕ → ℕ → State
 searchOn s limit = searched (sheetOn s) (passesOf s) limit (startOn s)
 
--- a limit that the search does not need changes nothing; another cuts it after exactly so many trials, and without it the search makes
--- more trials from there on; without a limit it is never cut; and where no pass is allowed or there are fewer than three contours, it
--- stays at the start and makes no trial
+-- the state in which a search begins: the start, and its length
+abbrev pub begunOn : List ℕ → State
+begunOn s = begun (sheetOn s) (startOn s)
+
+-- the trials counted were made, from the start on. A limit that the search does not need changes nothing; another cuts it after exactly so
+-- many trials, a limit higher by one lets it make one trial more, and without a limit it goes on from there and is never cut. Where no pass
+-- is allowed or there are fewer than three contours, it stays at the start and makes no trial
 pub record Cut (s : List ℕ) : Type 0 where
+  pub made : (M : ℕ) → After (sheetOn s) (begunOn s) (searchOn s M .moves) (searchOn s M)
   pub enough : (M : ℕ) → searchOn s 0 .moves ≤ M → searchOn s M ≡ searchOn s 0
-  pub cut : (M : ℕ) → 0 < M → M < searchOn s 0 .moves → (searchOn s M .moves ≡ M) × ((k : ℕ) × After (sheetOn s) (searchOn s M) (suc k) (searchOn s 0))
+  pub cut : (M : ℕ) → 0 < M → M < searchOn s 0 .moves
+      → (searchOn s M .moves ≡ M) × ((k : ℕ) × After (sheetOn s) (searchOn s M) (suc k) (searchOn s 0))
+  pub one-more : (M : ℕ) → 0 < M → M < searchOn s 0 .moves → After (sheetOn s) (searchOn s M) 1 (searchOn s (suc M))
   pub unlimited : searchOn s 0 .cut ≡ false
   pub idle : (M : ℕ) → (passesOf s ≡ 0) ⊎ (contoursOf s < 3) → (searchOn s M .tour ≡ startOn s) × (searchOn s M .moves ≡ 0)
 
