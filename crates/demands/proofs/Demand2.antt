@@ -34,6 +34,7 @@ use Rattle.tour.specs.Search.{candidatesOn, countOn, ownersOn, sheetOn, startOn
 use Rattle.tour.specs.Tour.{Left, tourOf}
 use Rattle.demands.specs.Demand2.{ownOn, Numbered, Apart, Trials, searchOn, begunOn, Cut, Claim}
 use Rattle.demands.proofs.AskedLaws.{toured-if, done-fine, fine-nothing}
+use Rattle.demands.proofs.NextLaws.{starts}
 use Rattle.demands.proofs.TourLaws.{start-long, tour-long, tour-legal}
 
 -- ---- candidates
@@ -216,6 +217,7 @@ claim s room table told h =
     record {
       numbered = numbered s fine;
       apart = apart s;
+      starts = starts s fine;
       trials = trials s;
       limit = limit s fine;
       told-so = record {

@@ -4,9 +4,10 @@
 use mathlib.Core.Path.{_≡_}
 use mathlib.Core.Bool.{true, false}
 use mathlib.Core.Logic.{_⊎_}
-use mathlib.Core.List.{List, _++_}
+use mathlib.Core.List.{List, [], _∷_, _++_}
 use Prim.Native.Nat.{ℕ, suc, _+_, _*_, _≤_, _<_}
-use lib.Ieee.{Float}
+use lib.Dec.{T}
+use lib.Ieee.{Float, lt, le}
 use lib.ListN.{length, getD, set, take, drop}
 use Rattle.cost.specs.Closest.{huge}
 use Rattle.cost.specs.Distance.{distanceOf}
@@ -17,11 +18,14 @@ use Rattle.card.specs.Layout.{contoursOf, passesOf, moveLimitOf}
 use Rattle.card.specs.Card.{cardOf, contourOf}
 use Rattle.table.specs.Evaluate.{distanceAt, lengthOf}
 use Rattle.table.specs.Distances.{absent, pierced, left}
+use Rattle.table.specs.Each.{each}
+use Rattle.start.specs.Nearest.{Way, reachOf, lastOf, isOpen, step, setOut}
 use Rattle.improve.specs.Search.{State, contours, lengthIn, legal, shorter, swap, reversed, flip, begun, searched}
 use Rattle.improve.proofs.PrefixLaws.{After}
 use Rattle.solve.specs.declared.Outcome.{Outcome}
+use Rattle.solve.specs.Solve.{groundIn}
 use Rattle.tour.specs.declared.Toured.the-variants.{Done}
-use Rattle.tour.specs.Search.{candidatesOn, countOn, ownersOn, firstsOn, homesOn, tableOn, sheetOn, startOn}
+use Rattle.tour.specs.Search.{candidatesOn, countOn, ownersOn, firstsOn, pairsOn, homesOn, tableOn, sheetOn, startOn}
 use Rattle.tour.specs.Tour.{tourOf}
 use Rattle.demands.specs.Demand1.{LegalOrder}
 
@@ -48,6 +52,38 @@ pub record Apart (s : List ℕ) (a b : ℕ) : Type 0 where
   pub same : getD (ownersOn s) a 0 ≡ getD (ownersOn s) b 0 → distanceAt (tableOn s) (countOn s) a b ≡ huge
   pub other : (getD (ownersOn s) a 0 ≡ getD (ownersOn s) b 0 → ⊥)
       → distanceAt (tableOn s) (countOn s) a b ≡ distanceOf (left (getD (candidatesOn s) a absent)) (pierced (getD (candidatesOn s) b absent))
+
+-- ---- the start
+
+-- how far the start has come after p steps: its tour, and a flag for each contour visited
+abbrev pub wayOn : List ℕ → ℕ → Way
+wayOn s p = each (step (groundIn (sheetOn s)) (contoursOf s)) p 0 setOut
+
+-- how far candidate a is from there: from home at first, then from the last candidate
+abbrev pub reachOn : List ℕ → Way → ℕ → Float
+reachOn s w a = reachOf (homesOn s) (tableOn s) (countOn s) (length (w .tour)) (lastOf (w .tour)) a
+
+-- candidate b is one of an open contour: one not visited whose predecessors all are
+pub record Ready (s : List ℕ) (w : Way) (b : ℕ) : Type 0 where
+  pub contour : ℕ
+  pub is-contour : contour < contoursOf s
+  pub is-open : isOpen (w .visited) (pairsOn s) contour ≡ true
+  pub from : getD (firstsOn s) contour 0 ≤ b
+  pub to : b < getD (firstsOn s) (suc contour) 0
+
+-- a step takes candidate a: of those that are ready none is nearer, and none before it, by contour and then by candidate, is as near; it
+-- comes to the end of the tour, and its contour is visited
+pub record Takes (s : List ℕ) (w after : Way) (a : ℕ) : Type 0 where
+  pub ready : Ready s w a
+  pub least : (b : ℕ) → Ready s w b → T (le (reachOn s w a) (reachOn s w b))
+  pub first : (b : ℕ) → Ready s w b → b < a → lt (reachOn s w a) (reachOn s w b) ≡ true
+  pub put : after .tour ≡ w .tour ++ (a ∷ [])
+  pub marked : after .visited ≡ set (w .visited) (ready .contour) 1
+
+-- a step for each contour
+pub record Starts (s : List ℕ) : Type 0 where
+  pub steps : (p : ℕ) → p < contoursOf s → (a : ℕ) × Takes s (wayOn s p) (wayOn s (suc p)) a
+  pub whole : startOn s ≡ wayOn s (contoursOf s) .tour
 
 -- ---- trials
 
@@ -117,6 +153,7 @@ pub record Told (s room : List ℕ) (table : List Float) (told : Outcome) : Type
 pub record Follows (s room : List ℕ) (table : List Float) (told : Outcome) : Type 0 where
   pub numbered : Numbered s
   pub apart : (a b : ℕ) → a < countOn s → b < countOn s → Apart s a b
+  pub starts : Starts s
   pub trials : (v : State) → Trials s v
   pub limit : Cut s
   pub told-so : Told s room table told
