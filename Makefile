@@ -1,5 +1,6 @@
 # The proofs are rt's; this file joins them with what is built around them in Rust and C.
 #   make               proves every crate and builds the programs
+#   make job           proves the program cutlist and prints the list of CARD
 #   make test          the gate (rt ci), then every test on what it proved; the last line is the gate's own
 #   make differential  the comparisons in full size          make bench   the speed figures
 #   make soak SECONDS=600 SEED=7   comparisons from a seed for a time
@@ -10,6 +11,7 @@
 # The folder of the Rust original, from the top of the repository.
 U_NESTING_SRC ?= ../shared/docs/src/crates/cutting/src
 export U_NESTING_SRC
+CARD ?= examples/job-41.card
 SEED ?= 1
 SECONDS ?= 600
 # The part of the full comparisons that `make test` runs.
@@ -18,15 +20,17 @@ PERCENT ?= 5
 CARGO = cargo
 # Without the original the comparisons with it are left out, and say so.
 ORIGINAL = $(if $(wildcard $(U_NESTING_SRC)/gtsp.rs),--features original)
-# The hosts call the crate tour.
-TOUR = $(shell grep '^tour:' crates.txt)
 TEST = $(CARGO) test --release --offline --quiet
 ORACLE = $(CARGO) run --release --offline --quiet --package oracle $(ORIGINAL) --bin
 
-.PHONY: all test hosts no-cargo archives differential bench soak fuzz examples fmt
+.PHONY: all job test hosts no-cargo archives differential bench soak fuzz examples fmt
 
 all:
 	rt check
+
+job:
+	rt check cutlist
+	hosts/native/run.sh cutlist <$(CARD)
 
 # The gate starts from nothing and leaves what it proved, so that the archives below need no second proof. Its last line
 # is said again at the end; whatever fails before ends the run.
@@ -38,7 +42,7 @@ test:
 
 hosts: archives
 	$(TEST) --package oracle $(ORIGINAL)
-	$(if $(TOUR),$(TEST) --package jambolive,@echo 'Rust host: left out, no crate tour yet')
+	$(TEST) --package jambolive
 	hosts/c/test.sh
 	$(ORACLE) differential -- --seed $(SEED) --percent $(PERCENT)
 
@@ -54,7 +58,7 @@ differential: archives
 
 bench: archives
 	$(ORACLE) bench
-	$(if $(TOUR),$(CARGO) bench --offline --quiet --package jambolive --bench calls,@echo 'Rust host: left out, no crate tour yet')
+	$(CARGO) bench --offline --quiet --package jambolive --bench calls
 
 soak: archives
 	$(ORACLE) differential -- --seed $(SEED) --percent 1 --seconds $(SECONDS)

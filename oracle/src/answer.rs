@@ -43,24 +43,41 @@ pub fn contour(c: &Contour) -> CutContour {
     }
 }
 
+/// What the original is asked about a card.
+fn asked(card: &Card) -> (Vec<CutContour>, CuttingDag, CuttingConfig) {
+    let config = CuttingConfig {
+        exterior_direction: preference(card.exterior),
+        interior_direction: preference(card.interior),
+        ..CuttingConfig::new()
+            .with_pierce_candidates(usize::from(card.c))
+            .with_max_2opt_iterations(usize::from(card.passes))
+            .with_time_limit_ms(0)
+    };
+    let contours: Vec<CutContour> = card.contours.iter().map(contour).collect();
+    let pairs = card.pairs.iter().map(|p| (p.before.0 as usize, p.after.0 as usize)).collect();
+    let dag = CuttingDag::from_pairs(contours.len(), pairs);
+    (contours, dag, config)
+}
+
+/// The original as it is, from a card's fields to the tour and its length: what the speed of a tour is held against.
+pub fn solved(card: &Card) -> (Vec<usize>, f64) {
+    let (contours, dag, config) = asked(card);
+    let clusters = gtsp::discretize_contours(&contours, &config).unwrap();
+    let instance = gtsp::build_gtsp_instance(clusters, card.home);
+    let tour = gtsp::solve_constrained(&instance, &dag, &config);
+    let length = gtsp::evaluate_solution(&instance, &tour);
+    (tour, length)
+}
+
 impl Problem {
     pub fn of(card: &Card) -> Problem {
-        let config = CuttingConfig {
-            exterior_direction: preference(card.exterior),
-            interior_direction: preference(card.interior),
-            ..CuttingConfig::new()
-                .with_pierce_candidates(usize::from(card.c))
-                .with_max_2opt_iterations(usize::from(card.passes))
-                .with_time_limit_ms(0)
-        };
-        let contours: Vec<CutContour> = card.contours.iter().map(contour).collect();
-        let pairs = card.pairs.iter().map(|p| (p.before.0 as usize, p.after.0 as usize)).collect();
+        let (contours, dag, config) = asked(card);
         let clusters = gtsp::discretize_contours(&contours, &config).unwrap();
         let again = counted::discretize_contours(&contours, &config).unwrap();
         Problem {
             instance: gtsp::build_gtsp_instance(clusters, card.home),
             counted: counted::build_gtsp_instance(again, card.home),
-            dag: CuttingDag::from_pairs(contours.len(), pairs),
+            dag,
             config,
         }
     }

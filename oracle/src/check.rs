@@ -2,7 +2,6 @@
 //! and leaves every lent byte alone.
 
 use crate::doors::refused;
-#[cfg(has_tour)]
 use crate::exports::{self, Left};
 use crate::generate::{damaged, mutated};
 use crate::random::Random;
@@ -27,13 +26,7 @@ fn one(bytes: &[u8], seen: &[AtomicU64; 13]) -> Result<u64, String> {
     exported(bytes, code)
 }
 
-#[cfg(not(has_tour))]
-fn exported(_: &[u8], _: u64) -> Result<u64, String> {
-    Ok(1)
-}
-
 /// The exports answer the same, and a refused tour leaves everything as it was.
-#[cfg(has_tour)]
 fn exported(bytes: &[u8], code: u64) -> Result<u64, String> {
     const ENOUGH: usize = 40;
     same(|| "jl_check".to_string(), exports::check(bytes), code)?;

@@ -54,3 +54,10 @@ pub fn tour(card: &[u8], room: usize) -> Result<Left, String> {
     }
     Ok(Left { code, room: bytes[AROUND..AROUND + room].to_vec(), moves, length })
 }
+
+/// Asks where a candidate is: the answer, then the contour and the number within it.
+pub fn place(card: &[u8], candidate: u64) -> (u64, u64, u64) {
+    let (mut contour, mut within) = (UNTOUCHED, UNTOUCHED);
+    let code = unsafe { jl_place(card.as_ptr(), card.len(), candidate, &mut contour, &mut within) };
+    (code, contour, within)
+}

@@ -1,12 +1,21 @@
-//! Good cards against the original: tour, moves and length, and the room's rest. Rooms that are too small
-//! are refused.
+//! Good cards against the original: tour, moves and length, the room's rest, where a candidate is, and the list that the Rust
+//! host prints. Rooms that are too small are refused.
 
 use crate::answer::Problem;
 use crate::doors::refused;
-use crate::exports::{Left, check, tour};
+use crate::exports::{Left, UNTOUCHED, check, place, tour};
 use crate::generate::{good, limit_near};
 use crate::random::Random;
 use crate::run::{Wanted, cases, same};
+
+/// The contour of a candidate and its number within, or 15 where the card has no such candidate.
+fn place_due(problem: &Problem, candidate: u64) -> (u64, u64, u64) {
+    if candidate >= problem.instance.total_candidates as u64 {
+        return (refused(15, candidate), UNTOUCHED, UNTOUCHED);
+    }
+    let (contour, within) = problem.instance.global_to_local(candidate as usize);
+    (0, contour as u64, within as u64)
+}
 
 fn one(r: &Random) -> Result<u64, String> {
     let mut card = good(r);
@@ -25,7 +34,10 @@ fn one(r: &Random) -> Result<u64, String> {
         same(what, &found.tour, &problem.unlimited())?;
     }
     let room = n + r.below(3) as usize;
-    same(what, tour(&bytes, room)?, Left::accepted(&found.tour, found.moves, found.length, room))
+    same(what, tour(&bytes, room)?, Left::accepted(&found.tour, found.moves, found.length, room))?;
+    let candidate = r.pick(&[r.below(80), r.below(1 << 32), problem.instance.total_candidates as u64]);
+    same(what, place(&bytes, candidate), place_due(&problem, candidate))?;
+    same(what, jambolive::list(&bytes), problem.list(&card, &found))
 }
 
 pub fn compare(wanted: Wanted) -> bool {

@@ -101,15 +101,10 @@ fn search() {
     );
 }
 
-#[cfg(not(feature = "original"))]
-fn search() {
-    println!("search: left out, the original is not at hand");
-}
-
 /// From a card's bytes, or for the original from its fields, to the tour.
-#[cfg(all(has_tour, feature = "original"))]
+#[cfg(feature = "original")]
 fn tour() {
-    use oracle::{answer::Problem, exports};
+    use oracle::{answer, exports};
     classes(
         "tour",
         |card| {
@@ -118,19 +113,19 @@ fn tour() {
         },
         |card| {
             let card = card.clone();
-            move || _ = std::hint::black_box(Problem::of(&card).unlimited())
+            move || _ = std::hint::black_box(answer::solved(&card))
         },
     );
-}
-
-#[cfg(not(all(has_tour, feature = "original")))]
-fn tour() {
-    println!("tour: left out, no crate tour yet, or the original is not at hand");
 }
 
 fn main() {
     root();
     check();
-    search();
-    tour();
+    #[cfg(feature = "original")]
+    {
+        search();
+        tour();
+    }
+    #[cfg(not(feature = "original"))]
+    println!("search, tour: left out, the original is not at hand");
 }
