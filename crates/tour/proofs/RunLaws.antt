@@ -24,7 +24,7 @@ use Rattle.card.proofs.GroupLaws.{named-stage, named-seats}
 use Rattle.card.proofs.NameLaws.{seats-length}
 use Rattle.card.specs.Verdict.{stagesOf, checkOf}
 use Rattle.card.proofs.Facts.{accepted}
-use Rattle.table.specs.Distances.{homed, tabled, homesOf, distancesOf}
+use Rattle.table.specs.Distances.{entryLimit, homed, tabled, homesOf, distancesOf}
 use Rattle.table.proofs.DistanceLaws.{homes-length, distances-length}
 use Rattle.instance.specs.declared.Instance.{Instance}
 use Rattle.instance.specs.Room.{instanceOf}
@@ -58,7 +58,7 @@ module _ (s : List ℕ) (fine : checkOf s ≡ Fine) (all : Instance) (is : all �
   pub few-on : all .count ≤ candidateLimit
   few-on = let f = few-candidates s fine in let e = count-on in omega arith
 
-  items-on : take (all .count) (all .items) ≡ candidatesOn s
+  pub items-on : take (all .count) (all .items) ≡ candidatesOn s
   items-on = ap (λ (a : Instance). take (a .count) (a .items)) is ∙ items-lent s fine
 
   pub owner-on : take (all .count) (all .owner) ≡ ownersOn s
@@ -116,6 +116,25 @@ module _ (s : List ℕ) (fine : checkOf s ≡ Fine) (all : Instance) (is : all �
       let size : t * t ≡ length room = rw count-on (sym l) in
       e
       ∙ rw (le-leb t candidateLimit few-on, le-leb (t * t) (length room) (omega arith), items-on, o, size, drop-length room) (append-nil (tableOn s))
+
+  -- they stand at the front of a larger one
+  pub table-front : (owner : List ℕ) (room after : List Float) → owner ≡ ownersOn s → all .count * all .count ≤ length room → after ≡ tabled (all .items) (all .count) owner room
+      → take (all .count * all .count) after ≡ tableOn s
+  unfolding tabled
+  table-front owner room after o l e =
+      let t = all .count in
+      let size : length (distancesOf (take t (all .items)) owner) ≡ t * t =
+      distances-length (take t (all .items)) owner ∙ ap (λ (k : ℕ). k * k) (ap length items-on ∙ sym count-on) in
+      ap (take (t * t)) e
+      ∙ rw (le-leb t candidateLimit few-on, le-leb (t * t) (length room) l)
+      (take-at (distancesOf (take t (all .items)) owner) (drop (t * t) room) (t * t) size ∙ rw (items-on, o))
+
+  pub table-long : length (tableOn s) ≡ all .count * all .count
+  table-long = distances-length (candidatesOn s) (ownersOn s) ∙ ap (λ (k : ℕ). k * k) (sym count-on)
+
+  -- a table of the largest size has room for them
+  pub entries-few : all .count * all .count ≤ entryLimit
+  entries-few = mul-le-mul {n₂ = candidateLimit} {m₂ = candidateLimit} few-on few-on
 
 -- the pairs' positions stand at the front of theirs
 pub pairs-on : (s : List ℕ) → checkOf s ≡ Fine → (named : Named) (m : ℕ) → named ≡ namedOf s → m ≡ pairsOf s → take (2 * m) (named .places) ≡ pairsOn s

@@ -50,7 +50,7 @@ fn wide(x: u8) -> usize
 }
 
 // How far each candidate is from home.
-fn homes_of(all: Instance, home: Point) -> [f64; CANDIDATES]
+pub fn homes_of(all: Instance, home: Point) -> [f64; CANDIDATES]
     ensures { λ r. ⌜ r ≡ homed (all .items) (all .count) home noDistances ⌝ }
 {
     let mut homes = [0.0; CANDIDATES];

@@ -1,0 +1,52 @@
+-- An order handed in for a card s, candidate numbers as bytes: what is wrong with it, and how long it is. Assumes nothing.
+use mathlib.Core.Bool.{Bool, not, _||_}
+use mathlib.Core.List.{List, [], _∷_}
+use Prim.Native.Nat.{ℕ}
+use lib.Dec.{eqb, leb}
+use lib.ListN.{length, getD}
+use Rattle.answer.specs.declared.Found.{Found}
+use Rattle.answer.specs.declared.Check.{Check}
+use Rattle.answer.specs.declared.Check.the-variants.{Fine, Refused}
+use Rattle.answer.specs.Lowest.{lowest, refuseAt}
+use Rattle.answer.specs.Stage.{firstRefusal}
+use Rattle.cost.specs.declared.Measured.{Measured}
+use Rattle.cost.specs.declared.Measured.the-variants as measured
+use Rattle.cost.specs.Bad.{refuseIf}
+use Rattle.card.specs.Layout.{contoursOf}
+use Rattle.card.specs.Stages.{isAt}
+use Rattle.card.specs.Verdict.{checkOf}
+use Rattle.improve.specs.Search.{contourOf, lengthIn}
+use Rattle.tour.specs.Search.{countOn, ownersOn, sheetOn}
+
+-- the contour of the stop at position p
+abbrev pub stopAt : List ℕ → List ℕ → ℕ → ℕ
+stopAt owner order p = contourOf owner (getD order p 0)
+
+-- its contour was met at an earlier position
+abbrev pub metBefore : List ℕ → List ℕ → ℕ → Bool
+metBefore owner order p = isAt (lowest (λ j. eqb (stopAt owner order j) (stopAt owner order p)) p)
+
+-- a number that no candidate has, or a contour met before
+abbrev pub badStop : List ℕ → ℕ → List ℕ → ℕ → Bool
+badStop owner t order p = leb t (getD order p 0) || metBefore owner order p
+
+-- the first bad position
+unfoldable pub firstBadStop : List ℕ → ℕ → List ℕ → Found
+unfolding lowest
+firstBadStop owner t order = lowest (badStop owner t order) (length order)
+
+-- 15: a length other than the number of contours; else the first bad position
+unfoldable pub orderCheck : List ℕ → List ℕ → Check
+unfolding firstRefusal firstBadStop
+orderCheck s order =
+    firstRefusal (refuseIf (not (eqb (length order) (contoursOf s))) 15 (length order) ∷ refuseAt 15 (firstBadStop (ownersOn s) (countOn s) order) ∷ [])
+
+-- the length, unless the check refuses
+abbrev pub measuredUnless : Check → List ℕ → List ℕ → Measured
+measuredUnless Fine s order = measured.Is (lengthIn (sheetOn s) order)
+measuredUnless (Refused r) s order = measured.Refused r
+
+-- the card's own refusals come first
+unfoldable pub evaluated : List ℕ → List ℕ → Measured
+unfolding firstRefusal orderCheck
+evaluated s order = measuredUnless (firstRefusal (checkOf s ∷ orderCheck s order ∷ [])) s order

@@ -1,0 +1,198 @@
+// Further questions on a card: how long a given order is, the start that no pair binds, and which candidate a number is. The card's own
+// refusals come first.
+ghost use mathlib.Core.Path.{_≡_};
+ghost use Rattle.answer.specs.declared.Check.the-variants.{Fine};
+ghost use Rattle.card.specs.Verdict.{checkOf};
+ghost use Rattle.cost.specs.Bad.{refuseIf};
+ghost use Rattle.candidates.specs.Generate.{blank};
+ghost use Rattle.instance.specs.Room.{instanceOf};
+ghost use Rattle.improve.specs.Search.{lengthIn};
+ghost use Prim.Native.Nat.{_+_};
+ghost use Rattle.tour.specs.Search.{candidatesOn, countOn, firstsOn, sheetOn};
+ghost use Rattle.questions.specs.Order.{stopAt, metBefore, badStop, firstBadStop, orderCheck, measuredUnless, evaluated};
+ghost use Rattle.questions.specs.Index.{pickedUnless, pickedOf, localCheck, countUnless, globalOf};
+ghost use lib.Dec.{leb};
+ghost use lib.ListN.{getD};
+use answer::Check;
+use answer::Found;
+use answer::Refusal;
+use candidates::Candidate;
+use cost::Measured;
+use hierarchy::Count;
+use instance::Instance;
+use table::ENTRIES;
+
+// The candidate asked for, or why there is none.
+pub enum Picked {
+    Is(Candidate),
+    Refused(Refusal),
+}
+
+// A byte as a position.
+fn wide(x: u8) -> usize
+    ensures { λ r. ⌜ r ≡ x ⌝ }
+{
+    x as usize
+}
+
+// ---- the length of a given order
+
+// The contour of the stop at position p.
+fn stop_at(owner: &[u8], order: &[u8], p: usize) -> u8
+    ensures { λ r. ⌜ r ≡ stopAt (now (owner .entry)) (now (order .entry)) p ⌝ }
+{
+    table::byte_at(owner, wide(table::byte_at(order, p)))
+}
+
+// Whether that contour was met before.
+fn met_before(owner: &[u8], order: &[u8], p: usize) -> bool
+    ensures { λ r. ⌜ r ≡ metBefore (now (owner .entry)) (now (order .entry)) p ⌝ }
+{
+    let k = stop_at(owner, order, p);
+    let mut j = 0;
+    while j < p {
+        if stop_at(owner, order, j) == k {
+            return true;
+        }
+        j += 1;
+    }
+    false
+}
+
+// Whether the stop at position p is no candidate's, or its contour's second.
+fn bad_stop(owner: &[u8], t: usize, order: &[u8], p: usize) -> bool
+    ensures { λ r. ⌜ r ≡ badStop (now (owner .entry)) t (now (order .entry)) p ⌝ }
+{
+    if t <= wide(table::byte_at(order, p)) {
+        return true;
+    }
+    met_before(owner, order, p)
+}
+
+// The first such position.
+fn first_bad_stop(owner: &[u8], t: usize, order: &[u8]) -> Found
+    ensures { λ r. ⌜ r ≡ firstBadStop (now (owner .entry)) t (now (order .entry)) ⌝ }
+{
+    let mut p = 0;
+    while p < order.len() {
+        if bad_stop(owner, t, order, p) {
+            return Found::At(p);
+        }
+        p += 1;
+    }
+    Found::Absent
+}
+
+// How long an order is on an accepted card.
+fn length_of(card: &[u8], all: Instance, order: &[u8]) -> f64
+    requires { ⌜ checkOf (now card) ≡ Fine ⌝ }
+    requires { ⌜ all ≡ instanceOf (now card) ⌝ }
+    ensures { λ r. ⌜ r ≡ lengthIn (sheetOn (now (card .entry))) (now (order .entry)) ⌝ }
+{
+    let homes = tour::homes_of(all, card::home(card));
+    let t = all.count;
+    let items = all.items;
+    let owner = all.owner;
+    let entries = t * t;
+    let mut distances = [0.0; ENTRIES];
+    table::fill_table(&mut distances, items, t, &owner[..t]);
+    table::evaluate_solution(&homes[..t], &distances[..entries], t as u8, order)
+}
+
+// The length of an order on an accepted card, if it is one.
+fn evaluated_on_fine(card: &[u8], order: &[u8]) -> Measured
+    requires { ⌜ checkOf (now card) ≡ Fine ⌝ }
+    ensures { λ r. ⌜ r ≡ measuredUnless (orderCheck (now (card .entry)) (now (order .entry))) (now (card .entry)) (now (order .entry)) ⌝ }
+{
+    let all = instance::gather(card);
+    let n = all.contours;
+    let t = all.count;
+    if order.len() != n {
+        return Measured::Refused(Refusal {
+            number: 15,
+            place: order.len(),
+        });
+    }
+    let owner = all.owner;
+    match first_bad_stop(&owner[..t], t, order) {
+        Found::At(p) => Measured::Refused(Refusal {
+            number: 15,
+            place: p,
+        }),
+        Found::Absent => Measured::Is(length_of(card, all, order)),
+    }
+}
+
+// The length of an order of candidate numbers on a card, evaluated as a tour's is.
+pub fn evaluate(card: &[u8], order: &[u8]) -> Measured
+    ensures { λ r. ⌜ r ≡ evaluated (now (card .entry)) (now (order .entry)) ⌝ }
+{
+    match card::check(card) {
+        Check::Refused(r) => Measured::Refused(r),
+        Check::Fine => evaluated_on_fine(card, order),
+    }
+}
+
+// ---- candidates by number
+
+// A candidate of an accepted card.
+fn candidate_of_fine(card: &[u8], number: usize) -> Picked
+    requires { ⌜ checkOf (now card) ≡ Fine ⌝ }
+    ensures { λ r. ⌜ r ≡ pickedUnless (refuseIf (leb (countOn (now (card .entry))) number) 15 number) (getD (candidatesOn (now (card .entry))) number blank) ⌝ }
+{
+    let all = instance::gather(card);
+    let t = all.count;
+    if t <= number {
+        return Picked::Refused(Refusal {
+            number: 15,
+            place: number,
+        });
+    }
+    let items = all.items;
+    Picked::Is(items[number])
+}
+
+// The candidate with a number.
+pub fn candidate(card: &[u8], number: usize) -> Picked
+    ensures { λ r. ⌜ r ≡ pickedOf (now (card .entry)) number ⌝ }
+{
+    match card::check(card) {
+        Check::Refused(r) => Picked::Refused(r),
+        Check::Fine => candidate_of_fine(card, number),
+    }
+}
+
+// The number over the whole of an accepted card.
+fn global_of_fine(card: &[u8], contour: usize, within: usize) -> Count
+    requires { ⌜ checkOf (now card) ≡ Fine ⌝ }
+    ensures { λ r. ⌜ r ≡ countUnless (localCheck (now (card .entry)) contour within) (getD (firstsOn (now (card .entry))) contour 0 + within) ⌝ }
+{
+    let all = instance::gather(card);
+    let n = all.contours;
+    if n <= contour {
+        return Count::Refused(Refusal {
+            number: 15,
+            place: contour,
+        });
+    }
+    let first = all.first;
+    let from = wide(first[contour]);
+    let end = wide(first[contour + 1]);
+    if end - from <= within {
+        return Count::Refused(Refusal {
+            number: 15,
+            place: within,
+        });
+    }
+    Count::Is(from + within)
+}
+
+// The number over the whole card of a contour's candidate.
+pub fn local_to_global(card: &[u8], contour: usize, within: usize) -> Count
+    ensures { λ r. ⌜ r ≡ globalOf (now (card .entry)) contour within ⌝ }
+{
+    match card::check(card) {
+        Check::Refused(r) => Count::Refused(r),
+        Check::Fine => global_of_fine(card, contour, within),
+    }
+}
