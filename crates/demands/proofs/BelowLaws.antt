@@ -94,7 +94,7 @@ below-kept sheet most limit t tour bound h =
 
 -- ---- the start
 
-step-below : (g : Ground) (n t i : ℕ) (w : Way) → ((k : ℕ) → getD (g .first) k 0 ≤ t) → AllBelow t (w .tour) → AllBelow t (step g n i w .tour)
+pub step-below : (g : Ground) (n t i : ℕ) (w : Way) → ((k : ℕ) → getD (g .first) k 0 ≤ t) → AllBelow t (w .tour) → AllBelow t (step g n i w .tour)
 unfolding step visit AllBelow
 step-below g n t i w bound h =
     let reach = reachOf (g .home) (g .table) (g .t) (length (w .tour)) (lastOf (w .tour)) in

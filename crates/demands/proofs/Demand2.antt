@@ -1,7 +1,7 @@
 -- Demand 2 holds. Assumes nothing.
-use mathlib.Core.Path.{_≡_, refl, sym, ap, _∙_}
+use mathlib.Core.Path.{_≡_, refl, sym, ap, _∙_, subst}
 use mathlib.Core.Logic.{_⊎_, inl, inr}
-use mathlib.Core.Bool.{false, true≢false, and-false}
+use mathlib.Core.Bool.{true, false, true≢false, and-false}
 use mathlib.Core.List.{List, [], _∷_, _++_}
 use Prim.Native.Nat.{ℕ, zero, suc, _+_, _≤_, _<_}
 use native.Mathlib.Omega.{arith}
@@ -13,7 +13,7 @@ use Rattle.answer.specs.declared.Point.{Point}
 use Rattle.answer.specs.declared.Check.the-variants.{Fine}
 use Rattle.candidates.specs.declared.Candidate.{Candidate}
 use Rattle.candidates.specs.Generate.{candidatesOf}
-use Rattle.closure.proofs.PairLaws.{same-or}
+use Rattle.closure.proofs.PairLaws.{lt-or, same-or}
 use Rattle.card.specs.Layout.{contoursOf, perContourOf, passesOf, vertexCountOf, vertexPlace}
 use Rattle.card.specs.Values.{pointAt}
 use Rattle.card.specs.Card.{each}
@@ -21,10 +21,10 @@ use Rattle.card.specs.Verdict.{checkOf}
 use Rattle.card.proofs.Verdicts.{exactly}
 use Rattle.table.specs.Distances.{absent}
 use Rattle.table.proofs.DistanceLaws.{same-contour, other-contour}
-use Rattle.improve.specs.Search.{State, lengthIn, swap, flip, judged, atLimit, begun, worthwhile, searched}
-use Rattle.improve.proofs.Keeps.{Keeps, search-keeps}
+use Rattle.improve.specs.Search.{Sheet, State, lengthIn, swap, flip, judged, atLimit, begun, worthwhile, searched}
+use Rattle.improve.proofs.Keeps.{Carries, search-carries, Keeps, search-keeps}
 use Rattle.improve.proofs.TourLaws.{moves-at-most}
-use Rattle.improve.proofs.PrefixLaws.{After, Twin, search-twin, cut-at-limit, limit-idle}
+use Rattle.improve.proofs.PrefixLaws.{Level, After, here, swapped, flipped, after-counts, Twin, search-twin, cut-at-limit, one-more, limit-idle}
 use Rattle.instance.specs.Gather.{verticesOf, wayOf, offersOf, gathered}
 use Rattle.instance.proofs.FineLaws.{outline-whole}
 use Rattle.instance.proofs.OwnerLaws.{first-at, gathered-grows, owner-at}
@@ -32,8 +32,9 @@ use Rattle.solve.specs.declared.Outcome.{Outcome}
 use Rattle.tour.specs.declared.Toured.the-variants.{Done}
 use Rattle.tour.specs.Search.{candidatesOn, countOn, ownersOn, sheetOn, startOn, endOn, tourOn, outcomeOn}
 use Rattle.tour.specs.Tour.{Left, tourOf}
-use Rattle.demands.specs.Demand2.{ownOn, Numbered, Apart, Trials, searchOn, Cut, Claim}
+use Rattle.demands.specs.Demand2.{ownOn, Numbered, Apart, Trials, searchOn, begunOn, Cut, Claim}
 use Rattle.demands.proofs.AskedLaws.{toured-if, done-fine, fine-nothing}
+use Rattle.demands.proofs.NextLaws.{starts}
 use Rattle.demands.proofs.TourLaws.{start-long, tour-long, tour-legal}
 
 -- ---- candidates
@@ -84,9 +85,9 @@ module _ (s : List ℕ) (fine : checkOf s ≡ Fine) where
   }
 
 apart : (s : List ℕ) (a b : ℕ) → a < countOn s → b < countOn s → Apart s a b
-apart s a b here there = record {
-  same = same-contour (candidatesOn s) (ownersOn s) a b here there;
-  other = other-contour (candidatesOn s) (ownersOn s) a b here there;
+apart s a b ha hb = record {
+  same = same-contour (candidatesOn s) (ownersOn s) a b ha hb;
+  other = other-contour (candidatesOn s) (ownersOn s) a b ha hb;
 }
 
 -- ---- trials
@@ -94,12 +95,11 @@ apart s a b here there = record {
 trials : (s : List ℕ) (v : State) → Trials s v
 unfolding swap flip judged
 trials s v = record {
-  other-taken = λ p held a e. (rw e, rw e);
-  other-left = λ p held a e. (rw e, rw e);
-  other-counts = λ p held a. refl;
-  reversal-taken = λ i j e. (rw e, rw e);
-  reversal-left = λ i j e. (rw e, rw e);
-  reversal-counts = λ i j. refl;
+  other-taken = λ p held a e. record { tour-is = rw e; cost-is = rw e; moves-is = refl };
+  other-left = λ p held a e. record { tour-is = rw e; cost-is = rw e; moves-is = refl };
+  reversal-taken = λ i j e l. record { tour-is = rw (e, l); cost-is = rw (e, l); moves-is = refl };
+  reversal-longer = λ i j e. record { tour-is = rw e; cost-is = rw e; moves-is = refl };
+  reversal-illegal = λ i j l. record { tour-is = rw (l, and-false _); cost-is = rw (l, and-false _); moves-is = refl };
 }
 
 -- ---- the limit
@@ -107,6 +107,12 @@ trials s v = record {
 no-limit : (moves : ℕ) → atLimit 0 moves ≡ false
 unfolding atLimit
 no-limit moves = refl
+
+-- what a state has come to does not hang on its flags
+levelled : {sheet : Sheet} {b : State} {k : ℕ} {u v : State} → After sheet b k u → Level u v → After sheet b k v
+levelled (here l) m = here (record { tour = l .tour ∙ m .tour; cost = l .cost ∙ m .cost; moves = l .moves ∙ m .moves })
+levelled (swapped p held a w l) m = swapped p held a w (record { tour = l .tour ∙ m .tour; cost = l .cost ∙ m .cost; moves = l .moves ∙ m .moves })
+levelled (flipped i j w l) m = flipped i j w (record { tour = l .tour ∙ m .tour; cost = l .cost ∙ m .cost; moves = l .moves ∙ m .moves })
 
 module _ (s : List ℕ) where
   never-cut : searchOn s 0 .cut ≡ false
@@ -131,6 +137,50 @@ module _ (s : List ℕ) where
       go (inl e) = let f : searchOn s M .moves ≡ searchOn s 0 .moves = ap (λ (v : State). v .moves) e in absurd (omega (arith, most))
       go (inr w) = let least = cut-at-limit (sheetOn s) (passesOf s) M (startOn s) (w .0) in (omega (arith, most), w .1)
 
+  -- with one trial more allowed, one more is made: the two cannot be the same, since they count differently
+  one-further : (M : ℕ) → 0 < M → M < searchOn s 0 .moves → After (sheetOn s) (searchOn s M) 1 (searchOn s (suc M))
+  one-further M h l = go (one-more (sheetOn s) (passesOf s) M (startOn s) h)
+    where
+      next : (suc M < searchOn s 0 .moves) ⊎ (searchOn s 0 .moves ≤ suc M) → searchOn s (suc M) .moves ≡ suc M
+      next (inl g) = cut-short (suc M) (omega arith) g .0
+      next (inr g) =
+          let e : searchOn s (suc M) .moves ≡ searchOn s 0 .moves = ap (λ (v : State). v .moves) (limit-idle (sheetOn s) (passesOf s) (suc M) (startOn s) g) in
+          omega arith
+
+      go : (searchOn s M ≡ searchOn s (suc M)) ⊎ ((searchOn s M .cut ≡ true) × After (sheetOn s) (searchOn s M) 1 (searchOn s (suc M)))
+          → After (sheetOn s) (searchOn s M) 1 (searchOn s (suc M))
+      go (inl e) =
+          let f : searchOn s M .moves ≡ searchOn s (suc M) .moves = ap (λ (v : State). v .moves) e in
+          let now = cut-short M h l .0 in
+          let then = next (lt-or (suc M) (searchOn s 0 .moves)) in
+          absurd (omega arith)
+      go (inr w) = w .1
+
+  -- every trial counted was made
+  abbrev Reached : State → Type 0
+  Reached v = (k : ℕ) × After (sheetOn s) (begunOn s) k v
+
+  same-level : (v : State) → Level v v
+  same-level v = record { tour = refl; cost = refl; moves = refl }
+
+  trial-by-trial : (M n : ℕ) → Carries (sheetOn s) M n Reached (λ p held. Reached)
+  trial-by-trial M n = record {
+    stops = λ v l q. (q .0, levelled (q .1) (record { tour = refl; cost = refl; moves = refl }));
+    begins = λ v q. (q .0, levelled (q .1) (record { tour = refl; cost = refl; moves = refl }));
+    flips = λ i j v h g m q. (suc (q .0), flipped i j (q .1) (same-level _));
+    enters = λ p v q. q;
+    rests = λ p held v l q. (q .0, levelled (q .1) (record { tour = refl; cost = refl; moves = refl }));
+    swaps = λ p held a v h o m q. (suc (q .0), swapped p held a (q .1) (same-level _));
+    leaves = λ p held v q. q;
+  }
+
+  all-made : (M : ℕ) → After (sheetOn s) (begunOn s) (searchOn s M .moves) (searchOn s M)
+  all-made M =
+      let r = search-carries (sheetOn s) (passesOf s) M (startOn s) Reached (λ p held. Reached) (trial-by-trial M (length (startOn s))) (0, here (same-level _)) in
+      let e = after-counts (sheetOn s) (begunOn s) (r .1) in
+      let k : r .0 ≡ searchOn s M .moves = omega arith in
+      subst (λ (z : ℕ). After (sheetOn s) (begunOn s) z (searchOn s M)) k (r .1)
+
   stays : (M : ℕ) → worthwhile (passesOf s) (length (startOn s)) ≡ false → searchOn s M ≡ begun (sheetOn s) (startOn s)
   unfolding searched
   stays M e = rw e
@@ -143,7 +193,9 @@ not-worthwhile most n (inr h) = rw (lt-leb 3 n h) (and-false (ltb 0 most))
 limit : (s : List ℕ) → checkOf s ≡ Fine → Cut s
 limit s fine = record {
   enough = λ M h. limit-idle (sheetOn s) (passesOf s) M (startOn s) h;
+  made = all-made s;
   cut = cut-short s;
+  one-more = one-further s;
   unlimited = never-cut s;
   idle = λ M w. (
       let e = stays s M (not-worthwhile (passesOf s) (length (startOn s)) (rw (start-long s fine) w)) in
@@ -165,6 +217,7 @@ claim s room table told h =
     record {
       numbered = numbered s fine;
       apart = apart s;
+      starts = starts s fine;
       trials = trials s;
       limit = limit s fine;
       told-so = record {

@@ -7,6 +7,8 @@ pub mod BelowLaws
 pub mod GatherLaws
 pub mod RouteLaws
 pub mod TourLaws
+pub mod ChosenLaws
+pub mod NextLaws
 pub mod Demand2
 pub mod Demand3
 pub mod Starred

@@ -47,7 +47,7 @@ contours-long owner tour = length-map tour (contourOf owner)
 module _ (s : List ℕ) (fine : checkOf s ≡ Fine) where
   -- ---- what the start asks for
 
-  home-near : Near 160 (homeOn s)
+  pub home-near : Near 160 (homeOn s)
   home-near = near-more 20 160 (homeOn s) (lit≤ tt) (good-near (homeOn s) (accepted s fine .home-near))
 
   among : (k a : ℕ) → InContour (firstsOn s) k a → a < countOn s

@@ -118,6 +118,10 @@ of-tours : OfTours
 of-tours = record {
   tour = λ s room table. one _;
   global-to-local = λ s number. one _;
+  local-to-global = λ s contour within. one _;
+  candidate = λ s number. one _;
+  evaluate = λ s order. one _;
+  homes-of = λ all home. one _;
   bits-of = λ x. one _;
   jl-check = λ s. one _;
   jl-tour = λ s room moves bits. one _;

@@ -2,11 +2,12 @@
 -- defined; a move limit cuts that search after so many trials and changes nothing else; and the length told is evaluated from the tour
 -- handed out. Assumes nothing.
 use mathlib.Core.Path.{_≡_}
-use mathlib.Core.Bool.{true, false, _&&_}
+use mathlib.Core.Bool.{true, false}
 use mathlib.Core.Logic.{_⊎_}
-use mathlib.Core.List.{List, _++_}
+use mathlib.Core.List.{List, [], _∷_, _++_}
 use Prim.Native.Nat.{ℕ, suc, _+_, _*_, _≤_, _<_}
-use lib.Ieee.{Float}
+use lib.Dec.{T}
+use lib.Ieee.{Float, lt, le}
 use lib.ListN.{length, getD, set, take, drop}
 use Rattle.cost.specs.Closest.{huge}
 use Rattle.cost.specs.Distance.{distanceOf}
@@ -17,11 +18,14 @@ use Rattle.card.specs.Layout.{contoursOf, passesOf, moveLimitOf}
 use Rattle.card.specs.Card.{cardOf, contourOf}
 use Rattle.table.specs.Evaluate.{distanceAt, lengthOf}
 use Rattle.table.specs.Distances.{absent, pierced, left}
-use Rattle.improve.specs.Search.{State, contours, lengthIn, legal, shorter, swap, reversed, flip, searched}
+use Rattle.table.specs.Each.{each}
+use Rattle.start.specs.Nearest.{Way, reachOf, lastOf, isOpen, step, setOut}
+use Rattle.improve.specs.Search.{State, contours, lengthIn, legal, shorter, swap, reversed, flip, begun, searched}
 use Rattle.improve.proofs.PrefixLaws.{After}
 use Rattle.solve.specs.declared.Outcome.{Outcome}
+use Rattle.solve.specs.Solve.{groundIn}
 use Rattle.tour.specs.declared.Toured.the-variants.{Done}
-use Rattle.tour.specs.Search.{candidatesOn, countOn, ownersOn, firstsOn, homesOn, tableOn, sheetOn, startOn}
+use Rattle.tour.specs.Search.{candidatesOn, countOn, ownersOn, firstsOn, pairsOn, homesOn, tableOn, sheetOn, startOn}
 use Rattle.tour.specs.Tour.{tourOf}
 use Rattle.demands.specs.Demand1.{LegalOrder}
 
@@ -29,14 +33,18 @@ use Rattle.demands.specs.Demand1.{LegalOrder}
 
 -- the candidates of contour k: those of its vertices, c of them, cut in the direction that the card asks for
 abbrev pub ownOn : List ℕ → ℕ → List Candidate
-ownOn s k = candidatesOf (directionOf (contourOf s k .kind) (cardOf s .exterior) (cardOf s .interior)) (contourOf s k .vertices) (cardOf s .per-contour)
+ownOn s k =
+    let contour = contourOf s k in
+    let card = cardOf s in
+    candidatesOf (directionOf (contour .kind) (card .exterior) (card .interior)) (contour .vertices) (card .per-contour)
 
 -- the candidates are numbered contour after contour, each contour's in their order
 pub record Numbered (s : List ℕ) : Type 0 where
   pub first : getD (firstsOn s) 0 0 ≡ 0
   pub next : (k : ℕ) → k < contoursOf s → getD (firstsOn s) (suc k) 0 ≡ getD (firstsOn s) k 0 + length (ownOn s k)
   pub all : countOn s ≡ getD (firstsOn s) (contoursOf s) 0
-  pub own : (k j : ℕ) → k < contoursOf s → j < length (ownOn s k) → getD (candidatesOn s) (getD (firstsOn s) k 0 + j) absent ≡ getD (ownOn s k) j absent
+  pub own : (k j : ℕ) → k < contoursOf s → j < length (ownOn s k)
+      → getD (candidatesOn s) (getD (firstsOn s) k 0 + j) absent ≡ getD (ownOn s k) j absent
   pub owner : (k j : ℕ) → k < contoursOf s → j < length (ownOn s k) → getD (ownersOn s) (getD (firstsOn s) k 0 + j) 0 ≡ k
 
 -- from candidate a's end point to candidate b's point; the largest float where both are of one contour
@@ -45,22 +53,69 @@ pub record Apart (s : List ℕ) (a b : ℕ) : Type 0 where
   pub other : (getD (ownersOn s) a 0 ≡ getD (ownersOn s) b 0 → ⊥)
       → distanceAt (tableOn s) (countOn s) a b ≡ distanceOf (left (getD (candidatesOn s) a absent)) (pierced (getD (candidatesOn s) b absent))
 
+-- ---- the start
+
+-- how far the start has come after p steps: its tour, and a flag for each contour visited
+abbrev pub wayOn : List ℕ → ℕ → Way
+wayOn s p = each (step (groundIn (sheetOn s)) (contoursOf s)) p 0 setOut
+
+-- how far candidate a is from there: from home at first, then from the last candidate
+abbrev pub reachOn : List ℕ → Way → ℕ → Float
+reachOn s w a = reachOf (homesOn s) (tableOn s) (countOn s) (length (w .tour)) (lastOf (w .tour)) a
+
+-- candidate b is one of an open contour: one not visited whose predecessors all are
+pub record Ready (s : List ℕ) (w : Way) (b : ℕ) : Type 0 where
+  pub contour : ℕ
+  pub is-contour : contour < contoursOf s
+  pub is-open : isOpen (w .visited) (pairsOn s) contour ≡ true
+  pub from : getD (firstsOn s) contour 0 ≤ b
+  pub to : b < getD (firstsOn s) (suc contour) 0
+
+-- a step takes candidate a: of those that are ready none is nearer, and none before it, by contour and then by candidate, is as near; it
+-- comes to the end of the tour, and its contour is visited
+pub record Takes (s : List ℕ) (w after : Way) (a : ℕ) : Type 0 where
+  pub ready : Ready s w a
+  pub least : (b : ℕ) → Ready s w b → T (le (reachOn s w a) (reachOn s w b))
+  pub first : (b : ℕ) → Ready s w b → b < a → lt (reachOn s w a) (reachOn s w b) ≡ true
+  pub put : after .tour ≡ w .tour ++ (a ∷ [])
+  pub marked : after .visited ≡ set (w .visited) (ready .contour) 1
+
+-- a step for each contour
+pub record Starts (s : List ℕ) : Type 0 where
+  pub steps : (p : ℕ) → p < contoursOf s → (a : ℕ) × Takes s (wayOn s p) (wayOn s (suc p)) a
+  pub whole : startOn s ≡ wayOn s (contoursOf s) .tour
+
 -- ---- trials
 
--- a trial is accepted if it is shorter by more than 1e-10 and, for a reversal, legal; then its tour and its length are held. If not, a
+-- the length of a tour of the card
+abbrev pub longOn : List ℕ → List ℕ → Float
+longOn s tour = lengthIn (sheetOn s) tour
+
+-- the two trials: candidate a at position p, where `held` was held when its turn began; and the stretch from i+1 to j reversed
+abbrev pub otherOn : List ℕ → ℕ → ℕ → ℕ → State → State
+otherOn s p held a v = swap (longOn s) p held a v
+
+abbrev pub reversalOn : List ℕ → ℕ → ℕ → State → State
+reversalOn s i j v = flip (longOn s) (legal (sheetOn s)) i j v
+
+-- a trial leaves this tour, this length to beat, and so many trials made
+pub record Leaves (after : State) (tour : List ℕ) (cost : Float) (moves : ℕ) : Type 0 where
+  pub tour-is : after .tour ≡ tour
+  pub cost-is : after .cost ≡ cost
+  pub moves-is : after .moves ≡ moves
+
+-- a trial is accepted if it is shorter by more than 1e-10 and, for a reversal, legal: its tour and its length are then held. If not, a
 -- candidate gives the position back the one held when its turn began, a reversal the tour as it was, and the length stays. Each counts one
 pub record Trials (s : List ℕ) (v : State) : Type 0 where
-  pub other-taken : (p held a : ℕ) → shorter (lengthIn (sheetOn s) (set (v .tour) p a)) (v .cost) ≡ true
-      → (swap (lengthIn (sheetOn s)) p held a v .tour ≡ set (v .tour) p a) × (swap (lengthIn (sheetOn s)) p held a v .cost ≡ lengthIn (sheetOn s) (set (v .tour) p a))
-  pub other-left : (p held a : ℕ) → shorter (lengthIn (sheetOn s) (set (v .tour) p a)) (v .cost) ≡ false
-      → (swap (lengthIn (sheetOn s)) p held a v .tour ≡ set (v .tour) p held) × (swap (lengthIn (sheetOn s)) p held a v .cost ≡ v .cost)
-  pub other-counts : (p held a : ℕ) → swap (lengthIn (sheetOn s)) p held a v .moves ≡ suc (v .moves)
-  pub reversal-taken : (i j : ℕ) → (shorter (lengthIn (sheetOn s) (reversed i j (v .tour))) (v .cost) && legal (sheetOn s) (reversed i j (v .tour))) ≡ true
-      → (flip (lengthIn (sheetOn s)) (legal (sheetOn s)) i j v .tour ≡ reversed i j (v .tour))
-      × (flip (lengthIn (sheetOn s)) (legal (sheetOn s)) i j v .cost ≡ lengthIn (sheetOn s) (reversed i j (v .tour)))
-  pub reversal-left : (i j : ℕ) → (shorter (lengthIn (sheetOn s) (reversed i j (v .tour))) (v .cost) && legal (sheetOn s) (reversed i j (v .tour))) ≡ false
-      → (flip (lengthIn (sheetOn s)) (legal (sheetOn s)) i j v .tour ≡ v .tour) × (flip (lengthIn (sheetOn s)) (legal (sheetOn s)) i j v .cost ≡ v .cost)
-  pub reversal-counts : (i j : ℕ) → flip (lengthIn (sheetOn s)) (legal (sheetOn s)) i j v .moves ≡ suc (v .moves)
+  pub other-taken : (p held a : ℕ) → shorter (longOn s (set (v .tour) p a)) (v .cost) ≡ true
+      → Leaves (otherOn s p held a v) (set (v .tour) p a) (longOn s (set (v .tour) p a)) (suc (v .moves))
+  pub other-left : (p held a : ℕ) → shorter (longOn s (set (v .tour) p a)) (v .cost) ≡ false
+      → Leaves (otherOn s p held a v) (set (v .tour) p held) (v .cost) (suc (v .moves))
+  pub reversal-taken : (i j : ℕ) → shorter (longOn s (reversed i j (v .tour))) (v .cost) ≡ true → legal (sheetOn s) (reversed i j (v .tour)) ≡ true
+      → Leaves (reversalOn s i j v) (reversed i j (v .tour)) (longOn s (reversed i j (v .tour))) (suc (v .moves))
+  pub reversal-longer : (i j : ℕ) → shorter (longOn s (reversed i j (v .tour))) (v .cost) ≡ false
+      → Leaves (reversalOn s i j v) (v .tour) (v .cost) (suc (v .moves))
+  pub reversal-illegal : (i j : ℕ) → legal (sheetOn s) (reversed i j (v .tour)) ≡ false → Leaves (reversalOn s i j v) (v .tour) (v .cost) (suc (v .moves))
 
 -- ---- the limit
 
@@ -68,12 +123,19 @@ pub record Trials (s : List ℕ) (v : State) : Type 0 where
 abbrev pub searchOn : List ℕ → ℕ → State
 searchOn s limit = searched (sheetOn s) (passesOf s) limit (startOn s)
 
--- a limit that the search does not need changes nothing; another cuts it after exactly so many trials, and without it the search makes
--- more trials from there on; without a limit it is never cut; and where no pass is allowed or there are fewer than three contours, it
--- stays at the start and makes no trial
+-- the state in which a search begins: the start, and its length
+abbrev pub begunOn : List ℕ → State
+begunOn s = begun (sheetOn s) (startOn s)
+
+-- the trials counted were made, from the start on. A limit that the search does not need changes nothing; another cuts it after exactly so
+-- many trials, a limit higher by one lets it make one trial more, and without a limit it goes on from there and is never cut. Where no pass
+-- is allowed or there are fewer than three contours, it stays at the start and makes no trial
 pub record Cut (s : List ℕ) : Type 0 where
+  pub made : (M : ℕ) → After (sheetOn s) (begunOn s) (searchOn s M .moves) (searchOn s M)
   pub enough : (M : ℕ) → searchOn s 0 .moves ≤ M → searchOn s M ≡ searchOn s 0
-  pub cut : (M : ℕ) → 0 < M → M < searchOn s 0 .moves → (searchOn s M .moves ≡ M) × ((k : ℕ) × After (sheetOn s) (searchOn s M) (suc k) (searchOn s 0))
+  pub cut : (M : ℕ) → 0 < M → M < searchOn s 0 .moves
+      → (searchOn s M .moves ≡ M) × ((k : ℕ) × After (sheetOn s) (searchOn s M) (suc k) (searchOn s 0))
+  pub one-more : (M : ℕ) → 0 < M → M < searchOn s 0 .moves → After (sheetOn s) (searchOn s M) 1 (searchOn s (suc M))
   pub unlimited : searchOn s 0 .cut ≡ false
   pub idle : (M : ℕ) → (passesOf s ≡ 0) ⊎ (contoursOf s < 3) → (searchOn s M .tour ≡ startOn s) × (searchOn s M .moves ≡ 0)
 
@@ -91,6 +153,7 @@ pub record Told (s room : List ℕ) (table : List Float) (told : Outcome) : Type
 pub record Follows (s room : List ℕ) (table : List Float) (told : Outcome) : Type 0 where
   pub numbered : Numbered s
   pub apart : (a b : ℕ) → a < countOn s → b < countOn s → Apart s a b
+  pub starts : Starts s
   pub trials : (v : State) → Trials s v
   pub limit : Cut s
   pub told-so : Told s room table told

@@ -39,12 +39,15 @@ use Rattle.start.specs.Nearest.{Ground, nearest}
 use Rattle.start.specs.Code.{Written}
 use Rattle.improve.specs.Search.{Sheet, State}
 use Rattle.improve.specs.Code.{Reached}
+use Rattle.instance.specs.declared.Instance.{Instance}
 use Rattle.instance.specs.Room.{instanceOf}
 use Rattle.solve.specs.declared.Outcome.{Outcome}
 use Rattle.solve.specs.Solve.{Solved}
-use Rattle.tour.specs.Tour.{tourOf}
+use Rattle.tour.specs.Tour.{noDistances, tourOf}
 use Rattle.tour.specs.Questions.{locatedOf}
 use Rattle.tour.specs.Hosts.{hostTour, hostPlace}
+use Rattle.questions.specs.Order.{evaluated}
+use Rattle.questions.specs.Index.{pickedOf, globalOf}
 
 -- no two answers meet the promise
 abbrev pub OneAnswer : {A : Type 0} → (A → Type 0) → Type 0
@@ -149,10 +152,14 @@ pub record OfSearch : Type 0 where
   pub improve : (s : State) → OneAnswer {A = ℕ × List ℕ} (λ a. Reached (a .0) (a .1) s)
   pub solve-constrained : (sheet : Sheet) (s : State) (room : List ℕ) → OneAnswer {A = Outcome × List ℕ} (λ a. Solved sheet s room (a .0) (a .1))
 
--- tour, on a card's bytes; with the lent rooms and numbers afterwards
+-- tour and questions, on a card's bytes; with the lent rooms and numbers afterwards
 pub record OfTours : Type 0 where
   pub tour : (s room : List ℕ) (table : List Float) → OneAnswer (Is (tourOf s room table))
   pub global-to-local : (s : List ℕ) (number : ℕ) → OneAnswer (Is (locatedOf s number))
+  pub local-to-global : (s : List ℕ) (contour within : ℕ) → OneAnswer (Is (globalOf s contour within))
+  pub candidate : (s : List ℕ) (number : ℕ) → OneAnswer (Is (pickedOf s number))
+  pub evaluate : (s order : List ℕ) → OneAnswer (Is (evaluated s order))
+  pub homes-of : (all : Instance) (home : Point) → OneAnswer (Is (homed (all .items) (all .count) home noDistances))
   pub bits-of : (x : Float) → OneAnswer (Is (toBits binary64 x))
   pub jl-check : (s : List ℕ) → OneAnswer (Is (codeOf (checkOf s)))
   pub jl-tour : (s room : List ℕ) (moves bits : ℕ) → OneAnswer (Is (hostTour s room moves bits))
