@@ -4,7 +4,7 @@
 #   make test          the gate (rt ci), then every test on what it proved; the last line is the gate's own
 #   make differential  the comparisons in full size          make bench   the speed figures
 #   make soak SECONDS=600 SEED=7   comparisons from a seed for a time
-#   make fuzz SECONDS=600 SEED=7   any bytes through the exports, between guard pages
+#   make fuzz SECONDS=600 SEED=7   any bytes through the exports, between guard pages, led by what they reach
 #   make examples      writes examples/ and what crates/replay runs over, from the original's answers
 #   make fmt           formats Rattle and Rust
 
@@ -63,8 +63,13 @@ bench: archives
 soak: archives
 	$(ORACLE) differential -- --seed $(SEED) --percent 1 --seconds $(SECONDS)
 
-fuzz: archives
-	$(ORACLE) differential -- --seed $(SEED) --percent 10 --seconds $(SECONDS) fuzz
+# Over archives that count which of their code is reached, so that what reaches more is tried further.
+fuzz:
+	hosts/native/archive.sh --covered tour
+	$(MAKE) --no-print-directory archives
+	cp target/staticlib/libprobe.a target/covered/
+	JAMBOLIVE_ARCHIVES=target/covered $(ORACLE) fuzz --features covered --target-dir target/fuzz \
+		-- $(SEED) $(SECONDS) target/fuzz.card
 
 examples:
 	$(ORACLE) samples $(if $(wildcard crates/replay),-- crates/replay)

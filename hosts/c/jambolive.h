@@ -25,7 +25,7 @@ uint64_t jl_check(const uint8_t *card, size_t bytes);
 uint64_t jl_tour(const uint8_t *card, size_t bytes, uint8_t *tour, size_t room, uint64_t *moves, uint64_t *length);
 
 /* Writes the position of the contour that a candidate belongs to, and its number within that contour. Refusal 15,
- * with the candidate as its place, where the card has no such candidate. */
+ * with the candidate as its place (2^32 - 1 for any above it), where the card has no such candidate. */
 uint64_t jl_place(const uint8_t *card, size_t bytes, uint64_t candidate, uint64_t *contour, uint64_t *within);
 
 #ifdef __cplusplus

@@ -1,9 +1,10 @@
-# The compiler of the native kit (kit.sh puts the lines that set `real` and `machine` before this).
+# The compiler of the native kit (kit.sh puts the line that sets `real`, `machine` and `counting` before this).
 #
 # rattle hands over module.bc, the proved program as LLVM code for x86-64. What in it speaks of x86-64 is
 # the layout line, the triple and the processor's name; all other code is the same for every 64-bit
 # little-endian machine. Those three are dropped and the rest is compiled for this machine with the
-# flags given. No multiplication and addition may melt into one rounding.
+# flags given. No multiplication and addition may melt into one rounding. `counting` is empty, or asks the
+# compiler for a counter at each edge.
 set -eu
 
 wanted=
@@ -11,7 +12,7 @@ for word in "$@"; do
     shift
     case $word in
     --target=*) word=--target=$machine-unknown-linux-gnu ;;
-    -march=*) word=-mcpu=native ;;
+    -march=*) [ "$machine" = x86_64 ] || word=-mcpu=native ;;
     -Werror) continue ;;
     module.bc) wanted=yes word=module-native.ll ;;
     esac
@@ -20,6 +21,6 @@ done
 if [ -n "$wanted" ]; then
     "$real" --target=x86_64-unknown-linux-gnu -x ir module.bc -S -emit-llvm -O0 -Xclang -disable-llvm-passes -o - |
         sed -e '/^target datalayout/d' -e '/^target triple/d' -e 's/"target-cpu"="[^"]*"//' >module-native.ll
-    set -- -ffp-contract=off "$@"
+    set -- -ffp-contract=off ${counting:+"$counting"} "$@"
 fi
 exec "$real" "$@"

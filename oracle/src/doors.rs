@@ -2,9 +2,9 @@
 //! answers a refusal's number times 2^32 plus its place and writes nothing. Every door is total: it takes
 //! any numbers and any slices, and keeps none of them. The doors of a part are declared where it is compared.
 
-/// What a door answers for a refusal.
+/// What a door answers for a refusal: a place of more than 32 bits shows as the largest of 32.
 pub fn refused(number: u64, place: u64) -> u64 {
-    (number << 32) + place
+    (number << 32) + place.min(u64::from(u32::MAX))
 }
 
 /// What a lent number holds before a call, to see whether a refusal leaves it.

@@ -1,29 +1,63 @@
 //! Any bytes through the exports, every lent part at the edge of a guard page: for what no proof covers, the
-//! compiler's back end and the glue of the hosts.
+//! compiler's back end and the glue of the hosts. What reached code that nothing before it reached is kept, and
+//! mutated further: coverage.rs sees that where the archives count (feature `covered`).
 
 use crate::card::{BLOCK, seal};
+use crate::coverage::Coverage;
 use crate::doors::refused;
 use crate::exports::{UNTOUCHED, jl_check, jl_place, jl_tour};
 use crate::generate::{damaged, good, mutated};
 use crate::guard::Guarded;
 use crate::random::Random;
 use crate::reading;
-use crate::run::{Wanted, cases, same};
+use crate::run::same;
+use std::time::Instant;
 
-/// A card mutated by structure, then perhaps by plain bytes.
-fn input(r: &Random) -> Vec<u8> {
-    let mut bytes = match r.below(4) {
+/// More than the largest card, its guard pages included in neither.
+const LARGEST: usize = 1 << 16;
+
+/// A card mutated by structure: from the generator, or one that was kept.
+fn structured(r: &Random, kept: &[Vec<u8>]) -> Vec<u8> {
+    match r.below(if kept.is_empty() { 3 } else { 6 }) {
         0 => good(r).bytes(),
         1 => mutated(r),
-        _ => damaged(r),
-    };
+        2 => damaged(r),
+        3 => joined(&kept[r.below(kept.len() as u64) as usize], &kept[r.below(kept.len() as u64) as usize], r),
+        _ => kept[r.below(kept.len() as u64) as usize].clone(),
+    }
+}
+
+/// The first blocks of one card and the further ones of another.
+fn joined(one: &[u8], other: &[u8], r: &Random) -> Vec<u8> {
+    let at = r.below((one.len().min(other.len()) / BLOCK) as u64 + 1) as usize * BLOCK;
+    [&one[..at], &other[at..]].concat()
+}
+
+/// A field of a block: numbers at their edges, in one, two, four or eight bytes.
+fn field(r: &Random, bytes: &mut [u8]) {
+    let width = r.pick(&[1, 2, 4, 8]) as usize;
+    if bytes.len() < BLOCK {
+        return;
+    }
+    let block = r.below((bytes.len() / BLOCK) as u64) as usize * BLOCK;
+    let at = block + r.pick(&[r.from(8, 40), r.below(504)]) as usize;
+    let number = r.pick(&[r.below(50), r.below(130), r.next(), 1 << r.below(64), 1_048_576f64.to_bits() + r.below(2)]);
+    bytes[at..at + width].copy_from_slice(&number.to_le_bytes()[..width]);
+}
+
+/// A card mutated by structure, then perhaps by fields and by plain bytes, its checks most often made good.
+fn input(r: &Random, kept: &[Vec<u8>]) -> Vec<u8> {
+    let mut bytes = structured(r, kept);
+    for _ in 0..r.pick(&[0, 0, 1, 2]) {
+        field(r, &mut bytes);
+    }
     for _ in 0..r.pick(&[0, 0, 1, 3, 30]) {
         if !bytes.is_empty() {
             let at = r.below(bytes.len() as u64) as usize;
             bytes[at] = r.pick(&[r.next() as u8, 0, 1, 255, bytes[at] ^ 1]);
         }
     }
-    match r.below(6) {
+    match r.below(8) {
         0 => bytes.truncate(r.below(bytes.len() as u64 + 1) as usize),
         1 => bytes.truncate(r.below((bytes.len() / BLOCK) as u64 + 1) as usize * BLOCK),
         _ => {}
@@ -31,6 +65,7 @@ fn input(r: &Random) -> Vec<u8> {
     if !r.one_in(4) {
         seal(&mut bytes);
     }
+    bytes.truncate(LARGEST);
     bytes
 }
 
@@ -43,39 +78,45 @@ fn told(bytes: &[u8]) -> u64 {
     u64::from_ne_bytes(bytes.try_into().unwrap())
 }
 
-fn one(r: &Random) -> Result<u64, String> {
-    let bytes = input(r);
-    let due = reading::card(&bytes);
+/// Asks every export about these bytes. Says whether they are a card, or what differs.
+fn ask(r: &Random, memory: &mut [Guarded; 4], bytes: &[u8]) -> Result<bool, String> {
+    let due = reading::card(bytes);
     let what = || format!("{} bytes, due {:?}", bytes.len(), due.as_ref().err());
-    let mut memory = [(); 4].map(|_| Guarded::new(bytes.len().max(64)));
-    let [card, tour, first, second] = &mut memory;
+    let [card, tour, first, second] = memory;
     let edge = |r: &Random| r.one_in(2);
-    let card = card.lend(&bytes, edge(r));
+    let card = card.lend(bytes, edge(r));
     let room = vec![UNTOUCHED as u8; r.pick(&[0, 1, 39, 40, 41, r.below(50)]) as usize];
     let tour = tour.lend(&room, edge(r));
     let first = first.lend(&number(), edge(r));
     let second = second.lend(&number(), edge(r));
-    let (one, two) = (first.as_mut_ptr().cast(), second.as_mut_ptr().cast());
 
     let n = due.as_ref().map_or(0, |card| card.contours.len());
-    let mut code = due.as_ref().err().map_or(0, |&(number, place)| refused(number, place));
-    same(what, unsafe { jl_check(card.as_ptr(), card.len()) }, code)?;
-    if code == 0 && room.len() < n {
-        code = refused(13, n as u64);
-    }
-    let ours = unsafe { jl_tour(card.as_ptr(), card.len(), tour.as_mut_ptr(), tour.len(), one, two) };
+    let fault = due.as_ref().err().map_or(0, |&(number, place)| refused(number, place));
+    same(what, unsafe { jl_check(card.as_ptr(), card.len()) }, fault)?;
+    let code = if fault == 0 && room.len() < n { refused(13, n as u64) } else { fault };
+    let (moves, length) = (first.as_mut_ptr().cast(), second.as_mut_ptr().cast());
+    let ours = unsafe { jl_tour(card.as_ptr(), card.len(), tour.as_mut_ptr(), tour.len(), moves, length) };
     same(what, ours, code)?;
     if code != 0 {
         same(what, (&*tour, told(first), told(second)), (&*room, UNTOUCHED, UNTOUCHED))?;
     } else {
         same(what, &tour[n..], &room[n..])?;
-        answered(&due.unwrap(), &tour[..n], told(first), told(second))?;
+        answered(due.as_ref().unwrap(), &tour[..n], told(first), told(second))?;
     }
-    same(|| "the card".to_string(), &*card, &*bytes)?;
+    same(|| "the card".to_string(), &*card, bytes)?;
 
+    first.copy_from_slice(&number());
+    second.copy_from_slice(&number());
     let candidate = r.pick(&[0, 1, 79, 80, 255, u64::MAX, r.below(90)]);
-    unsafe { jl_place(card.as_ptr(), card.len(), candidate, one, two) };
-    same(|| "the card".to_string(), &*card, &*bytes)
+    let (contour, within) = (first.as_mut_ptr().cast(), second.as_mut_ptr().cast());
+    let ours = unsafe { jl_place(card.as_ptr(), card.len(), candidate, contour, within) };
+    let place = (ours, told(first), told(second));
+    match &due {
+        Err(_) => same(what, place, (fault, UNTOUCHED, UNTOUCHED))?,
+        Ok(card) => placed(card, candidate, place)?,
+    };
+    same(|| "the card".to_string(), &*card, bytes)?;
+    Ok(due.is_ok())
 }
 
 #[cfg(not(feature = "original"))]
@@ -91,6 +132,44 @@ fn answered(card: &crate::card::Card, tour: &[u8], moves: u64, length: u64) -> R
     same(|| format!("{card:?}"), (tour, moves, length), (&theirs, found.moves, found.length))
 }
 
-pub fn compare(wanted: Wanted) -> bool {
-    cases(wanted, "fuzz", 100_000, one)
+#[cfg(not(feature = "original"))]
+fn placed(_: &crate::card::Card, _: u64, _: (u64, u64, u64)) -> Result<u64, String> {
+    Ok(1)
+}
+
+/// A candidate of an accepted card is where the original has it.
+#[cfg(feature = "original")]
+fn placed(card: &crate::card::Card, candidate: u64, place: (u64, u64, u64)) -> Result<u64, String> {
+    let problem = crate::answer::Problem::of(card);
+    same(|| format!("{card:?}"), place, crate::tour::place_due(&problem, candidate))
+}
+
+/// Runs for a time from a seed. A difference leaves its bytes in `failed`.
+pub fn run(seed: u64, seconds: u64, failed: &std::path::Path) -> bool {
+    let began = Instant::now();
+    let mut memory = [LARGEST, 64, 64, 64].map(Guarded::new);
+    let (mut coverage, mut kept) = (Coverage::new(), Vec::new());
+    let (mut case, mut accepted) = (0u64, 0u64);
+    println!("fuzz: seed {seed}, {seconds} s, {}", coverage.kind());
+    while began.elapsed().as_secs() < seconds {
+        let r = Random::of(seed, "fuzz", case);
+        let bytes = input(&r, &kept);
+        // also where the run is stopped by a guard page, the bytes are there
+        std::fs::write(failed, &bytes).expect("the bytes can be written");
+        coverage.clear();
+        match ask(&r, &mut memory, &bytes) {
+            Ok(sound) => accepted += u64::from(sound),
+            Err(how) => {
+                println!("fuzz: DIFFERS at case {case} of seed {seed}, bytes in {}: {how}", failed.display());
+                return false;
+            }
+        }
+        if coverage.found() {
+            kept.push(bytes);
+        }
+        case += 1;
+    }
+    std::fs::remove_file(failed).expect("the bytes can be removed");
+    println!("fuzz: {case} inputs agreed, {accepted} of them cards; {} kept, {}", kept.len(), coverage.told());
+    true
 }

@@ -3,6 +3,7 @@
 
 pub mod card;
 pub mod check;
+pub mod coverage;
 pub mod doors;
 pub mod exports;
 pub mod fuzz;

@@ -9,7 +9,7 @@ use crate::random::Random;
 use crate::run::{Wanted, cases, same};
 
 /// The contour of a candidate and its number within, or 15 where the card has no such candidate.
-fn place_due(problem: &Problem, candidate: u64) -> (u64, u64, u64) {
+pub fn place_due(problem: &Problem, candidate: u64) -> (u64, u64, u64) {
     if candidate >= problem.instance.total_candidates as u64 {
         return (refused(15, candidate), UNTOUCHED, UNTOUCHED);
     }

@@ -3,12 +3,11 @@
 //! on from seed to seed until the time is over.
 
 use oracle::run::Wanted;
-use oracle::{candidates, check, cost, fuzz, hierarchy, root, search, start, table, tour};
+use oracle::{candidates, check, cost, hierarchy, root, search, start, table, tour};
 
 type Part = (&'static str, fn(Wanted) -> bool);
 
-/// `fuzz` runs only where it is named.
-const PARTS: [Part; 10] = [
+const PARTS: [Part; 9] = [
     ("root", root::compare),
     ("cost", cost::compare),
     ("hierarchy", hierarchy::compare),
@@ -18,7 +17,6 @@ const PARTS: [Part; 10] = [
     ("search", search::compare),
     ("check", check::compare),
     ("tour", tour::compare),
-    ("fuzz", fuzz::compare),
 ];
 
 fn main() {
@@ -38,7 +36,7 @@ fn main() {
     let began = std::time::Instant::now();
     loop {
         println!("differential: seed {}, {} percent", wanted.seed, wanted.percent);
-        let chosen = PARTS.iter().filter(|p| named.iter().any(|n| n == p.0) || named.is_empty() && p.0 != "fuzz");
+        let chosen = PARTS.iter().filter(|p| named.iter().any(|n| n == p.0) || named.is_empty());
         if !chosen.fold(true, |agreed, part| (part.1)(wanted) & agreed) {
             std::process::exit(1);
         }
