@@ -11,7 +11,7 @@ use Rattle.answer.specs.declared.Found.the-variants.{At, Absent}
 use Rattle.answer.proofs.LowestLaws.{Nowhere}
 use Rattle.block.specs.Field.{u64At}
 use Rattle.block.proofs.Readings.{cut-u64}
-use Rattle.card.specs.Layout.{payload, vertexPlace, homePlace}
+use Rattle.fields.specs.Layout.{payload, vertexPlace, homePlace}
 use Rattle.card.specs.Stages.{isAt, tooFar, farPoint, farVertex, farPlace}
 use Rattle.card.proofs.LoopLaws.{none-yet, one-more}
 

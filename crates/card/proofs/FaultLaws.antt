@@ -10,8 +10,8 @@ use lib.ListN.{length, getD}
 use borrow.Author.Tests.{lt-ltb, le-ltb, le-leb, lt-leb, eq-eqb, ne-eqb}
 use Rattle.answer.specs.declared.Found.the-variants.{At, Absent}
 use Rattle.block.specs.Block.{blockBytes}
-use Rattle.card.specs.Limits.{cardBytes}
-use Rattle.card.specs.Layout.{blocksOf, contoursOf}
+use Rattle.fields.specs.Limits.{cardBytes}
+use Rattle.fields.specs.Layout.{blocksOf, contoursOf}
 use Rattle.card.specs.Stages.{lengthFault, kindDue, headFaults, blocksDue, countFault}
 
 or-true : (a : Bool) → a || true ≡ true

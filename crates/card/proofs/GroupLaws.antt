@@ -19,7 +19,7 @@ use Rattle.answer.proofs.StageLaws.{is-fine}
 use Rattle.closure.specs.Limits.{CONTOURS, PAIRS}
 use Rattle.closure.specs.Cycle.{firstOnCycle}
 use Rattle.card.specs.declared.Named.{Named}
-use Rattle.card.specs.Layout.{contoursOf, pairsOf}
+use Rattle.fields.specs.Layout.{contoursOf, pairsOf}
 use Rattle.card.specs.Stages.{headFaults, headFault, nameFault}
 use Rattle.card.specs.Names.{seatsOf, namedPairs}
 use Rattle.card.specs.Verdict.{cycleFault, headStages, blockStages, contourStages, pairStages, checkOf}

@@ -1,16 +1,6 @@
-pub mod ValueLaws
 pub mod LoopLaws
 pub mod FaultLaws
 pub mod SpareLaws
 pub mod FarLaws
 pub mod NameLaws
 pub mod GroupLaws
-pub mod ExactLaws
-pub mod RowLaws
-pub mod FarNumber
-pub mod FarRow
-pub mod PairRows
-pub mod Verdicts
-pub mod Facts
-pub mod Starred
-pub mod OrderRows

@@ -7,8 +7,8 @@ use native.Mathlib.Omega.{arith}
 use lib.ListN.{take, drop}
 use borrow.Author.Tests.{le-leb, lt-leb, eq-eqb, ne-eqb}
 use Rattle.block.specs.Block.{allZero, zerosAt}
-use Rattle.card.specs.Limits.{payloadBytes}
-use Rattle.card.specs.Layout.{payload, contoursOf, vertexCountOf}
+use Rattle.fields.specs.Limits.{payloadBytes}
+use Rattle.fields.specs.Layout.{payload, contoursOf, vertexCountOf}
 use Rattle.card.specs.Stages.{pairsIn, usedIn, badSpare}
 
 pub used-head : (s : List ℕ) (b : ℕ) → b ≡ 0 → 34 ≡ usedIn s b

@@ -1,11 +1,3 @@
-pub mod Limits
-pub mod Layout
-pub mod Values
 pub mod Stages
 pub mod Names
 pub mod Verdict
-pub mod Table
-pub mod Card
-pub mod Orders
-pub mod Write
-pub mod Examples

@@ -11,7 +11,7 @@ use Rattle.answer.specs.declared.Check.the-variants.{Refused}
 use Rattle.answer.specs.Lowest.{refuseAt}
 use Rattle.card.specs.declared.Named.{Named}
 use Rattle.closure.specs.Limits.{CONTOURS, PAIRS}
-use Rattle.card.specs.Layout.{contoursOf, pairsOf}
+use Rattle.fields.specs.Layout.{contoursOf, pairsOf}
 use Rattle.card.specs.Stages.{nameFault, beforeOf, afterOf}
 
 -- the first so many pairs as positions, before and after in turn

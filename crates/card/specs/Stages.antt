@@ -11,8 +11,8 @@ use Rattle.answer.specs.Lowest.{orFurther, lowest}
 use Rattle.block.specs.Field.{u64At}
 use Rattle.block.specs.Block.{blockBytes, checked, starts, zerosAt}
 use Rattle.closure.specs.Limits.{CONTOURS, PAIRS}
-use Rattle.card.specs.Limits.{cardBytes, perContourLimit, candidateLimit, passLimit, vertexLimit, pairsABlock, payloadBytes, farthest}
-use Rattle.card.specs.Layout.{blocksOf, payload, contoursOf, pairsOf, perContourOf, passesOf, homePlace, exteriorOf, interiorOf, idOf, tagOf, vertexCountOf, typeOf, fillerOf, vertexPlace, beforeIdOf, beforeTagOf, afterIdOf, afterTagOf}
+use Rattle.fields.specs.Limits.{cardBytes, perContourLimit, candidateLimit, passLimit, vertexLimit, pairsABlock, payloadBytes, farthest}
+use Rattle.fields.specs.Layout.{blocksOf, payload, contoursOf, pairsOf, perContourOf, passesOf, homePlace, exteriorOf, interiorOf, idOf, tagOf, vertexCountOf, typeOf, fillerOf, vertexPlace, beforeIdOf, beforeTagOf, afterIdOf, afterTagOf}
 
 -- this place, if the test holds
 abbrev pub foundIf : Bool → ℕ → Found

@@ -6,7 +6,7 @@ use Rattle.answer.specs.declared.Check.{Check}
 use Rattle.answer.specs.Lowest.{refuseAt}
 use Rattle.answer.specs.Stage.{firstRefusal}
 use Rattle.closure.specs.Cycle.{firstOnCycle}
-use Rattle.card.specs.Layout.{blocksOf, contoursOf, pairsOf}
+use Rattle.fields.specs.Layout.{blocksOf, contoursOf, pairsOf}
 use Rattle.card.specs.Stages.{lengthFault, checkFault, startFault, headFault, countFault, contourFault, spareFault, farFault, repeatFault, nameFault, tagFault}
 use Rattle.card.specs.Names.{seatsOf}
 

@@ -1,5 +1,5 @@
-// The card: what its bytes say, and when it goes back. Every question takes the card as any bytes and answers on all of them: a byte
-// past the end reads 0. What is worth asking of a card is worth it once `check` finds nothing wrong with it.
+// When a card goes back: the first fault of any bytes, with its place; and which contours its pairs name. What a card's fields say
+// stands in the crate `fields`.
 ghost use mathlib.Core.Path.{_≡_};
 ghost use mathlib.Core.Bool.{false, not};
 ghost use Prim.Native.Nat.{_+_, _*_, _<_, _≤_, min};
@@ -8,42 +8,26 @@ ghost use Rattle.answer.specs.Lowest.{refuseAt};
 ghost use Rattle.answer.specs.Stage.{firstRefusal};
 ghost use Rattle.block.specs.Field.{byteAt, u32At};
 ghost use Rattle.closure.specs.Limits.{CONTOURS, PAIRS};
-ghost use Rattle.card.specs.Layout.{blocksOf, payload, jobOf, contoursOf, pairsOf, perContourOf, passesOf, moveLimitOf, homePlace, exteriorOf, interiorOf, idOf, tagOf, vertexCountOf, typeOf, vertexPlace, pairPlace, beforeIdOf, beforeTagOf, afterIdOf, afterTagOf};
-ghost use Rattle.card.specs.Values.{asType, asPreference, pointAt};
+ghost use Rattle.fields.specs.Layout.{blocksOf, payload, contoursOf, pairsOf};
 ghost use Rattle.card.specs.Stages.{lengthFault, checkFault, kindDue, startFault, headFaults, headFault, countFault, badContour, contourFault, usedIn, badSpare, spareFault, tooFar, farPoint, farVertex, farFault, seekOf, repeatFault, positionOf, tagFault};
 ghost use Rattle.card.specs.Names.{seatsOf, namedPairs, namedOf};
 ghost use Rattle.card.specs.Verdict.{headStages, blockStages, contourStages, seatStages, pairStages, checkOf};
 use answer::Check;
-use answer::ContourType;
-use answer::CutDirectionPreference;
 use answer::Found;
-use answer::Point;
 use answer::Refusal;
 use block::BLOCK;
 use closure::CONTOURS;
 use closure::PAIRS;
+use fields::CANDIDATES;
+use fields::CARD_BYTES;
+use fields::PAIRS_A_BLOCK;
+use fields::PASSES;
+use fields::PAYLOAD_AT;
+use fields::PER_CONTOUR;
+use fields::VERTICES;
 
-// The most bytes that a card has.
-pub const CARD_BYTES: usize = 23040;
-
-// The most candidates of one contour, and of all of them.
-pub const PER_CONTOUR: usize = 8;
-
-pub const CANDIDATES: usize = 80;
-
-// The most passes.
-pub const PASSES: usize = 1000;
-
-// The most vertices of a contour.
-pub const VERTICES: usize = 30;
-
-// The pairs that a block takes.
-const PAIRS_A_BLOCK: usize = 31;
-
-// The bytes of a block's payload, and where it begins.
+// The bytes of a block's payload.
 const PAYLOAD: usize = 500;
-
-const PAYLOAD_AT: usize = 8;
 
 // The version of every block.
 const VERSION: u8 = 1;
@@ -58,230 +42,6 @@ const PLACES: usize = 2 * PAIRS;
 pub struct Named {
     pub check: Check,
     pub places: [u8; PLACES],
-}
-
-// ---- the head
-
-// The job's number.
-pub fn job(card: &[u8]) -> u32
-    ensures { λ r. ⌜ r ≡ jobOf (now (card .entry)) ⌝ }
-{
-    block::u32_at(card, 8)
-}
-
-// How many contours the card has.
-pub fn contours(card: &[u8]) -> usize
-    ensures { λ r. ⌜ r ≡ contoursOf (now (card .entry)) ⌝ }
-{
-    block::u16_at(card, 12) as usize
-}
-
-// How many pairs it has.
-pub fn pairs(card: &[u8]) -> usize
-    ensures { λ r. ⌜ r ≡ pairsOf (now (card .entry)) ⌝ }
-{
-    block::u16_at(card, 14) as usize
-}
-
-// How many candidates each contour is to have.
-pub fn per_contour(card: &[u8]) -> usize
-    ensures { λ r. ⌜ r ≡ perContourOf (now (card .entry)) ⌝ }
-{
-    block::u16_at(card, 16) as usize
-}
-
-// How many passes the search may take.
-pub fn passes(card: &[u8]) -> usize
-    ensures { λ r. ⌜ r ≡ passesOf (now (card .entry)) ⌝ }
-{
-    block::u16_at(card, 18) as usize
-}
-
-// How many moves the search may try; 0 is no limit.
-pub fn move_limit(card: &[u8]) -> u32
-    ensures { λ r. ⌜ r ≡ moveLimitOf (now (card .entry)) ⌝ }
-{
-    block::u32_at(card, 20)
-}
-
-// Where the tour starts.
-pub fn home(card: &[u8]) -> Point
-    ensures { λ r. ⌜ r ≡ pointAt (now (card .entry)) homePlace ⌝ }
-{
-    Point {
-        x: block::f64_at(card, 24),
-        y: block::f64_at(card, 32),
-    }
-}
-
-// A direction asked for: 0 Ccw, 1 Cw, and on a card that was not checked any other byte is Auto too.
-fn preference(b: u8) -> CutDirectionPreference
-    ensures { λ r. ⌜ r ≡ asPreference b ⌝ }
-{
-    if b == 0 {
-        return CutDirectionPreference::Ccw;
-    }
-    if b == 1 {
-        return CutDirectionPreference::Cw;
-    }
-    CutDirectionPreference::Auto
-}
-
-// Which way round exteriors are to be cut, and interiors.
-pub fn exterior(card: &[u8]) -> CutDirectionPreference
-    ensures { λ r. ⌜ r ≡ asPreference (exteriorOf (now (card .entry))) ⌝ }
-{
-    preference(block::byte_at(card, 40))
-}
-
-pub fn interior(card: &[u8]) -> CutDirectionPreference
-    ensures { λ r. ⌜ r ≡ asPreference (interiorOf (now (card .entry))) ⌝ }
-{
-    preference(block::byte_at(card, 41))
-}
-
-// ---- places
-
-// Where a byte of block b's payload stands, cut off at the card's end.
-fn place(card: &[u8], b: usize, offset: usize) -> usize
-    ensures { λ r. ⌜ r ≡ min (payload b + offset) (length (now (card .entry))) ⌝ }
-{
-    let end = card.len();
-    if end / BLOCK < b {
-        return end;
-    }
-    let start = BLOCK * b;
-    if end - start < PAYLOAD_AT {
-        return end;
-    }
-    let at = start + PAYLOAD_AT;
-    if end - at < offset {
-        return end;
-    }
-    at + offset
-}
-
-// The same for contour k, whose block is the one after block k.
-fn contour_place(card: &[u8], k: usize, offset: usize) -> usize
-    ensures { λ r. ⌜ r ≡ min (payload (k + 1) + offset) (length (now (card .entry))) ⌝ }
-{
-    if card.len() <= k {
-        return card.len();
-    }
-    place(card, k + 1, offset)
-}
-
-// Where vertex j of contour k stands, cut off likewise.
-fn vertex_place(card: &[u8], k: usize, j: usize) -> usize
-    ensures { λ r. ⌜ r ≡ min (vertexPlace k j) (length (now (card .entry))) ⌝ }
-{
-    let end = card.len();
-    let start = contour_place(card, k, 12);
-    if (end - start) / 16 < j {
-        return end;
-    }
-    start + 16 * j
-}
-
-// Where pair q stands, cut off likewise.
-fn pair_place(card: &[u8], q: usize) -> usize
-    ensures { λ r. ⌜ r ≡ min (pairPlace (now (card .entry)) q) (length (now (card .entry))) ⌝ }
-{
-    let first = (block::u16_at(card, 12) as usize) + 1;
-    place(card, first + q / PAIRS_A_BLOCK, 16 * (q % PAIRS_A_BLOCK))
-}
-
-// ---- a contour
-
-// Fields of contour k's payload.
-fn contour_byte(card: &[u8], k: usize, offset: usize) -> u8
-    ensures { λ r. ⌜ r ≡ byteAt (now (card .entry)) (payload (k + 1) + offset) ⌝ }
-{
-    block::byte_at(card, contour_place(card, k, offset))
-}
-
-fn contour_u32(card: &[u8], k: usize, offset: usize) -> u32
-    ensures { λ r. ⌜ r ≡ u32At (now (card .entry)) (payload (k + 1) + offset) ⌝ }
-{
-    block::u32_at(card, contour_place(card, k, offset))
-}
-
-// Contour k's id.
-pub fn id(card: &[u8], k: usize) -> u32
-    ensures { λ r. ⌜ r ≡ idOf (now (card .entry)) k ⌝ }
-{
-    contour_u32(card, k, 0)
-}
-
-// Contour k's tag.
-pub fn tag(card: &[u8], k: usize) -> u32
-    ensures { λ r. ⌜ r ≡ tagOf (now (card .entry)) k ⌝ }
-{
-    contour_u32(card, k, 4)
-}
-
-// How many vertices contour k has.
-pub fn vertices(card: &[u8], k: usize) -> usize
-    ensures { λ r. ⌜ r ≡ vertexCountOf (now (card .entry)) k ⌝ }
-{
-    block::u16_at(card, contour_place(card, k, 8)) as usize
-}
-
-// Whether contour k is the outline of a part or a hole in one. On a card that was not checked, any byte but 0 is a hole.
-pub fn contour_type(card: &[u8], k: usize) -> ContourType
-    ensures { λ r. ⌜ r ≡ asType (typeOf (now (card .entry)) k) ⌝ }
-{
-    let b = contour_byte(card, k, 10);
-    if b == 0 {
-        return ContourType::Exterior;
-    }
-    ContourType::Interior
-}
-
-// Vertex j of contour k.
-pub fn vertex(card: &[u8], k: usize, j: usize) -> Point
-    ensures { λ r. ⌜ r ≡ pointAt (now (card .entry)) (vertexPlace k j) ⌝ }
-{
-    let at = vertex_place(card, k, j);
-    Point {
-        x: block::f64_at(card, at),
-        y: block::f64_at(card, at + 8),
-    }
-}
-
-// ---- a pair
-
-// A field of pair q.
-fn pair_u32(card: &[u8], q: usize, offset: usize) -> u32
-    requires { ⌜ offset < 16 ⌝ }
-    ensures { λ r. ⌜ r ≡ u32At (now (card .entry)) (pairPlace (now (card .entry)) q + offset) ⌝ }
-{
-    block::u32_at(card, pair_place(card, q) + offset)
-}
-
-// The id and the tag of pair q's first contour, and those of its second.
-pub fn before_id(card: &[u8], q: usize) -> u32
-    ensures { λ r. ⌜ r ≡ beforeIdOf (now (card .entry)) q ⌝ }
-{
-    pair_u32(card, q, 0)
-}
-
-pub fn before_tag(card: &[u8], q: usize) -> u32
-    ensures { λ r. ⌜ r ≡ beforeTagOf (now (card .entry)) q ⌝ }
-{
-    pair_u32(card, q, 4)
-}
-
-pub fn after_id(card: &[u8], q: usize) -> u32
-    ensures { λ r. ⌜ r ≡ afterIdOf (now (card .entry)) q ⌝ }
-{
-    pair_u32(card, q, 8)
-}
-
-pub fn after_tag(card: &[u8], q: usize) -> u32
-    ensures { λ r. ⌜ r ≡ afterTagOf (now (card .entry)) q ⌝ }
-{
-    pair_u32(card, q, 12)
 }
 
 // ---- what makes a card go back, each with the lowest place at which it does
@@ -339,7 +99,7 @@ fn kind_due(card: &[u8], b: usize) -> u8
     if b == 0 {
         return 1;
     }
-    if b <= contours(card) {
+    if b <= fields::contours(card) {
         return 2;
     }
     3
@@ -370,9 +130,9 @@ fn head_faults(card: &[u8]) -> [bool; 8]
     [
         false,
         CONTOURS < n,
-        PAIRS < pairs(card),
+        PAIRS < fields::pairs(card),
         (c < 1) | (PER_CONTOUR < c),
-        PASSES < passes(card),
+        PASSES < fields::passes(card),
         2 < block::byte_at(card, 40),
         2 < block::byte_at(card, 41),
         CANDIDATES < n * c,
@@ -411,16 +171,16 @@ fn count_fault(card: &[u8]) -> Found
 fn bad_contour(card: &[u8], k: usize) -> bool
     ensures { λ r. ⌜ r ≡ badContour (now (card .entry)) k ⌝ }
 {
-    let v = vertices(card, k);
+    let v = fields::vertices(card, k);
     ((v < 1) | (VERTICES < v))
-        | ((1 < contour_byte(card, k, 10)) | (contour_byte(card, k, 11) != 0))
+        | ((1 < fields::contour_byte(card, k, 10)) | (fields::contour_byte(card, k, 11) != 0))
 }
 
 // 6: the first such contour.
 fn contour_fault(card: &[u8]) -> Found
     ensures { λ r. ⌜ r ≡ contourFault (now (card .entry)) ⌝ }
 {
-    let n = contours(card);
+    let n = fields::contours(card);
     let mut k: usize = 0;
     while k < n {
         if bad_contour(card, k) {
@@ -441,9 +201,9 @@ fn used(card: &[u8], b: usize) -> usize
     }
     let n = block::u16_at(card, 12) as usize;
     if b <= n {
-        return 12 + 16 * (block::u16_at(card, contour_place(card, b - 1, 8)) as usize);
+        return 12 + 16 * (block::u16_at(card, fields::contour_place(card, b - 1, 8)) as usize);
     }
-    let m = pairs(card);
+    let m = fields::pairs(card);
     let before = PAIRS_A_BLOCK * (b - (n + 1));
     if m <= before {
         return 0;
@@ -500,8 +260,8 @@ fn far_point(card: &[u8], at: usize) -> bool
 fn far_vertex(card: &[u8], k: usize) -> Found
     ensures { λ r. ⌜ r ≡ farVertex (now (card .entry)) k ⌝ }
 {
-    let start = contour_place(card, k, 12);
-    let v = block::u16_at(card, contour_place(card, k, 8)) as usize;
+    let start = fields::contour_place(card, k, 12);
+    let v = block::u16_at(card, fields::contour_place(card, k, 8)) as usize;
     let mut j: usize = 0;
     while j < v {
         if far_point(card, start + 16 * j) {
@@ -519,7 +279,7 @@ fn far_fault(card: &[u8]) -> Found
     if far_point(card, 24) {
         return Found::At(0);
     }
-    let n = contours(card);
+    let n = fields::contours(card);
     let mut k: usize = 0;
     while k < n {
         let Found::Absent = far_vertex(card, k) else {
@@ -536,7 +296,7 @@ fn seek(card: &[u8], count: usize, wanted: u32) -> Found
 {
     let mut k: usize = 0;
     while k < count {
-        if id(card, k) == wanted {
+        if fields::id(card, k) == wanted {
             return Found::At(k);
         }
         k += 1;
@@ -548,17 +308,17 @@ fn seek(card: &[u8], count: usize, wanted: u32) -> Found
 pub fn position_of(card: &[u8], wanted: u32) -> Found
     ensures { λ r. ⌜ r ≡ positionOf (now (card .entry)) wanted ⌝ }
 {
-    seek(card, contours(card), wanted)
+    seek(card, fields::contours(card), wanted)
 }
 
 // 9: the first contour whose id an earlier one has.
 fn repeat_fault(card: &[u8]) -> Found
     ensures { λ r. ⌜ r ≡ repeatFault (now (card .entry)) ⌝ }
 {
-    let n = contours(card);
+    let n = fields::contours(card);
     let mut k: usize = 0;
     while k < n {
-        let Found::Absent = seek(card, k, id(card, k)) else {
+        let Found::Absent = seek(card, k, fields::id(card, k)) else {
             return Found::At(k);
         };
         k += 1;
@@ -571,17 +331,17 @@ fn named_pairs(card: &[u8]) -> Named
     requires { ⌜ (contoursOf (now card) ≤ CONTOURS) × (pairsOf (now card) ≤ PAIRS) ⌝ }
     ensures { λ r. ⌜ r ≡ namedPairs (now (card .entry)) ⌝ }
 {
-    let m = pairs(card);
+    let m = fields::pairs(card);
     let mut places = [0u8; PLACES];
     let mut q: usize = 0;
     while q < m {
-        let Found::At(before) = position_of(card, before_id(card, q)) else {
+        let Found::At(before) = position_of(card, fields::before_id(card, q)) else {
             return Named {
                 check: refusal(10, q),
                 places,
             };
         };
-        let Found::At(after) = position_of(card, after_id(card, q)) else {
+        let Found::At(after) = position_of(card, fields::after_id(card, q)) else {
             return Named {
                 check: refusal(10, q),
                 places,
@@ -601,13 +361,13 @@ fn named_pairs(card: &[u8]) -> Named
 pub fn pair_places(card: &[u8]) -> Named
     ensures { λ r. ⌜ r ≡ namedOf (now (card .entry)) ⌝ }
 {
-    if CONTOURS < contours(card) {
+    if CONTOURS < fields::contours(card) {
         return Named {
             check: refusal(4, 1),
             places: [0u8; PLACES],
         };
     }
-    if PAIRS < pairs(card) {
+    if PAIRS < fields::pairs(card) {
         return Named {
             check: refusal(4, 2),
             places: [0u8; PLACES],
@@ -628,12 +388,14 @@ fn tag_fault(card: &[u8], seats: &[u8]) -> Found
     requires { ⌜ now seats ≡ seatsOf (now card) (pairsOf (now card)) ⌝ }
     ensures { λ r. ⌜ r ≡ tagFault (now (card .entry)) ⌝ }
 {
-    let m = pairs(card);
+    let m = fields::pairs(card);
     let mut q: usize = 0;
     while q < m {
         let before = wide(seats[2 * q]);
         let after = wide(seats[2 * q + 1]);
-        if (tag(card, before) != before_tag(card, q)) | (tag(card, after) != after_tag(card, q)) {
+        if (fields::tag(card, before) != fields::before_tag(card, q))
+            | (fields::tag(card, after) != fields::after_tag(card, q))
+        {
             return Found::At(q);
         }
         q += 1;
@@ -700,7 +462,7 @@ fn check_seats(card: &[u8], seats: &[u8]) -> Check
     let Check::Fine = a else {
         return a;
     };
-    refused(12, closure::first_on_cycle(contours(card), seats))
+    refused(12, closure::first_on_cycle(fields::contours(card), seats))
 }
 
 // 10, 11, 12: the pairs.
@@ -714,7 +476,7 @@ fn check_pairs(card: &[u8]) -> Check
         return a;
     };
     let places = named.places;
-    let end = 2 * pairs(card);
+    let end = 2 * fields::pairs(card);
     check_seats(card, &places[..end])
 }
 

@@ -1,6 +1,6 @@
 // Reads a card on standard input and writes its list on standard output. A longer input than any card's is read one byte past
 // the longest, which is all that its refusal needs.
-use card::CARD_BYTES;
+use fields::CARD_BYTES;
 
 // One byte more than the longest card has.
 const ROOM: usize = CARD_BYTES + 1;

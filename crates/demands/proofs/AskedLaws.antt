@@ -13,9 +13,9 @@ use Rattle.answer.specs.declared.Check.{Check}
 use Rattle.answer.specs.declared.Check.the-variants as check
 use Rattle.answer.specs.Stage.{firstRefusal}
 use Rattle.cost.specs.Bad.{refuseIf}
-use Rattle.card.specs.Layout.{contoursOf}
+use Rattle.fields.specs.Layout.{contoursOf}
 use Rattle.card.specs.Verdict.{checkOf}
-use Rattle.card.proofs.Verdicts.{exactly}
+use Rattle.card_laws.proofs.Verdicts.{exactly}
 use Rattle.solve.specs.declared.Outcome.{Outcome}
 use Rattle.tour.specs.declared.Toured.the-variants as answer
 use Rattle.tour.specs.Search.{countOn, outcomeOn}

@@ -1,9 +1,9 @@
 -- Demand 1 holds: the card's rows by the crate `card`, 13 and the rooms by the definition of the tour. Assumes nothing.
 use mathlib.Core.List.{List}
 use Prim.Native.Nat.{ℕ}
-use Rattle.card.specs.Table.{Past11}
-use Rattle.card.proofs.OrderRows.{twelve-exactly}
-use Rattle.card.proofs.Verdicts.{exactly}
+use Rattle.card_laws.specs.Table.{Past11}
+use Rattle.card_laws.proofs.OrderRows.{twelve-exactly}
+use Rattle.card_laws.proofs.Verdicts.{exactly}
 use Rattle.demands.specs.Demand1.{LegalOrder, RefusedWith, Checked, Claim}
 use Rattle.demands.proofs.AskedLaws.{asked}
 use Rattle.demands.proofs.OrderLaws.{by-positions, by-ids}

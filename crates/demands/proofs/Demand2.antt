@@ -14,11 +14,11 @@ use Rattle.answer.specs.declared.Check.the-variants.{Fine}
 use Rattle.candidates.specs.declared.Candidate.{Candidate}
 use Rattle.candidates.specs.Generate.{candidatesOf}
 use Rattle.closure.proofs.PairLaws.{lt-or, same-or}
-use Rattle.card.specs.Layout.{contoursOf, perContourOf, passesOf, vertexCountOf, vertexPlace}
-use Rattle.card.specs.Values.{pointAt}
-use Rattle.card.specs.Card.{each}
+use Rattle.fields.specs.Layout.{contoursOf, perContourOf, passesOf, vertexCountOf, vertexPlace}
+use Rattle.fields.specs.Values.{pointAt}
+use Rattle.card_laws.specs.Card.{each}
 use Rattle.card.specs.Verdict.{checkOf}
-use Rattle.card.proofs.Verdicts.{exactly}
+use Rattle.card_laws.proofs.Verdicts.{exactly}
 use Rattle.table.specs.Distances.{absent}
 use Rattle.table.proofs.DistanceLaws.{same-contour, other-contour}
 use Rattle.improve.specs.Search.{Sheet, State, lengthIn, swap, flip, judged, atLimit, begun, worthwhile, searched}

@@ -14,10 +14,10 @@ use Rattle.answer.specs.declared.Check.the-variants.{Fine}
 use Rattle.root.proofs.StepLaws.{steps→le}
 use Rattle.closure.specs.Limits.{CONTOURS}
 use Rattle.closure.proofs.PairLaws.{lt-or}
-use Rattle.card.specs.Layout.{contoursOf, passesOf, moveLimitOf}
+use Rattle.fields.specs.Layout.{contoursOf, passesOf, moveLimitOf}
 use Rattle.card.specs.Verdict.{checkOf}
-use Rattle.card.proofs.Facts.{accepted}
-use Rattle.card.proofs.Verdicts.{exactly}
+use Rattle.card_laws.proofs.Facts.{accepted}
+use Rattle.card_laws.proofs.Verdicts.{exactly}
 use Rattle.table.proofs.DistanceLaws.{homes-at, homes-length}
 use Rattle.exact.specs.Grid.{gridPoint, gridPoints, squaredLength}
 use Rattle.exact.specs.Length.{lowerEnd, upperEnd, step40}

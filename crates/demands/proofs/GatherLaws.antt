@@ -22,10 +22,10 @@ use Rattle.candidates.specs.Along.{perimeterOf, spot}
 use Rattle.candidates.specs.Generate.{mostCandidates, candidateAt, blank, spaced, candidatesFrom, candidatesOf}
 use Rattle.candidates.proofs.SizeLaws.{AllGood, each-near}
 use Rattle.closure.proofs.PairLaws.{lt-or, same-or}
-use Rattle.card.specs.Layout.{contoursOf, perContourOf, vertexCountOf, vertexPlace}
-use Rattle.card.specs.Values.{pointAt}
+use Rattle.fields.specs.Layout.{contoursOf, perContourOf, vertexCountOf, vertexPlace}
+use Rattle.fields.specs.Values.{pointAt}
 use Rattle.card.specs.Verdict.{checkOf}
-use Rattle.card.proofs.Facts.{accepted}
+use Rattle.card_laws.proofs.Facts.{accepted}
 use Rattle.table.specs.Distances.{absent, pierced, left}
 use Rattle.instance.specs.Gather.{verticesOf, wayOf, outlineOf, offersOf, gathered, firsts}
 use Rattle.instance.proofs.GatherLaws.{firsts-length, vertices-length}

@@ -12,7 +12,7 @@ use Rattle.answer.specs.declared.Check.{Check}
 use Rattle.answer.specs.declared.Check.the-variants.{Fine, Refused}
 use Rattle.answer.specs.Stage.{firstRefusal}
 use Rattle.cost.specs.Bad.{refuseIf}
-use Rattle.card.specs.Layout.{contoursOf}
+use Rattle.fields.specs.Layout.{contoursOf}
 use Rattle.card.specs.Verdict.{checkOf}
 use Rattle.table.proofs.PlaceLaws.{square-small}
 use Rattle.instance.proofs.FineLaws.{few-candidates}

@@ -14,4 +14,3 @@ pub mod Demand3
 pub mod Starred
 pub mod Hosts
 pub mod Unique
-pub mod Examples

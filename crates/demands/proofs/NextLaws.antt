@@ -15,9 +15,9 @@ use Rattle.answer.specs.declared.Check.the-variants.{Fine}
 use Rattle.cost.specs.Distance.{distanceOf}
 use Rattle.cost.proofs.SizeLaws.{Plus, Near, distance-plus}
 use Rattle.closure.proofs.PairLaws.{same-or}
-use Rattle.card.specs.Layout.{contoursOf}
+use Rattle.fields.specs.Layout.{contoursOf}
 use Rattle.card.specs.Verdict.{checkOf}
-use Rattle.card.proofs.Facts.{accepted}
+use Rattle.card_laws.proofs.Facts.{accepted}
 use Rattle.table.specs.Each.{each}
 use Rattle.table.proofs.DistanceLaws.{same-contour, homes-at}
 use Rattle.table.proofs.EachLaws.{each-keeps}

@@ -7,11 +7,11 @@ use lib.ListN.{getD}
 use Rattle.closure.specs.Cycle.{linked}
 use Rattle.hierarchy.specs.Legal.{Legal}
 use Rattle.hierarchy.proofs.OrderLaws.{linked-pair, pair-linked}
-use Rattle.card.specs.Layout.{contoursOf, pairsOf, idOf, beforeIdOf, afterIdOf}
+use Rattle.fields.specs.Layout.{contoursOf, pairsOf, idOf, beforeIdOf, afterIdOf}
 use Rattle.card.specs.Stages.{beforeOf, afterOf}
 use Rattle.card.specs.Names.{seatsOf}
-use Rattle.card.specs.Table.{No, Row9, Row10}
-use Rattle.card.proofs.PairRows.{same-contour, before-has, after-has}
+use Rattle.card_laws.specs.Table.{No, Row9, Row10}
+use Rattle.card_laws.proofs.PairRows.{same-contour, before-has, after-has}
 use Rattle.demands.specs.Demand1.{LegalOrder}
 use Rattle.demands.proofs.PairLaws.{PairAt, pair-listed, listed-pair}
 

@@ -17,13 +17,13 @@ use Rattle.candidates.specs.Generate.{candidatesFrom, candidatesOf}
 use Rattle.candidates.proofs.Starred.{two-of-square, second-of-four}
 use Rattle.closure.specs.Pairs.{paired, every}
 use Rattle.hierarchy.specs.Keep.{latest, keptIn, keepsPairs, readyBy, readyIn}
-use Rattle.card.specs.Layout.{jobOf}
-use Rattle.card.specs.Values.{asType, asPreference, pointAt}
+use Rattle.fields.specs.Layout.{jobOf}
+use Rattle.fields.specs.Values.{asType, asPreference, pointAt}
 use Rattle.card.specs.Stages.{seekOf}
 use Rattle.card.specs.Names.{seatsOf}
-use Rattle.card.specs.Write.{bytes, blockOf, numberBytes, pointBytes, headBytes, pointsBytes, contourBytes, contourBlocks, pairBytes, pairBlocks, written}
-use Rattle.card.specs.Examples.{asJob41, job41}
-use Rattle.card.proofs.Starred.{examples}
+use Rattle.card_laws.specs.Write.{bytes, blockOf, numberBytes, pointBytes, headBytes, pointsBytes, contourBytes, contourBlocks, pairBytes, pairBlocks, written}
+use Rattle.card_laws.specs.Examples.{asJob41, job41}
+use Rattle.card_laws.proofs.Starred.{examples}
 use Rattle.table.specs.Walk.{legs, walk}
 use Rattle.table.specs.Each.{each}
 use Rattle.table.specs.Evaluate.{lengthOf}

@@ -11,11 +11,11 @@ use Rattle.answer.specs.declared.Check.the-variants.{Fine}
 use Rattle.cost.proofs.SizeLaws.{Near, near-more, good-near, distance-below}
 use Rattle.hierarchy.specs.Legal.{EachOnce, Legal}
 use Rattle.hierarchy.proofs.OrderLaws.{keeps-legal, legal-keeps}
-use Rattle.card.specs.Layout.{contoursOf, passesOf, moveLimitOf}
+use Rattle.fields.specs.Layout.{contoursOf, passesOf, moveLimitOf}
 use Rattle.card.specs.Verdict.{checkOf}
-use Rattle.card.proofs.Facts.{accepted}
-use Rattle.card.proofs.OrderRows.{links}
-use Rattle.card.proofs.Verdicts.{exactly}
+use Rattle.card_laws.proofs.Facts.{accepted}
+use Rattle.card_laws.proofs.OrderRows.{links}
+use Rattle.card_laws.proofs.Verdicts.{exactly}
 use Rattle.table.proofs.DistanceLaws.{homes-at}
 use Rattle.start.proofs.ChoiceLaws.{InContour}
 use Rattle.start.proofs.StartLaws.{Within, start-finishes, start-legal}

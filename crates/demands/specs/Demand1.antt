@@ -10,8 +10,8 @@ use lib.ListN.{length, getD}
 use Rattle.answer.specs.declared.Refusal.{Refusal}
 use Rattle.answer.specs.declared.Check.the-variants as check
 use Rattle.hierarchy.specs.Legal.{EachOnce}
-use Rattle.card.specs.Layout.{contoursOf, pairsOf, idOf, beforeIdOf, afterIdOf}
-use Rattle.card.specs.Table.{Given, Sound, Past11}
+use Rattle.fields.specs.Layout.{contoursOf, pairsOf, idOf, beforeIdOf, afterIdOf}
+use Rattle.card_laws.specs.Table.{Given, Sound, Past11}
 use Rattle.card.specs.Verdict.{checkOf}
 use Rattle.tour.specs.declared.Toured.the-variants as answer
 use Rattle.tour.specs.Search.{countOn, outcomeOn}

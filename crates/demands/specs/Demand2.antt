@@ -14,8 +14,8 @@ use Rattle.cost.specs.Distance.{distanceOf}
 use Rattle.candidates.specs.declared.Candidate.{Candidate}
 use Rattle.candidates.specs.Direction.{directionOf}
 use Rattle.candidates.specs.Generate.{candidatesOf}
-use Rattle.card.specs.Layout.{contoursOf, passesOf, moveLimitOf}
-use Rattle.card.specs.Card.{cardOf, contourOf}
+use Rattle.fields.specs.Layout.{contoursOf, passesOf, moveLimitOf}
+use Rattle.card_laws.specs.Card.{cardOf, contourOf}
 use Rattle.table.specs.Evaluate.{distanceAt, lengthOf}
 use Rattle.table.specs.Distances.{absent, pierced, left}
 use Rattle.table.specs.Each.{each}

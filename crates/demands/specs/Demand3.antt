@@ -14,7 +14,7 @@ use Rattle.exact.specs.Length.{alongRoute, lowerEnd, upperEnd, step40}
 use Rattle.exact.specs.Bound.{NearEnds}
 use Rattle.improve.specs.Search.{contours}
 use Rattle.solve.specs.declared.Outcome.{Outcome}
-use Rattle.card.specs.Layout.{contoursOf}
+use Rattle.fields.specs.Layout.{contoursOf}
 use Rattle.tour.specs.declared.Toured.the-variants.{Done}
 use Rattle.tour.specs.Search.{homeOn, candidatesOn, countOn, ownersOn, startOn}
 use Rattle.tour.specs.Tour.{tourOf}

@@ -4,4 +4,3 @@ pub mod Demand3
 pub mod Hosts
 pub mod Unique
 pub mod Starred
-pub mod Examples

@@ -13,10 +13,10 @@ use Rattle.cost.specs.Points.{point, points}
 use Rattle.cost.specs.Closest.{closestOnPolygonOf}
 use Rattle.candidates.specs.Along.{spot}
 use Rattle.candidates.specs.Generate.{candidateAt, blank, candidatesOf}
-use Rattle.card.specs.Layout.{jobOf, idOf, tagOf}
-use Rattle.card.specs.Card.{Card}
-use Rattle.card.specs.Write.{written}
-use Rattle.card.specs.Examples.{asJob41, job41, selfPair, waiting, verdictOn}
+use Rattle.fields.specs.Layout.{jobOf, idOf, tagOf}
+use Rattle.card_laws.specs.Card.{Card}
+use Rattle.card_laws.specs.Write.{written}
+use Rattle.card_laws.specs.Examples.{asJob41, job41, selfPair, waiting, verdictOn}
 use Rattle.tour.specs.Search.{candidatesOn, ownersOn, firstsOn, tourOn, outcomeOn}
 
 -- the root of one pattern of bits is another

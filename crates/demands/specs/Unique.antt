@@ -28,8 +28,8 @@ use Rattle.candidates.specs.Question.{offeredOf}
 use Rattle.closure.specs.Cycle.{firstOnCycle}
 use Rattle.hierarchy.specs.Keep.{keepsPairs, readyIn}
 use Rattle.hierarchy.specs.Questions.{numContours, precedencesOf, violatesOf, predecessorsOf, successorsOf, validSequence, topologicalSort}
-use Rattle.card.specs.Layout.{jobOf, contoursOf, pairsOf, perContourOf, passesOf, moveLimitOf, homePlace, exteriorOf, interiorOf, idOf, tagOf, vertexCountOf, typeOf, vertexPlace, beforeIdOf, beforeTagOf, afterIdOf, afterTagOf}
-use Rattle.card.specs.Values.{asType, asPreference, pointAt}
+use Rattle.fields.specs.Layout.{jobOf, contoursOf, pairsOf, perContourOf, passesOf, moveLimitOf, homePlace, exteriorOf, interiorOf, idOf, tagOf, vertexCountOf, typeOf, vertexPlace, beforeIdOf, beforeTagOf, afterIdOf, afterTagOf}
+use Rattle.fields.specs.Values.{asType, asPreference, pointAt}
 use Rattle.card.specs.Stages.{positionOf}
 use Rattle.card.specs.Names.{namedOf}
 use Rattle.card.specs.Verdict.{checkOf}

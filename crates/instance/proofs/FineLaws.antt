@@ -8,10 +8,10 @@ use Rattle.answer.specs.declared.Check.the-variants.{Fine}
 use Rattle.candidates.specs.Generate.{blank}
 use Rattle.candidates.proofs.CountLaws.{count-some}
 use Rattle.closure.specs.Limits.{CONTOURS}
-use Rattle.card.specs.Limits.{candidateLimit, vertexLimit}
-use Rattle.card.specs.Layout.{contoursOf, perContourOf, vertexCountOf}
+use Rattle.fields.specs.Limits.{candidateLimit, vertexLimit}
+use Rattle.fields.specs.Layout.{contoursOf, perContourOf, vertexCountOf}
 use Rattle.card.specs.Verdict.{checkOf}
-use Rattle.card.proofs.Facts.{accepted}
+use Rattle.card_laws.proofs.Facts.{accepted}
 use Rattle.instance.specs.Gather.{verticesOf, outlineOf, wayOf, offersOf, gathered, owners, firsts, heldOf}
 use Rattle.instance.specs.Room.{heldAt, instanceOf}
 use Rattle.instance.proofs.RoomLaws.{padded-front}

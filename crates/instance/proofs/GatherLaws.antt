@@ -18,10 +18,10 @@ use Rattle.candidates.specs.declared.Candidates.{Candidates}
 use Rattle.instance.specs.declared.Instance.{Instance}
 use Rattle.instance.specs.declared.Outline.{Outline}
 use Rattle.closure.specs.Limits.{CONTOURS}
-use Rattle.card.specs.Limits.{perContourLimit, candidateLimit, vertexLimit}
-use Rattle.card.specs.Layout.{contoursOf, perContourOf, exteriorOf, interiorOf, vertexCountOf, typeOf, vertexPlace}
+use Rattle.fields.specs.Limits.{perContourLimit, candidateLimit, vertexLimit}
+use Rattle.fields.specs.Layout.{contoursOf, perContourOf, exteriorOf, interiorOf, vertexCountOf, typeOf, vertexPlace}
 use Rattle.answer.specs.declared.Point.{Point}
-use Rattle.card.specs.Values.{asType, asPreference, pointAt}
+use Rattle.fields.specs.Values.{asType, asPreference, pointAt}
 use Rattle.answer.specs.declared.ContourType.{ContourType}
 use Rattle.answer.specs.declared.CutDirectionPreference.{CutDirectionPreference}
 use Rattle.candidates.specs.Direction.{directionOf}

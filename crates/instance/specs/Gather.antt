@@ -10,9 +10,9 @@ use Rattle.candidates.specs.declared.Candidate.{Candidate}
 use Rattle.candidates.specs.Direction.{directionOf}
 use Rattle.candidates.specs.Generate.{candidatesOf}
 use Rattle.closure.specs.Limits.{CONTOURS}
-use Rattle.card.specs.Limits.{perContourLimit, candidateLimit, vertexLimit}
-use Rattle.card.specs.Layout.{contoursOf, perContourOf, exteriorOf, interiorOf, vertexCountOf, typeOf, vertexPlace}
-use Rattle.card.specs.Values.{asType, asPreference, pointAt}
+use Rattle.fields.specs.Limits.{perContourLimit, candidateLimit, vertexLimit}
+use Rattle.fields.specs.Layout.{contoursOf, perContourOf, exteriorOf, interiorOf, vertexCountOf, typeOf, vertexPlace}
+use Rattle.fields.specs.Values.{asType, asPreference, pointAt}
 
 -- the first so many vertices of contour k
 unfoldable pub verticesOf : List ℕ → ℕ → ℕ → List Point

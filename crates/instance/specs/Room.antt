@@ -10,7 +10,7 @@ use Rattle.candidates.specs.declared.Candidates.{Candidates}
 use Rattle.cost.specs.Closest.{zero64}
 use Rattle.candidates.specs.Generate.{mostCandidates, blank}
 use Rattle.closure.specs.Limits.{CONTOURS}
-use Rattle.card.specs.Limits.{candidateLimit, vertexLimit}
+use Rattle.fields.specs.Limits.{candidateLimit, vertexLimit}
 use Rattle.instance.specs.declared.Instance.{Instance}
 use Rattle.instance.specs.declared.Outline.{Outline}
 use Rattle.instance.specs.Gather.{gathered, owners, firsts, heldOf}

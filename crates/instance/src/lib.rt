@@ -4,17 +4,17 @@
 ghost use mathlib.Core.Path.{_≡_};
 ghost use mathlib.Core.List.{[]};
 ghost use Prim.Native.Nat.{min};
-ghost use Rattle.card.specs.Limits.{vertexLimit};
+ghost use Rattle.fields.specs.Limits.{vertexLimit};
 ghost use Rattle.candidates.specs.Generate.{filled};
 ghost use Rattle.instance.specs.Gather.{outlineOf, offersOf, heldOf};
 ghost use Rattle.instance.specs.Room.{outlined, heldAt, joined, Roomy, instanceOf};
 use answer::CutDirection;
 use candidates::Candidate;
 use candidates::Candidates;
-use card::CANDIDATES;
-use card::PER_CONTOUR;
-use card::VERTICES;
 use closure::CONTOURS;
+use fields::CANDIDATES;
+use fields::PER_CONTOUR;
+use fields::VERTICES;
 
 // The numbers of the most vertices of a contour, two each.
 const NUMBERS: usize = 2 * VERTICES;
@@ -52,11 +52,11 @@ fn most(v: usize) -> usize
 fn outline_of(card: &[u8], k: usize) -> Outline
     ensures { λ r. ⌜ r ≡ outlined (outlineOf (now (card .entry)) k) ⌝ }
 {
-    let v = most(card::vertices(card, k));
+    let v = most(fields::vertices(card, k));
     let mut numbers = [0.0; NUMBERS];
     let mut j = 0;
     while j < v {
-        let p = card::vertex(card, k, j);
+        let p = fields::vertex(card, k, j);
         numbers[2 * j] = p.x;
         numbers[2 * j + 1] = p.y;
         j += 1;
@@ -74,10 +74,10 @@ fn offers(card: &[u8], k: usize) -> Candidates
     let o = outline_of(card, k);
     let numbers = o.numbers;
     let end = o.count;
-    let kind = card::contour_type(card, k);
-    let exterior = card::exterior(card);
-    let interior = card::interior(card);
-    let c = card::per_contour(card);
+    let kind = fields::contour_type(card, k);
+    let exterior = fields::exterior(card);
+    let interior = fields::interior(card);
+    let c = fields::per_contour(card);
     candidates::candidates_of(&numbers[..end], c, kind, exterior, interior)
 }
 
@@ -133,8 +133,8 @@ fn joined(held: Instance, found: Candidates, k: usize) -> Instance
 fn held(card: &[u8]) -> usize
     ensures { λ r. ⌜ r ≡ heldOf (now (card .entry)) ⌝ }
 {
-    let n = card::contours(card);
-    let c = card::per_contour(card);
+    let n = fields::contours(card);
+    let c = fields::per_contour(card);
     if n > CONTOURS {
         return 0;
     }

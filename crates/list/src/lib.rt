@@ -41,12 +41,12 @@ fn show_stop(card: &[u8], all: Instance, a: u8) {
     let contour = table::byte_at(&owner, a as usize);
     let k = contour as usize;
     let from = table::byte_at(&first, k);
-    show(b"", card::id(card, k) as u64);
-    show(b" ", card::tag(card, k) as u64);
+    show(b"", fields::id(card, k) as u64);
+    show(b" ", fields::tag(card, k) as u64);
     show(b" ", above(a, from));
-    let kind = card::contour_type(card, k);
-    let exterior = card::exterior(card);
-    let interior = card::interior(card);
+    let kind = fields::contour_type(card, k);
+    let exterior = fields::exterior(card);
+    let interior = fields::interior(card);
     show_direction(candidates::determine_direction(kind, exterior, interior));
 }
 
@@ -63,7 +63,7 @@ fn show_stops(card: &[u8], all: Instance, room: &[u8], n: usize) {
 fn show_tour(card: &[u8], room: &[u8], o: Outcome) {
     let all = instance::gather(card);
     let n = all.contours;
-    show(b"JOB ", card::job(card) as u64);
+    show(b"JOB ", fields::job(card) as u64);
     show(b" CONTOURS ", n as u64);
     io::write_all(STDOUT_FILENO, b"\n");
     show_stops(card, all, room, n);

@@ -12,8 +12,8 @@ ghost use Rattle.answer.specs.Code.{codeOf};
 ghost use Rattle.candidates.specs.Question.{offeredOf};
 ghost use Rattle.hierarchy.specs.Questions.{numContours, precedencesOf, violatesOf, predecessorsOf, successorsOf, validSequence, topologicalSort};
 ghost use Rattle.card.specs.Verdict.{checkOf};
-ghost use Rattle.card.specs.Layout.{homePlace};
-ghost use Rattle.card.specs.Values.{pointAt};
+ghost use Rattle.fields.specs.Layout.{homePlace};
+ghost use Rattle.fields.specs.Values.{pointAt};
 ghost use Rattle.instance.specs.Room.{instanceOf};
 ghost use Rattle.table.specs.Distances.{homed, tabled};
 ghost use Rattle.table.specs.Evaluate.{lengthOf};
@@ -472,7 +472,7 @@ pub extern "C" fn probe_distances(
     let all = instance::gather(card);
     let items = all.items;
     let owner = all.owner;
-    table::fill_home(home, items, all.count, card::home(card));
+    table::fill_home(home, items, all.count, fields::home(card));
     table::fill_table(table, items, all.count, &owner);
     *count = all.count;
 }

@@ -11,7 +11,7 @@ use Rattle.candidates.specs.declared.Candidate.{Candidate}
 use Rattle.candidates.specs.Generate.{blank}
 use Rattle.hierarchy.specs.declared.Count.{Count}
 use Rattle.hierarchy.specs.declared.Count.the-variants as count
-use Rattle.card.specs.Layout.{contoursOf}
+use Rattle.fields.specs.Layout.{contoursOf}
 use Rattle.card.specs.Verdict.{checkOf}
 use Rattle.tour.specs.Search.{candidatesOn, firstsOn}
 use Rattle.tour.specs.Questions.{numberCheck}

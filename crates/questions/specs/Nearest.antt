@@ -5,7 +5,7 @@ use lib.ListN.{length, replicate}
 use Rattle.answer.specs.declared.Check.{Check}
 use Rattle.answer.specs.declared.Check.the-variants.{Fine, Refused}
 use Rattle.closure.specs.Limits.{CONTOURS}
-use Rattle.card.specs.Layout.{contoursOf}
+use Rattle.fields.specs.Layout.{contoursOf}
 use Rattle.card.specs.Verdict.{checkOf}
 use Rattle.start.specs.Nearest.{nearest}
 use Rattle.start.specs.Code.{groundOf}

@@ -12,7 +12,7 @@ use Rattle.answer.specs.Stage.{firstRefusal}
 use Rattle.cost.specs.declared.Measured.{Measured}
 use Rattle.cost.specs.declared.Measured.the-variants as measured
 use Rattle.cost.specs.Bad.{refuseIf}
-use Rattle.card.specs.Layout.{contoursOf}
+use Rattle.fields.specs.Layout.{contoursOf}
 use Rattle.card.specs.Stages.{isAt}
 use Rattle.card.specs.Verdict.{checkOf}
 use Rattle.improve.specs.Search.{contourOf, lengthIn}

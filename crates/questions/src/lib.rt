@@ -98,7 +98,7 @@ fn length_of(card: &[u8], all: Instance, order: &[u8]) -> f64
     requires { ⌜ all ≡ instanceOf (now card) ⌝ }
     ensures { λ r. ⌜ r ≡ lengthIn (sheetOn (now (card .entry))) (now (order .entry)) ⌝ }
 {
-    let homes = tour::homes_of(all, card::home(card));
+    let homes = tour::homes_of(all, fields::home(card));
     let t = all.count;
     let items = all.items;
     let owner = all.owner;
@@ -150,7 +150,7 @@ fn nearest_on_fine(card: &[u8]) -> Stops
     ensures { λ r. ⌜ r ≡ stopsOf (nearestOn (now (card .entry))) ⌝ }
 {
     let all = instance::gather(card);
-    let homes = tour::homes_of(all, card::home(card));
+    let homes = tour::homes_of(all, fields::home(card));
     let t = all.count;
     let n = all.contours;
     let items = all.items;

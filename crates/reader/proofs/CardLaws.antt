@@ -7,8 +7,8 @@ use native.Mathlib.Omega.{arith}
 use lib.ListN.{length}
 use Rattle.block.specs.Field.{byteAt, u16At, u32At, u64At}
 use Rattle.block.proofs.Readings.{cut-byte, cut-u16, cut-u32}
-use Rattle.card.specs.Limits.{vertexLimit}
-use Rattle.card.specs.Layout.{payload, idOf, tagOf, vertexCountOf, typeOf, fillerOf, vertexPlace}
+use Rattle.fields.specs.Limits.{vertexLimit}
+use Rattle.fields.specs.Layout.{payload, idOf, tagOf, vertexCountOf, typeOf, fillerOf, vertexPlace}
 use Rattle.reader.specs.declared.Width.{Width}
 use Rattle.reader.specs.declared.Width.the-variants.{One, Two, Four, Eight}
 use Rattle.reader.specs.declared.Field.{Field}

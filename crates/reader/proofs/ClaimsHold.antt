@@ -6,8 +6,8 @@ use native.Mathlib.Nat.{add-zero}
 use native.Mathlib.Omega.{arith}
 use lib.ListN.{length}
 use Rattle.block.specs.Field.{f64At}
-use Rattle.card.specs.Layout.{payload, vertexPlace}
-use Rattle.card.specs.Values.{pointAt}
+use Rattle.fields.specs.Layout.{payload, vertexPlace}
+use Rattle.fields.specs.Values.{pointAt}
 use Rattle.reader.specs.declared.Width.the-variants.{One, Two, Four, Eight}
 use Rattle.reader.specs.declared.ContourHead.{ContourHead}
 use Rattle.reader.specs.Fields.{fieldAt}

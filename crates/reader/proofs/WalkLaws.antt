@@ -10,7 +10,7 @@ use lib.ListN.{length, take, drop, set, replicate, length-replicate, length-drop
 use lib.Seq.{take-suc-set, drop-set-lt, drop-drop}
 use Rattle.block.specs.Field.{byteAt, u16At, u32At, u64At}
 use Rattle.block.proofs.Readings.{cut-byte, cut-u16, cut-u32, cut-u64}
-use Rattle.card.specs.Limits.{vertexLimit}
+use Rattle.fields.specs.Limits.{vertexLimit}
 use Rattle.reader.specs.declared.Width.{Width}
 use Rattle.reader.specs.declared.Width.the-variants.{One, Two, Four, Eight}
 use Rattle.reader.specs.declared.Field.{Field}

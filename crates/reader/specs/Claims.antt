@@ -5,8 +5,8 @@ use Prim.Native.Nat.{ℕ, _+_}
 use lib.Ieee.{binary64, ofBits}
 use Rattle.answer.specs.declared.Point.{Point}
 use Rattle.block.specs.Field.{u64At}
-use Rattle.card.specs.Layout.{payload, idOf, tagOf, vertexCountOf, typeOf, fillerOf}
-use Rattle.card.specs.Values.{pointAt}
+use Rattle.fields.specs.Layout.{payload, idOf, tagOf, vertexCountOf, typeOf, fillerOf}
+use Rattle.fields.specs.Values.{pointAt}
 use Rattle.reader.specs.Walk.{walk}
 use Rattle.reader.specs.OnCard.{headOf, headWidths, headList, coordinatesFrom, contourWidths}
 

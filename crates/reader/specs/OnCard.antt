@@ -3,8 +3,8 @@ use mathlib.Core.List.{List, [], _∷_, _++_}
 use Prim.Native.Nat.{ℕ, zero, suc, _+_, _*_, _-_, min}
 use lib.ListN.{length, replicate}
 use Rattle.block.specs.Field.{byteAt, u16At, u32At, u64At}
-use Rattle.card.specs.Limits.{vertexLimit}
-use Rattle.card.specs.Layout.{jobOf, contoursOf, pairsOf, perContourOf, passesOf, moveLimitOf, homePlace, exteriorOf, interiorOf, idOf, tagOf, vertexCountOf, typeOf, fillerOf, vertexPlace}
+use Rattle.fields.specs.Limits.{vertexLimit}
+use Rattle.fields.specs.Layout.{jobOf, contoursOf, pairsOf, perContourOf, passesOf, moveLimitOf, homePlace, exteriorOf, interiorOf, idOf, tagOf, vertexCountOf, typeOf, fillerOf, vertexPlace}
 use Rattle.reader.specs.declared.Width.{Width}
 use Rattle.reader.specs.declared.Width.the-variants.{One, Two, Four, Eight}
 use Rattle.reader.specs.declared.Head.{Head}

@@ -4,13 +4,13 @@
 ghost use mathlib.Core.Path.{_≡_};
 ghost use Prim.Native.Nat.{_+_, _*_, _-_, _≤_, min};
 ghost use lib.ListN.{length};
-ghost use Rattle.card.specs.Limits.{vertexLimit};
-ghost use Rattle.card.specs.Layout.{payload};
+ghost use Rattle.fields.specs.Limits.{vertexLimit};
+ghost use Rattle.fields.specs.Layout.{payload};
 ghost use Rattle.reader.specs.Fields.{fieldAt};
 ghost use Rattle.reader.specs.Walk.{walk, eights};
 ghost use Rattle.reader.specs.OnCard.{filled, headOf, contourHead, contourOf};
 use block::BLOCK;
-use card::VERTICES;
+use fields::VERTICES;
 
 // Where a block's payload begins in it.
 const PAYLOAD_AT: usize = 8;

@@ -1,7 +1,7 @@
 // Runs over the fixed list of cards in data/ and writes the list of each; what is due was made from the original's answers. Each card
 // stands after its length, a number of four bytes.
 ghost use Rattle.io.specs.Counts.{Counts};
-use card::CARD_BYTES;
+use fields::CARD_BYTES;
 
 // One byte more than the longest card has.
 const ROOM: usize = CARD_BYTES + 1;

@@ -8,7 +8,7 @@ use lib.Ieee.{nan}
 use lib.ListN.{length, getD}
 use Rattle.answer.specs.declared.Point.{Point}
 use Rattle.candidates.specs.declared.Candidate.{Candidate}
-use Rattle.card.specs.Limits.{candidateLimit}
+use Rattle.fields.specs.Limits.{candidateLimit}
 use Rattle.cost.specs.Closest.{huge}
 use Rattle.cost.specs.Distance.{distanceOf}
 use Rattle.table.specs.Evaluate.{homeAt, distanceAt}

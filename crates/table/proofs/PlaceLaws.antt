@@ -2,7 +2,7 @@
 use Prim.Native.Nat.{ℕ, suc, _+_, _*_, _≤_, _<_}
 use native.Mathlib.Nat.{mul-le-mul, suc-mul}
 use native.Mathlib.Omega.{arith}
-use Rattle.card.specs.Limits.{candidateLimit}
+use Rattle.fields.specs.Limits.{candidateLimit}
 use Rattle.table.specs.Distances.{entryLimit}
 
 -- with candidates and t of one byte each

@@ -10,7 +10,7 @@ use Rattle.candidates.specs.declared.Candidate.{Candidate}
 use Rattle.candidates.specs.Generate.{candidateAt}
 use Rattle.candidates.specs.Along.{spot}
 use Rattle.answer.specs.declared.CutDirection.the-variants.{Ccw}
-use Rattle.card.specs.Limits.{candidateLimit}
+use Rattle.fields.specs.Limits.{candidateLimit}
 use Rattle.cost.specs.Points.{point, nowhere}
 use Rattle.cost.specs.Closest.{huge}
 use Rattle.cost.specs.Distance.{distanceOf}

@@ -1,13 +1,13 @@
 // The distances between candidates, and how long a tour over them is.
 use answer::Point;
 use candidates::Candidate;
-use card::CANDIDATES;
+use fields::CANDIDATES;
 ghost use mathlib.Core.Path.{_≡_};
 ghost use mathlib.Core.List.{_++_};
 ghost use Prim.Native.Nat.{_≤_, _<_};
 ghost use lib.ListN.{getD, take, drop};
 ghost use lib.Ieee.{nan};
-ghost use Rattle.card.specs.Limits.{candidateLimit};
+ghost use Rattle.fields.specs.Limits.{candidateLimit};
 ghost use Rattle.table.specs.Evaluate.{homeAt, distanceAt, lengthOf};
 ghost use Rattle.table.specs.Distances.{legOf, rowOf, homed, tabled};
 

@@ -7,7 +7,7 @@ use lib.Dec.{leb}
 use lib.ListN.{length, take, drop, length-append, take-append-drop}
 use lib.Seq.{drop-append-le, length-take-le}
 use native.Mathlib.Nat.{mul-le-mul}
-use Rattle.card.specs.Limits.{candidateLimit}
+use Rattle.fields.specs.Limits.{candidateLimit}
 use lib.Ieee.{Float}
 use borrow.Author.Tests.{lt-ltb, le-ltb}
 use Rattle.answer.specs.declared.Check.{Check}
@@ -15,7 +15,7 @@ use Rattle.answer.specs.declared.Check.the-variants.{Fine, Refused}
 use Rattle.answer.specs.declared.Refusal.{Refusal}
 use Rattle.answer.specs.Stage.{firstRefusal}
 use Rattle.cost.specs.Bad.{refuseIf}
-use Rattle.card.specs.Layout.{contoursOf}
+use Rattle.fields.specs.Layout.{contoursOf}
 use Rattle.card.specs.Verdict.{checkOf}
 use Rattle.card.proofs.GroupLaws.{last-stage}
 use Rattle.solve.specs.declared.Outcome.{Outcome}

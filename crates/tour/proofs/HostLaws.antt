@@ -16,8 +16,8 @@ use Rattle.answer.specs.declared.Refusal.{Refusal}
 use Rattle.answer.specs.Code.{codeOf}
 use Rattle.answer.specs.Stage.{orElse, firstRefusal}
 use Rattle.cost.specs.Bad.{refuseIf}
-use Rattle.card.specs.Limits.{candidateLimit}
-use Rattle.card.specs.Layout.{contoursOf}
+use Rattle.fields.specs.Limits.{candidateLimit}
+use Rattle.fields.specs.Layout.{contoursOf}
 use Rattle.card.specs.Verdict.{checkOf}
 use Rattle.table.specs.Distances.{entryLimit}
 use Rattle.instance.proofs.FineLaws.{few-candidates}

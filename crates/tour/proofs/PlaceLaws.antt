@@ -10,9 +10,9 @@ use borrow.Author.Tests.{le-leb, lt-leb}
 use Rattle.answer.specs.declared.Check.the-variants.{Fine}
 use Rattle.cost.specs.Bad.{refuseIf}
 use Rattle.closure.specs.Limits.{CONTOURS}
-use Rattle.card.specs.Layout.{contoursOf}
+use Rattle.fields.specs.Layout.{contoursOf}
 use Rattle.card.specs.Verdict.{checkOf}
-use Rattle.card.proofs.Facts.{accepted}
+use Rattle.card_laws.proofs.Facts.{accepted}
 use Rattle.instance.specs.declared.Instance.{Instance}
 use Rattle.instance.specs.Room.{instanceOf}
 use Rattle.instance.proofs.OwnerLaws.{owner-below, first-before}

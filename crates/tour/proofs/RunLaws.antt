@@ -12,8 +12,8 @@ use borrow.Author.Tests.{le-leb, le-ltb}
 use Rattle.answer.specs.declared.Check.the-variants.{Fine}
 use Rattle.answer.specs.declared.Point.{Point}
 use Rattle.closure.specs.Limits.{CONTOURS, PAIRS}
-use Rattle.card.specs.Limits.{candidateLimit}
-use Rattle.card.specs.Layout.{contoursOf, pairsOf, passesOf, moveLimitOf}
+use Rattle.fields.specs.Limits.{candidateLimit}
+use Rattle.fields.specs.Layout.{contoursOf, pairsOf, passesOf, moveLimitOf}
 use Rattle.card.specs.declared.Named.{Named}
 use Rattle.card.specs.Names.{namedPairs, namedOf}
 use Rattle.card.specs.Stages.{nameFault}
@@ -22,7 +22,7 @@ use Rattle.answer.proofs.StageLaws.{is-fine}
 use Rattle.card.proofs.GroupLaws.{named-stage, named-seats}
 use Rattle.card.proofs.NameLaws.{seats-length}
 use Rattle.card.specs.Verdict.{stagesOf, checkOf}
-use Rattle.card.proofs.Facts.{accepted}
+use Rattle.card_laws.proofs.Facts.{accepted}
 use Rattle.table.specs.Distances.{entryLimit, homed, tabled, homesOf, distancesOf}
 use Rattle.table.proofs.DistanceLaws.{homes-length, distances-length}
 use Rattle.instance.specs.declared.Instance.{Instance}

@@ -5,8 +5,8 @@ use lib.ListN.{length}
 use lib.Ieee.{Float}
 use Rattle.answer.specs.declared.Point.{Point}
 use Rattle.candidates.specs.declared.Candidate.{Candidate}
-use Rattle.card.specs.Layout.{contoursOf, pairsOf, passesOf, moveLimitOf, homePlace}
-use Rattle.card.specs.Values.{pointAt}
+use Rattle.fields.specs.Layout.{contoursOf, pairsOf, passesOf, moveLimitOf, homePlace}
+use Rattle.fields.specs.Values.{pointAt}
 use Rattle.card.specs.Names.{seatsOf}
 use Rattle.table.specs.Distances.{distancesOf, homesOf}
 use Rattle.improve.specs.Search.{Sheet, State}

@@ -9,8 +9,8 @@ use Rattle.answer.specs.declared.Check.the-variants.{Fine, Refused}
 use Rattle.answer.specs.Stage.{firstRefusal}
 use Rattle.cost.specs.Bad.{refuseIf}
 use Rattle.cost.specs.Closest.{zero64}
-use Rattle.card.specs.Limits.{candidateLimit}
-use Rattle.card.specs.Layout.{contoursOf}
+use Rattle.fields.specs.Limits.{candidateLimit}
+use Rattle.fields.specs.Layout.{contoursOf}
 use Rattle.card.specs.Verdict.{checkOf}
 use Rattle.solve.specs.Solve.{placed}
 use Rattle.tour.specs.declared.Toured.{Toured}

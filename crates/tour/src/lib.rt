@@ -7,7 +7,7 @@ ghost use lib.Ieee.{toBits, binary64};
 ghost use Rattle.answer.specs.declared.Check.the-variants.{Fine, Refused};
 ghost use Rattle.answer.specs.Code.{codeOf};
 ghost use Rattle.cost.specs.Bad.{refuseIf};
-ghost use Rattle.card.specs.Layout.{contoursOf};
+ghost use Rattle.fields.specs.Layout.{contoursOf};
 ghost use Rattle.card.specs.Verdict.{checkOf};
 ghost use Rattle.instance.specs.Room.{instanceOf};
 ghost use Rattle.solve.specs.Solve.{Solved};
@@ -19,7 +19,7 @@ ghost use Rattle.tour.specs.Hosts.{hosted, hostTour, pointed, hostPlace}
 use answer::Check;
 use answer::Point;
 use answer::Refusal;
-use card::CANDIDATES;
+use fields::CANDIDATES;
 use instance::Instance;
 use solve::Outcome;
 use table::ENTRIES;
@@ -68,7 +68,7 @@ fn run(card: &[u8], all: Instance, room: &mut [u8], table: &mut [f64]) -> Outcom
     ensures { λ r. ⌜ Solved (sheetOn (now (card .entry))) (endOn (now (card .entry))) (now (room .entry)) r (now (room .exit)) ⌝ }
     ensures { λ r. ⌜ now (table .exit) ≡ tableOn (now (card .entry)) ⌝ }
 {
-    let homes = homes_of(all, card::home(card));
+    let homes = homes_of(all, fields::home(card));
     let t = all.count;
     let items = all.items;
     let owner = all.owner;
@@ -76,7 +76,7 @@ fn run(card: &[u8], all: Instance, room: &mut [u8], table: &mut [f64]) -> Outcom
     let firsts = all.contours + 1;
     let named = card::pair_places(card);
     let places = named.places;
-    let seats = 2 * card::pairs(card);
+    let seats = 2 * fields::pairs(card);
     table::fill_table(table, items, t, &owner[..t]);
     solve::solve_constrained(
         &homes[..t],
@@ -86,8 +86,8 @@ fn run(card: &[u8], all: Instance, room: &mut [u8], table: &mut [f64]) -> Outcom
         &first[..firsts],
         &places[..seats],
         room,
-        card::passes(card) as u32,
-        card::move_limit(card),
+        fields::passes(card) as u32,
+        fields::move_limit(card),
     )
 }
 

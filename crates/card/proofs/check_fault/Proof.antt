@@ -4,7 +4,7 @@ use native.Mathlib.Omega.{arith}
 use denote.Ref.{now}
 use Rattle.answer.proofs.LowestLaws.{Nowhere}
 use Rattle.card.specs.Stages.{badCheck, checkFault}
-use Rattle.card.specs.Layout.{blocksOf}
+use Rattle.fields.specs.Layout.{blocksOf}
 use Rattle.card.proofs.LoopLaws.{none-yet, one-more, found-here, none-found}
 use Rattle.card.proofs.check_fault.Statement.{statement}
 use Rattle.card.proofs.check_fault.Tie as tie

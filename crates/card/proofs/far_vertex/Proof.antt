@@ -6,7 +6,7 @@ use lib.ListN.{length}
 use denote.Ref.{now}
 use Rattle.answer.proofs.LowestLaws.{Nowhere}
 use Rattle.block.proofs.Readings.{u16-of}
-use Rattle.card.specs.Layout.{payload, vertexPlace, vertexCountOf}
+use Rattle.fields.specs.Layout.{payload, vertexPlace, vertexCountOf}
 use Rattle.card.specs.Stages.{farPoint, farVertex}
 use Rattle.card.proofs.LoopLaws.{none-yet, one-more, found-here, none-found}
 use Rattle.card.proofs.FarLaws.{vertex-looked-at}

@@ -5,7 +5,7 @@ use native.Mathlib.Omega.{arith}
 use denote.Ref.{now}
 use borrow.Author.Needs.{needs}
 use Rattle.answer.proofs.LowestLaws.{Nowhere}
-use Rattle.card.specs.Layout.{pairsOf}
+use Rattle.fields.specs.Layout.{pairsOf}
 use Rattle.card.specs.Stages.{unnamed}
 use Rattle.card.specs.Names.{seatsOf, padded}
 use Rattle.card.proofs.LoopLaws.{none-yet, one-more}

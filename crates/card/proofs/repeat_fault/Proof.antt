@@ -6,7 +6,7 @@ use denote.Ref.{now}
 use borrow.Author.Needs.{needs}
 use Rattle.card.proofs.NameLaws.{id-repeats, id-is-new}
 use Rattle.answer.proofs.LowestLaws.{Nowhere}
-use Rattle.card.specs.Layout.{contoursOf}
+use Rattle.fields.specs.Layout.{contoursOf}
 use Rattle.card.specs.Stages.{repeats, repeatFault}
 use Rattle.card.proofs.LoopLaws.{none-yet, one-more, found-here, none-found}
 use Rattle.card.proofs.repeat_fault.Statement.{statement}

@@ -5,7 +5,7 @@ use lib.Dec.{eqb}
 use denote.Ref.{now}
 use borrow.Author.Tests.{eq-eqb, ne-eqb}
 use Rattle.answer.proofs.LowestLaws.{Nowhere}
-use Rattle.card.specs.Layout.{idOf}
+use Rattle.fields.specs.Layout.{idOf}
 use Rattle.card.specs.Stages.{seekOf}
 use Rattle.card.proofs.LoopLaws.{none-yet, one-more, found-here, none-found}
 use Rattle.card.proofs.seek.Statement.{statement}

@@ -5,7 +5,7 @@ use native.Mathlib.Omega.{arith}
 use lib.ListN.{length}
 use denote.Ref.{now}
 use Rattle.answer.proofs.LowestLaws.{Nowhere}
-use Rattle.card.specs.Layout.{pairsOf}
+use Rattle.fields.specs.Layout.{pairsOf}
 use Rattle.card.specs.Stages.{otherTag, tagFault}
 use Rattle.card.proofs.LoopLaws.{none-yet, one-more, found-here, none-found}
 use Rattle.card.proofs.NameLaws.{seats-handed, tags-compared}

@@ -5,7 +5,7 @@ use Prim.Native.Nat.{_*_, _-_, _≤_}
 use native.Mathlib.Omega.{arith}
 use lib.ListN.{take, drop, replicate}
 use denote.Ref.{now}
-use Rattle.card.specs.Limits.{vertexLimit}
+use Rattle.fields.specs.Limits.{vertexLimit}
 use Rattle.reader.specs.Walk.{walk, eights}
 use Rattle.reader.proofs.WalkLaws.{none-yet, one-more, rest-zero, all-read}
 use Rattle.reader.proofs.coordinates.Statement.{statement}

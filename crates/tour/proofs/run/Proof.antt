@@ -1,6 +1,6 @@
 -- `tour::run` meets its contract: each part that is lent is what the definition reads of the card. Assumes nothing.
 use native.Mathlib.Omega.{arith}
-use Rattle.card.proofs.Facts.{accepted}
+use Rattle.card_laws.proofs.Facts.{accepted}
 use Rattle.tour.proofs.RunLaws.{count-on, contours-few, few-on, owner-on, owner-whole, owner-within, first-on, first-whole, first-within, homes-on, homes-whole, homes-within, table-on, pairs-on, pairs-whole, pairs-within, solved-on}
 use borrow.Author.Needs.{needs}
 use Rattle.tour.proofs.run.Statement.{statement}

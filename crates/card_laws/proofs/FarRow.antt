@@ -1,0 +1,57 @@
+-- Row 8 of the table: the test on the bits is the rule on numbers. Assumes nothing.
+use mathlib.Core.Path.{_≡_, refl, sym, ap, _∙_}
+use mathlib.Core.Logic.{_⊎_, inl, inr}
+use mathlib.Core.Bool.{Bool, true, false, _||_}
+use mathlib.Core.List.{List}
+use Prim.Native.Nat.{ℕ, zero, suc, _+_, _<_}
+use lib.Ieee.{binary64, ofBits}
+use Rattle.answer.specs.declared.Found.{Found}
+use Rattle.answer.specs.declared.Found.the-variants.{At, Absent}
+use Rattle.answer.specs.Lowest.{lowest}
+use Rattle.answer.proofs.LowestLaws.{LowestAt, is-at, is-absent}
+use Rattle.block.specs.Field.{u64At, f64At}
+use Rattle.cost.specs.Bad.{badNumber, badPoint}
+use Rattle.fields.specs.Layout.{homePlace, contoursOf, vertexCountOf, vertexPlace}
+use Rattle.fields.specs.Values.{pointAt}
+use Rattle.card.specs.Stages.{isAt, tooFar, farPoint, farVertex, farPlace, farFault}
+use Rattle.card_laws.specs.Table.{Lowest, FarCoordinate, at-home, at-vertex, Row8, No}
+use Rattle.card_laws.proofs.ExactLaws.{Exact, never, lowest-exact, nowhere}
+use Rattle.card_laws.proofs.FarNumber.{far-is}
+
+pub far-point-is : (s : List ℕ) (at : ℕ) → farPoint s at ≡ badPoint (pointAt s at)
+unfolding badPoint pointAt f64At
+far-point-is s at = rw (far-is (u64At s at), far-is (u64At s (at + 8)))
+
+module _ (s : List ℕ) where
+  far-coordinate : (p : ℕ) → farPlace s p ≡ true → FarCoordinate s p
+  unfolding farVertex
+  far-coordinate zero e = at-home (sym (far-point-is s homePlace) ∙ e)
+  far-coordinate (suc k) e = go (lowest far (vertexCountOf s k)) refl
+    where
+      far : ℕ → Bool
+      far = λ j. farPoint s (vertexPlace k j)
+
+      go : (f : Found) → lowest far (vertexCountOf s k) ≡ f → FarCoordinate s (suc k)
+      go (At j) h =
+          let w = is-at far (vertexCountOf s k) j h in
+          at-vertex k j (w .within) (sym (far-point-is s (vertexPlace k j)) ∙ w .holds)
+      go Absent h = absurd (never false (ap isAt (sym h) ∙ e) refl)
+
+  coordinate-far : (p : ℕ) → FarCoordinate s p → farPlace s p ≡ true
+  unfolding farVertex
+  coordinate-far p (at-home e) = far-point-is s homePlace ∙ e
+  coordinate-far p (at-vertex k j h e) = go (lowest far (vertexCountOf s k)) refl
+    where
+      far : ℕ → Bool
+      far = λ i. farPoint s (vertexPlace k i)
+
+      go : (f : Found) → lowest far (vertexCountOf s k) ≡ f → isAt (lowest far (vertexCountOf s k)) ≡ true
+      go (At i) g = ap isAt g
+      go Absent g = absurd (never (far j) (far-point-is s (vertexPlace k j) ∙ e) (is-absent far (vertexCountOf s k) g j h))
+
+  pub exact8 : Exact (farFault s) (Row8 s)
+  unfolding farFault
+  exact8 = lowest-exact (farPlace s) (contoursOf s + 1) (FarCoordinate s) (λ p h. far-coordinate p) (λ p h. coordinate-far p)
+
+  pub no-far : No (Row8 s) → (p : ℕ) → p < contoursOf s + 1 → FarCoordinate s p → ⊥
+  no-far = nowhere (farPlace s) (contoursOf s + 1) (FarCoordinate s) (λ p h. far-coordinate p) (λ p h. coordinate-far p)

@@ -1,0 +1,9 @@
+pub mod ExactLaws
+pub mod RowLaws
+pub mod FarNumber
+pub mod FarRow
+pub mod PairRows
+pub mod Verdicts
+pub mod Facts
+pub mod Starred
+pub mod OrderRows

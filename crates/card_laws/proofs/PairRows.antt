@@ -1,0 +1,194 @@
+-- Rows 7, 10, 11 and 12 of the table. Assumes nothing.
+use mathlib.Core.Path.{_≡_, refl, sym, ap, _∙_, subst}
+use mathlib.Core.Logic.{_⊎_, inl, inr, ⊎-elim}
+use mathlib.Core.Bool.{Bool, true, false, not, _||_}
+use mathlib.Core.List.{List}
+use Prim.Native.Nat.{ℕ, zero, suc, _+_, _*_, _-_, _≤_, _<_, min}
+use native.Mathlib.Nat.{add-assoc}
+use native.Mathlib.Omega.{arith}
+use lib.Dec.{eqb, ltb}
+use borrow.Author.Tests.{eqb-true, eq-eqb, not-false, ltb-true, ltb-false}
+use Rattle.answer.specs.declared.Found.{Found}
+use Rattle.answer.specs.declared.Found.the-variants.{At, Absent}
+use Rattle.answer.specs.Lowest.{lowest}
+use Rattle.answer.proofs.LowestLaws.{LowestAt, is-at, is-absent}
+use Rattle.block.specs.Field.{byteAt}
+use Rattle.block.specs.Block.{zerosAt}
+use Rattle.block.proofs.Readings.{zeros-each, each-zeros}
+use Rattle.closure.specs.Limits.{CONTOURS}
+use Rattle.closure.specs.Cycle.{onCycle}
+use Rattle.closure.proofs.PathLaws.{cycle-exactly}
+use Rattle.fields.specs.Limits.{payloadBytes}
+use Rattle.fields.specs.Layout.{blocksOf, payload, contoursOf, pairsOf, idOf, tagOf, beforeIdOf, beforeTagOf, afterIdOf, afterTagOf}
+use Rattle.card.specs.Stages.{isAt, usedIn, badSpare, spareFault, seekOf, positionOf, unnamed, nameFault, seat, beforeOf, afterOf, otherTag, tagFault}
+use Rattle.card.specs.Names.{seatsOf}
+use Rattle.card.specs.Verdict.{cycleFault}
+use Rattle.card_laws.specs.Table.{Lowest, SpareByte, Row7, Repeated, Row9, Has, Unnamed, Row10, OtherTag, Row11, OnCycle, Row12, No}
+use Rattle.card_laws.proofs.RowLaws.{no-repeat}
+use Rattle.card_laws.proofs.ExactLaws.{Exact, never, either-of, first-of, second-of, not-so, so-not, false-unless, lowest-exact, nowhere}
+
+-- one is below the other, or they are the same
+order : (j k : ℕ) → (j < k) ⊎ ((j ≡ k) ⊎ (k < j))
+order j k = go (ltb j k) (ltb k j) refl refl
+  where
+    go : (a b : Bool) → ltb j k ≡ a → ltb k j ≡ b → (j < k) ⊎ ((j ≡ k) ⊎ (k < j))
+    go true b e f = inl (ltb-true _ _ e)
+    go false true e f = inr (inr (ltb-true _ _ f))
+    go false false e f = inr (inl (omega (arith, ltb-false j k e, ltb-false k j f)))
+
+module _ (s : List ℕ) where
+  -- ---- 7
+
+  spare-byte : (b : ℕ) → badSpare s b ≡ true → SpareByte s b
+  spare-byte b e = go (lowest some count) refl
+    where
+      count : ℕ
+      count = payloadBytes - usedIn s b
+
+      some : ℕ → Bool
+      some = λ i. not (eqb (byteAt s (payload b + usedIn s b + i)) 0)
+
+      go : (f : Found) → lowest some count ≡ f → SpareByte s b
+      go (At i) h =
+          let w = is-at some count i h in
+          record {
+            offset = usedIn s b + i;
+            behind = omega arith;
+            inside = omega (arith, w .within);
+            some = λ z. not-so (eqb (byteAt s (payload b + usedIn s b + i)) 0) (w .holds) (eq-eqb _ _ (ap (byteAt s) (add-assoc (payload b) (usedIn s b) i) ∙ z));
+          }
+      go Absent h =
+          absurd
+          (not-so (zerosAt s (payload b + usedIn s b) count) e
+          (each-zeros s (payload b + usedIn s b) count (λ i g. eqb-true _ _ (not-false _ (is-absent some count h i g)))))
+
+  byte-spare : (b : ℕ) → SpareByte s b → badSpare s b ≡ true
+  byte-spare b r =
+      let u = usedIn s b in
+      so-not (zerosAt s (payload b + u) (payloadBytes - u)) (λ t.
+      let e : byteAt s (payload b + u + (r .offset - u)) ≡ 0 = zeros-each s (payload b + u) (payloadBytes - u) t (r .offset - u) (omega (arith, r .behind, r .inside)) in
+      let g : payload b + u + (r .offset - u) ≡ payload b + r .offset = omega (arith, r .behind) in
+      r .some (ap (byteAt s) (sym g) ∙ e))
+
+  pub exact7 : Exact (spareFault s) (Row7 s)
+  unfolding spareFault
+  exact7 = lowest-exact (badSpare s) (blocksOf s) (SpareByte s) (λ b h. spare-byte b) (λ b h. byte-spare b)
+
+  -- ---- 10
+
+  -- a lookup finds a contour with the id, or there is none
+  looked-up : (id k : ℕ) → positionOf s id ≡ At k → Has s id k
+  unfolding seekOf
+  looked-up id k e =
+      let w = is-at (λ j. eqb (idOf s j) id) (contoursOf s) k e in
+      record { is-contour = w .within; same = eqb-true _ _ (w .holds) }
+
+  not-there : (id k : ℕ) → positionOf s id ≡ Absent → Has s id k → ⊥
+  unfolding seekOf
+  not-there id k e h = never (eqb (idOf s k) id) (eq-eqb _ _ (h .same)) (is-absent (λ j. eqb (idOf s j) id) (contoursOf s) e k (h .is-contour))
+
+  unknown-id : (id : ℕ) → not (isAt (positionOf s id)) ≡ true → (k : ℕ) → Has s id k → ⊥
+  unknown-id id e k h = go (positionOf s id) refl
+    where
+      go : (f : Found) → positionOf s id ≡ f → ⊥
+      go (At j) g = not-so (isAt (positionOf s id)) e (ap isAt g)
+      go Absent g = not-there id k g h
+
+  id-unknown : (id : ℕ) → ((k : ℕ) → Has s id k → ⊥) → not (isAt (positionOf s id)) ≡ true
+  id-unknown id none = go (positionOf s id) refl
+    where
+      go : (f : Found) → positionOf s id ≡ f → not (isAt (positionOf s id)) ≡ true
+      go (At j) g = absurd (none j (looked-up id j g))
+      go Absent g = ap (λ (f : Found). not (isAt f)) g
+
+  is-unnamed : (q : ℕ) → unnamed s q ≡ true → Unnamed s q
+  is-unnamed q e = go (either-of (not (isAt (positionOf s (beforeIdOf s q)))) (not (isAt (positionOf s (afterIdOf s q)))) e)
+    where
+      go : (not (isAt (positionOf s (beforeIdOf s q))) ≡ true) ⊎ (not (isAt (positionOf s (afterIdOf s q))) ≡ true) → Unnamed s q
+      go (inl t) = Unnamed.first (unknown-id (beforeIdOf s q) t)
+      go (inr t) = Unnamed.second (unknown-id (afterIdOf s q) t)
+
+  unnamed-is : (q : ℕ) → Unnamed s q → unnamed s q ≡ true
+  unnamed-is q (Unnamed.first h) = first-of (not (isAt (positionOf s (beforeIdOf s q)))) _ (id-unknown (beforeIdOf s q) h)
+  unnamed-is q (Unnamed.second h) = second-of (not (isAt (positionOf s (beforeIdOf s q)))) _ (id-unknown (afterIdOf s q) h)
+
+  pub exact10 : Exact (nameFault s) (Row10 s)
+  unfolding nameFault
+  exact10 = lowest-exact (unnamed s) (pairsOf s) (Unnamed s) (λ q h. is-unnamed q) (λ q h. unnamed-is q)
+
+  -- ---- 11, once ids are unique and every pair's ids are known
+
+  -- at most one contour has an id
+  pub same-contour : No (Row9 s) → (id j k : ℕ) → Has s id j → Has s id k → j ≡ k
+  same-contour none id j k hj hk = go (order j k)
+    where
+      same : idOf s j ≡ idOf s k
+      same = hj .same ∙ sym (hk .same)
+
+      go : (j < k) ⊎ ((j ≡ k) ⊎ (k < j)) → j ≡ k
+      go (inl h) = absurd (no-repeat s none k (hk .is-contour) (record { earlier = j; is-earlier = h; same = same }))
+      go (inr (inl e)) = e
+      go (inr (inr h)) = absurd (no-repeat s none j (hj .is-contour) (record { earlier = k; is-earlier = h; same = sym same }))
+
+  -- the contour that a lookup seats an id at has the id, where some contour does
+  seated : (id k : ℕ) → Has s id k → Has s id (seat (positionOf s id))
+  seated id k h = go (positionOf s id) refl
+    where
+      go : (f : Found) → positionOf s id ≡ f → Has s id (seat (positionOf s id))
+      go (At j) e = subst (λ (f : Found). Has s id (seat f)) (sym e) (looked-up id j e)
+      go Absent e = absurd (not-there id k e h)
+
+  -- each id of a pair is some contour's
+  known : (id : ℕ) → (((k : ℕ) → Has s id k → ⊥) → ⊥) → Has s id (seat (positionOf s id))
+  known id some = go (positionOf s id) refl
+    where
+      go : (f : Found) → positionOf s id ≡ f → Has s id (seat (positionOf s id))
+      go (At j) e = subst (λ (f : Found). Has s id (seat f)) (sym e) (looked-up id j e)
+      go Absent e = absurd (some (λ k h. not-there id k e h))
+
+  module _ (unique : No (Row9 s)) (named : No (Row10 s)) where
+    no-unnamed : (q : ℕ) → q < pairsOf s → Unnamed s q → ⊥
+    no-unnamed = nowhere (unnamed s) (pairsOf s) (Unnamed s) (λ q h. is-unnamed q) (λ q h. unnamed-is q) named
+
+    pub before-has : (q : ℕ) → q < pairsOf s → Has s (beforeIdOf s q) (beforeOf s q)
+    before-has q h = known (beforeIdOf s q) (λ none. no-unnamed q h (Unnamed.first none))
+
+    pub after-has : (q : ℕ) → q < pairsOf s → Has s (afterIdOf s q) (afterOf s q)
+    after-has q h = known (afterIdOf s q) (λ none. no-unnamed q h (Unnamed.second none))
+
+    other-tag : (q : ℕ) → q < pairsOf s → otherTag s q ≡ true → OtherTag s q
+    other-tag q h e = go (either-of (not (eqb (tagOf s (beforeOf s q)) (beforeTagOf s q))) (not (eqb (tagOf s (afterOf s q)) (afterTagOf s q))) e)
+      where
+        go : (not (eqb (tagOf s (beforeOf s q)) (beforeTagOf s q)) ≡ true) ⊎ (not (eqb (tagOf s (afterOf s q)) (afterTagOf s q)) ≡ true) → OtherTag s q
+        go (inl t) = OtherTag.first (beforeOf s q) (before-has q h) (λ z. not-so (eqb (tagOf s (beforeOf s q)) (beforeTagOf s q)) t (eq-eqb _ _ z))
+        go (inr t) = OtherTag.second (afterOf s q) (after-has q h) (λ z. not-so (eqb (tagOf s (afterOf s q)) (afterTagOf s q)) t (eq-eqb _ _ z))
+
+    tag-other : (q : ℕ) → q < pairsOf s → OtherTag s q → otherTag s q ≡ true
+    tag-other q h (OtherTag.first k has d) =
+        first-of (not (eqb (tagOf s (beforeOf s q)) (beforeTagOf s q))) _
+        (so-not (eqb (tagOf s (beforeOf s q)) (beforeTagOf s q))
+        (λ t. d (ap (tagOf s) (same-contour unique (beforeIdOf s q) k (beforeOf s q) has (before-has q h)) ∙ eqb-true _ _ t)))
+    tag-other q h (OtherTag.second k has d) =
+        second-of (not (eqb (tagOf s (beforeOf s q)) (beforeTagOf s q))) _
+        (so-not (eqb (tagOf s (afterOf s q)) (afterTagOf s q))
+        (λ t. d (ap (tagOf s) (same-contour unique (afterIdOf s q) k (afterOf s q) has (after-has q h)) ∙ eqb-true _ _ t)))
+
+    pub exact11 : Exact (tagFault s) (Row11 s)
+    unfolding tagFault
+    exact11 = lowest-exact (otherTag s) (pairsOf s) (OtherTag s) other-tag tag-other
+
+    pub no-other-tag : No (Row11 s) → (q : ℕ) → q < pairsOf s → OtherTag s q → ⊥
+    no-other-tag = nowhere (otherTag s) (pairsOf s) (OtherTag s) other-tag tag-other
+
+  -- ---- 12, once there are no more contours than the closure takes
+
+  pub exact12 : contoursOf s ≤ CONTOURS → Exact (cycleFault s) (Row12 s)
+  unfolding cycleFault
+  exact12 few =
+      let e : min (contoursOf s) CONTOURS ≡ contoursOf s = omega arith in
+      rw e (lowest-exact (onCycle (contoursOf s) (seatsOf s (pairsOf s))) (contoursOf s) (OnCycle s)
+      (λ k h. cycle-exactly (contoursOf s) (seatsOf s (pairsOf s)) k .0) (λ k h. cycle-exactly (contoursOf s) (seatsOf s (pairsOf s)) k .1))
+
+  pub no-cycle : No (Row12 s) → (k : ℕ) → k < contoursOf s → OnCycle s k → ⊥
+  no-cycle = nowhere (onCycle (contoursOf s) (seatsOf s (pairsOf s))) (contoursOf s) (OnCycle s)
+      (λ k h. cycle-exactly (contoursOf s) (seatsOf s (pairsOf s)) k .0) (λ k h. cycle-exactly (contoursOf s) (seatsOf s (pairsOf s)) k .1)

@@ -1,0 +1,184 @@
+-- Each stage's search tells exactly what its row of the table says. Assumes nothing.
+use mathlib.Core.Path.{_≡_, refl, sym, ap, _∙_, subst}
+use mathlib.Core.Logic.{_⊎_, inl, inr, ⊎-elim}
+use mathlib.Core.Bool.{Bool, true, false, not, _||_}
+use mathlib.Core.List.{List}
+use Prim.Native.Nat.{ℕ, zero, suc, _+_, _*_, _-_, _%_, _≤_, _<_, min}
+use native.Mathlib.Omega.{arith}
+use lib.Dec.{eqb, ltb}
+use lib.ListN.{length, getD}
+use borrow.Author.Tests.{ltb-true, lt-ltb, eqb-true, eq-eqb, ne-eqb, eqb-false}
+use Rattle.answer.specs.declared.Found.{Found}
+use Rattle.answer.specs.declared.Found.the-variants.{At, Absent}
+use Rattle.answer.specs.Lowest.{lowest}
+use Rattle.answer.proofs.LowestLaws.{Nowhere, LowestAt, at-is, is-at, is-absent, absent-is}
+use Rattle.block.specs.Field.{byteAt, u32At}
+use Rattle.block.specs.Block.{blockBytes, checkPlace, checkAt, checked, starts, Due, zerosAt}
+use Rattle.block.proofs.Readings.{due-is, is-due, zeros-each, each-zeros}
+use Rattle.closure.specs.Limits.{CONTOURS, PAIRS}
+use Rattle.fields.specs.Limits.{cardBytes, perContourLimit, candidateLimit, passLimit, vertexLimit, payloadBytes}
+use Rattle.fields.specs.Layout.{blocksOf, payload, contoursOf, pairsOf, perContourOf, passesOf, exteriorOf, interiorOf, idOf, vertexCountOf, typeOf, fillerOf}
+use Rattle.card.specs.Stages.{outside, badLength, lengthFault, checkFault, kindDue, startFault, headFaults, headFault, blocksDue, countFault, badContour, contourFault, usedIn, badSpare, spareFault, seekOf, repeats, repeatFault, isAt}
+use Rattle.card_laws.specs.Table.{Lowest, Row1, CheckDiffers, Row2, StartsOtherwise, Row3, BadField, contours, pairs, candidates, passes, exterior, interior, all-candidates, Row4, Row5, BadContour, few-vertices, many-vertices, no-type, byte-eleven, Row6, SpareByte, Row7, Repeated, Row9, No}
+use Rattle.card_laws.proofs.ExactLaws.{Exact, never, false-unless, either-of, first-of, second-of, not-so, so-not, lowest-exact, if-exact, nowhere}
+
+-- ---- below the least or above the most
+
+outside-is : (least most x : ℕ) → outside least most x ≡ true → (x < least) ⊎ (most < x)
+outside-is least most x e = go (either-of (ltb x least) (ltb most x) e)
+  where
+    go : (ltb x least ≡ true) ⊎ (ltb most x ≡ true) → (x < least) ⊎ (most < x)
+    go (inl t) = inl (ltb-true _ _ t)
+    go (inr t) = inr (ltb-true _ _ t)
+
+is-outside : (least most x : ℕ) → (x < least) ⊎ (most < x) → outside least most x ≡ true
+is-outside least most x (inl h) = first-of (ltb x least) (ltb most x) (lt-ltb _ _ h)
+is-outside least most x (inr h) = second-of (ltb x least) (ltb most x) (lt-ltb _ _ h)
+
+module _ (s : List ℕ) where
+  -- ---- 1
+
+  length-cause : badLength s ≡ true → (length s ≡ 0) ⊎ ((length s % blockBytes ≡ 0 → ⊥) ⊎ (cardBytes < length s))
+  length-cause e = go (either-of (eqb (length s) 0) (not (eqb (length s % blockBytes) 0) || ltb cardBytes (length s)) e)
+    where
+      rest : (not (eqb (length s % blockBytes) 0) ≡ true) ⊎ (ltb cardBytes (length s) ≡ true) → (length s ≡ 0) ⊎ ((length s % blockBytes ≡ 0 → ⊥) ⊎ (cardBytes < length s))
+      rest (inl t) = inr (inl (λ z. not-so (eqb (length s % blockBytes) 0) t (eq-eqb _ _ z)))
+      rest (inr t) = inr (inr (ltb-true _ _ t))
+
+      go : (eqb (length s) 0 ≡ true) ⊎ ((not (eqb (length s % blockBytes) 0) || ltb cardBytes (length s)) ≡ true) → (length s ≡ 0) ⊎ ((length s % blockBytes ≡ 0 → ⊥) ⊎ (cardBytes < length s))
+      go (inl t) = inl (eqb-true _ _ t)
+      go (inr t) = rest (either-of (not (eqb (length s % blockBytes) 0)) (ltb cardBytes (length s)) t)
+
+  cause-length : (length s ≡ 0) ⊎ ((length s % blockBytes ≡ 0 → ⊥) ⊎ (cardBytes < length s)) → badLength s ≡ true
+  cause-length (inl e) = first-of (eqb (length s) 0) _ (eq-eqb _ _ e)
+  cause-length (inr (inl h)) =
+      second-of (eqb (length s) 0) _ (first-of (not (eqb (length s % blockBytes) 0)) _ (so-not (eqb (length s % blockBytes) 0) (λ t. h (eqb-true _ _ t))))
+  cause-length (inr (inr h)) = second-of (eqb (length s) 0) _ (second-of (not (eqb (length s % blockBytes) 0)) _ (lt-ltb _ _ h))
+
+  pub exact1 : Exact (lengthFault s) (Row1 s)
+  unfolding lengthFault
+  exact1 =
+      if-exact (badLength s) (min (length s) (cardBytes + 1)) (Row1 s) (λ t. record { cause = length-cause t; told = refl })
+      (λ p r. (cause-length (r .cause), r .told))
+
+  -- ---- 2
+
+  pub exact2 : Exact (checkFault s) (Row2 s)
+  unfolding checkFault checked
+  exact2 =
+      lowest-exact _ (blocksOf s) (CheckDiffers s)
+      (λ b h t e. not-so (eqb (checkAt s (blockBytes * b)) (u32At s (blockBytes * b + checkPlace))) t (eq-eqb _ _ e))
+      (λ b h d. so-not (eqb (checkAt s (blockBytes * b)) (u32At s (blockBytes * b + checkPlace))) (λ t. d (eqb-true _ _ t)))
+
+  -- ---- 3
+
+  pub exact3 : (count : ℕ) → Exact (startFault s count) (Row3 s count)
+  unfolding startFault
+  exact3 count =
+      lowest-exact _ count (StartsOtherwise s)
+      (λ b h t d. not-so (starts s (blockBytes * b) (kindDue s b) 1 b) t (is-due s (blockBytes * b) (kindDue s b) 1 b d))
+      (λ b h d. so-not (starts s (blockBytes * b) (kindDue s b) 1 b) (λ t. d (due-is s (blockBytes * b) (kindDue s b) 1 b t)))
+
+  -- ---- 4
+
+  bad-field : (f : ℕ) → getD (headFaults s) f false ≡ true → BadField s f
+  bad-field zero e = absurd (never false e refl)
+  bad-field (suc zero) e = contours (ltb-true _ _ e)
+  bad-field (suc (suc zero)) e = pairs (ltb-true _ _ e)
+  bad-field (suc (suc (suc zero))) e = candidates (outside-is 1 perContourLimit (perContourOf s) e)
+  bad-field (suc (suc (suc (suc zero)))) e = passes (ltb-true _ _ e)
+  bad-field (suc (suc (suc (suc (suc zero))))) e = exterior (ltb-true _ _ e)
+  bad-field (suc (suc (suc (suc (suc (suc zero)))))) e = interior (ltb-true _ _ e)
+  bad-field (suc (suc (suc (suc (suc (suc (suc zero))))))) e = all-candidates (ltb-true _ _ e)
+  bad-field (suc (suc (suc (suc (suc (suc (suc (suc f)))))))) e = absurd (never false e refl)
+
+  field-bad : (f : ℕ) → BadField s f → getD (headFaults s) f false ≡ true
+  field-bad f (contours h) = lt-ltb _ _ h
+  field-bad f (pairs h) = lt-ltb _ _ h
+  field-bad f (candidates h) = is-outside 1 perContourLimit (perContourOf s) h
+  field-bad f (passes h) = lt-ltb _ _ h
+  field-bad f (exterior h) = lt-ltb _ _ h
+  field-bad f (interior h) = lt-ltb _ _ h
+  field-bad f (all-candidates h) = lt-ltb _ _ h
+
+  pub exact4 : Exact (headFault s) (Row4 s)
+  unfolding headFault
+  exact4 = lowest-exact (λ f. getD (headFaults s) f false) 8 (BadField s) (λ f h. bad-field f) (λ f h. field-bad f)
+
+  -- ---- 5
+
+  pub exact5 : Exact (countFault s) (Row5 s)
+  unfolding countFault
+  exact5 =
+      if-exact (not (eqb (blocksOf s) (blocksDue s))) (blocksOf s) (Row5 s)
+      (λ t. record { differs = λ e. not-so (eqb (blocksOf s) (blocksDue s)) t (eq-eqb _ _ e); told = refl })
+      (λ p r. (so-not (eqb (blocksOf s) (blocksDue s)) (λ t. r .differs (eqb-true _ _ t)), r .told))
+
+  -- ---- 6
+
+  bad-contour : (k : ℕ) → badContour s k ≡ true → BadContour s k
+  bad-contour k e = go (either-of (outside 1 vertexLimit (vertexCountOf s k)) (ltb 1 (typeOf s k) || not (eqb (fillerOf s k) 0)) e)
+    where
+      count : (vertexCountOf s k < 1) ⊎ (vertexLimit < vertexCountOf s k) → BadContour s k
+      count (inl h) = few-vertices h
+      count (inr h) = many-vertices h
+
+      rest : (ltb 1 (typeOf s k) ≡ true) ⊎ (not (eqb (fillerOf s k) 0) ≡ true) → BadContour s k
+      rest (inl t) = no-type (ltb-true _ _ t)
+      rest (inr t) = byte-eleven (λ z. not-so (eqb (fillerOf s k) 0) t (eq-eqb _ _ z))
+
+      go : (outside 1 vertexLimit (vertexCountOf s k) ≡ true) ⊎ ((ltb 1 (typeOf s k) || not (eqb (fillerOf s k) 0)) ≡ true) → BadContour s k
+      go (inl t) = count (outside-is 1 vertexLimit (vertexCountOf s k) t)
+      go (inr t) = rest (either-of (ltb 1 (typeOf s k)) (not (eqb (fillerOf s k) 0)) t)
+
+  contour-bad : (k : ℕ) → BadContour s k → badContour s k ≡ true
+  contour-bad k (few-vertices h) = first-of (outside 1 vertexLimit (vertexCountOf s k)) _ (is-outside 1 vertexLimit (vertexCountOf s k) (inl h))
+  contour-bad k (many-vertices h) = first-of (outside 1 vertexLimit (vertexCountOf s k)) _ (is-outside 1 vertexLimit (vertexCountOf s k) (inr h))
+  contour-bad k (no-type h) = second-of (outside 1 vertexLimit (vertexCountOf s k)) _ (first-of (ltb 1 (typeOf s k)) _ (lt-ltb _ _ h))
+  contour-bad k (byte-eleven h) =
+      second-of (outside 1 vertexLimit (vertexCountOf s k)) _ (second-of (ltb 1 (typeOf s k)) _ (so-not (eqb (fillerOf s k) 0) (λ t. h (eqb-true _ _ t))))
+
+  pub exact6 : Exact (contourFault s) (Row6 s)
+  unfolding contourFault
+  exact6 = lowest-exact (badContour s) (contoursOf s) (BadContour s) (λ k h. bad-contour k) (λ k h. contour-bad k)
+
+  -- ---- 9
+
+  repeated : (k : ℕ) → repeats s k ≡ true → Repeated s k
+  unfolding seekOf
+  repeated k e = go (lowest same k) refl
+    where
+      same : ℕ → Bool
+      same = λ j. eqb (idOf s j) (idOf s k)
+
+      go : (f : Found) → lowest same k ≡ f → Repeated s k
+      go (At j) h =
+          let w = is-at same k j h in
+          record { earlier = j; is-earlier = w .within; same = eqb-true _ _ (w .holds) }
+      go Absent h = absurd (never false (ap isAt (sym h) ∙ e) refl)
+
+  is-repeated : (k : ℕ) → Repeated s k → repeats s k ≡ true
+  unfolding seekOf
+  is-repeated k r = go (lowest same k) refl
+    where
+      same : ℕ → Bool
+      same = λ j. eqb (idOf s j) (idOf s k)
+
+      go : (f : Found) → lowest same k ≡ f → isAt (lowest same k) ≡ true
+      go (At j) h = ap isAt h
+      go Absent h = absurd (never (same (r .earlier)) (eq-eqb _ _ (r .same)) (is-absent same k h (r .earlier) (r .is-earlier)))
+
+  pub exact9 : Exact (repeatFault s) (Row9 s)
+  unfolding repeatFault
+  exact9 = lowest-exact (repeats s) (contoursOf s) (Repeated s) (λ k h. repeated k) (λ k h. is-repeated k)
+
+  pub no-repeat : No (Row9 s) → (k : ℕ) → k < contoursOf s → Repeated s k → ⊥
+  no-repeat = nowhere (repeats s) (contoursOf s) (Repeated s) (λ k h. repeated k) (λ k h. is-repeated k)
+
+  -- ---- what the rows let pass, each fact by itself
+
+  pub no-bad-field : No (Row4 s) → (f : ℕ) → f < 8 → BadField s f → ⊥
+  no-bad-field = nowhere (λ f. getD (headFaults s) f false) 8 (BadField s) (λ f h. bad-field f) (λ f h. field-bad f)
+
+  pub no-bad-contour : No (Row6 s) → (k : ℕ) → k < contoursOf s → BadContour s k → ⊥
+  no-bad-contour = nowhere (badContour s) (contoursOf s) (BadContour s) (λ k h. bad-contour k) (λ k h. contour-bad k)

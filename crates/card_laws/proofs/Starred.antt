@@ -1,0 +1,22 @@
+-- The scope document's examples of cards, computed from the definition. Assumes nothing.
+use mathlib.Core.Path.{refl}
+use lib.Ieee.{ofBits, ofFields, odd, size, span, climb, round, units, toBits}
+use lib.Count.{trailingZeros}
+use Rattle.answer.specs.Lowest.{lowest, lowestFrom}
+use Rattle.answer.specs.Stage.{firstRefusal}
+use Rattle.block.specs.Field.{u16At, u32At, u64At, f64At}
+use Rattle.block.specs.Block.{weigh, checkAt, checked, starts, allZero, zerosAt}
+use Rattle.closure.specs.Pairs.{paired, someOf}
+use Rattle.closure.specs.Cycle.{linked, leads}
+use Rattle.card.specs.Stages.{lengthFault, checkFault, startFault, headFault, countFault, contourFault, spareFault, farVertex, farFault, seekOf, repeatFault, nameFault, tagFault}
+use Rattle.card.specs.Names.{seatsOf}
+use Rattle.card.specs.Verdict.{cycleFault, checkOf}
+use Rattle.card_laws.specs.Write.{bytes, blockOf, numberBytes, pointBytes, headBytes, pointsBytes, contourBytes, contourBlocks, pairBytes, pairBlocks, written}
+use Rattle.card_laws.specs.Examples.{Examples}
+
+pub examples : Examples
+unfolding checkOf firstRefusal lengthFault checkFault startFault headFault countFault contourFault spareFault farVertex farFault seekOf repeatFault nameFault tagFault cycleFault
+    seatsOf lowest lowestFrom u16At u32At u64At f64At weigh checkAt checked starts allZero zerosAt paired someOf linked leads
+    bytes blockOf numberBytes pointBytes headBytes pointsBytes contourBytes contourBlocks pairBytes pairBlocks written
+    ofBits ofFields odd size span climb round units trailingZeros toBits
+examples = record { empty = refl; pair-of-nobody = refl; job41-fine = refl; on-itself = refl; on-a-cycle = refl }

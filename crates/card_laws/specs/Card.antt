@@ -1,0 +1,98 @@
+-- What a card says, as a record of its fields; and the facts that hold of every card that is fine. Assumes nothing.
+use mathlib.Core.Path.{_≡_}
+use mathlib.Core.Bool.{false}
+use mathlib.Core.List.{List, [], _∷_, _++_}
+use Prim.Native.Nat.{ℕ, zero, suc, _*_, _≤_, _<_}
+use lib.ListN.{length}
+use Rattle.answer.specs.declared.Point.{Point}
+use Rattle.answer.specs.declared.ContourType.{ContourType}
+use Rattle.answer.specs.declared.CutDirectionPreference.{CutDirectionPreference}
+use Rattle.block.specs.Block.{blockBytes}
+use Rattle.cost.specs.Bad.{badPoint}
+use Rattle.closure.specs.Limits.{CONTOURS, PAIRS}
+use Rattle.closure.specs.Cycle.{Acyclic}
+use Rattle.fields.specs.Limits.{perContourLimit, candidateLimit, passLimit, vertexLimit}
+use Rattle.fields.specs.Layout.{jobOf, contoursOf, pairsOf, perContourOf, passesOf, moveLimitOf, homePlace, exteriorOf, interiorOf, idOf, tagOf, vertexCountOf, typeOf, vertexPlace, beforeIdOf, beforeTagOf, afterIdOf, afterTagOf}
+use Rattle.fields.specs.Values.{asType, asPreference, pointAt}
+use Rattle.card.specs.Stages.{blocksDue, beforeOf, afterOf}
+use Rattle.card.specs.Names.{seatsOf}
+
+-- a contour: who it is, what it is, and its corners in order
+pub record Contour : Type 0 where
+  pub id : ℕ
+  pub tag : ℕ
+  pub kind : ContourType
+  pub vertices : List Point
+
+-- one contour is cut before another; each is named by id and tag
+pub record Pair : Type 0 where
+  pub before-id : ℕ
+  pub before-tag : ℕ
+  pub after-id : ℕ
+  pub after-tag : ℕ
+
+pub record Card : Type 0 where
+  pub job : ℕ
+  pub per-contour : ℕ
+  pub passes : ℕ
+  pub move-limit : ℕ
+  pub home : Point
+  pub exterior : CutDirectionPreference
+  pub interior : CutDirectionPreference
+  pub contours : List Contour
+  pub pairs : List Pair
+
+-- f of each number below n, in order
+unfoldable pub each : {A : Type 0} → (ℕ → A) → ℕ → List A
+each f zero = []
+each f (suc n) = each f n ++ (f n ∷ [])
+
+abbrev pub contourOf : List ℕ → ℕ → Contour
+contourOf s k =
+    record { id = idOf s k; tag = tagOf s k; kind = asType (typeOf s k); vertices = each (λ j. pointAt s (vertexPlace k j)) (vertexCountOf s k) }
+
+abbrev pub pairOf : List ℕ → ℕ → Pair
+pairOf s q = record { before-id = beforeIdOf s q; before-tag = beforeTagOf s q; after-id = afterIdOf s q; after-tag = afterTagOf s q }
+
+-- what the bytes say
+abbrev pub cardOf : List ℕ → Card
+cardOf s =
+    record {
+      job = jobOf s;
+      per-contour = perContourOf s;
+      passes = passesOf s;
+      move-limit = moveLimitOf s;
+      home = pointAt s homePlace;
+      exterior = asPreference (exteriorOf s);
+      interior = asPreference (interiorOf s);
+      contours = each (contourOf s) (contoursOf s);
+      pairs = each (pairOf s) (pairsOf s);
+    }
+
+-- ---- what every fine card has
+
+-- a contour that a pair names: there is one, it is the one with that id, and its tag is the pair's
+pub record Names (s : List ℕ) (id tag k : ℕ) : Type 0 where
+  pub is-contour : k < contoursOf s
+  pub same-id : idOf s k ≡ id
+  pub same-tag : tagOf s k ≡ tag
+
+pub record Accepted (s : List ℕ) : Type 0 where
+  pub whole : length s ≡ blockBytes * blocksDue s
+  pub few-contours : contoursOf s ≤ CONTOURS
+  pub few-pairs : pairsOf s ≤ PAIRS
+  pub some-candidates : 1 ≤ perContourOf s
+  pub few-candidates : perContourOf s ≤ perContourLimit
+  pub few-in-all : contoursOf s * perContourOf s ≤ candidateLimit
+  pub few-passes : passesOf s ≤ passLimit
+  pub exterior-known : exteriorOf s ≤ 2
+  pub interior-known : interiorOf s ≤ 2
+  pub some-vertices : (k : ℕ) → k < contoursOf s → 1 ≤ vertexCountOf s k
+  pub few-vertices : (k : ℕ) → k < contoursOf s → vertexCountOf s k ≤ vertexLimit
+  pub type-known : (k : ℕ) → k < contoursOf s → typeOf s k ≤ 1
+  pub home-near : badPoint (pointAt s homePlace) ≡ false
+  pub vertex-near : (k j : ℕ) → k < contoursOf s → j < vertexCountOf s k → badPoint (pointAt s (vertexPlace k j)) ≡ false
+  pub ids-differ : (j k : ℕ) → j < contoursOf s → k < contoursOf s → idOf s j ≡ idOf s k → j ≡ k
+  pub before-named : (q : ℕ) → q < pairsOf s → Names s (beforeIdOf s q) (beforeTagOf s q) (beforeOf s q)
+  pub after-named : (q : ℕ) → q < pairsOf s → Names s (afterIdOf s q) (afterTagOf s q) (afterOf s q)
+  pub acyclic : Acyclic (contoursOf s) (seatsOf s (pairsOf s))

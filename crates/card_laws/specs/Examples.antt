@@ -1,0 +1,68 @@
+-- The scope document's examples of cards, and what is to be said of them. Assumes nothing.
+use mathlib.Core.Path.{_≡_}
+use mathlib.Core.List.{List, [], _∷_}
+use Prim.Native.Nat.{ℕ, _*_}
+use lib.Ieee.{binary64, ofBits}
+use Rattle.answer.specs.declared.ContourType.{ContourType}
+use Rattle.answer.specs.declared.ContourType.the-variants.{Exterior, Interior}
+use Rattle.answer.specs.declared.CutDirectionPreference.the-variants.{Auto}
+use Rattle.answer.specs.declared.Check.{Check}
+use Rattle.answer.specs.declared.Check.the-variants.{Fine, Refused}
+use Rattle.card.specs.Verdict.{checkOf}
+use Rattle.card_laws.specs.Card.{Card, Contour, Pair}
+use Rattle.card_laws.specs.Write.{written}
+
+-- a card like job 41's: home at the corner, one candidate a contour, ten passes, no move limit, directions left to the types
+abbrev pub asJob41 : List Contour → List Pair → Card
+asJob41 contours pairs =
+    record {
+      job = 41;
+      per-contour = 1;
+      passes = 10;
+      move-limit = 0;
+      home = record { x = ofBits binary64 0; y = ofBits binary64 0 };
+      exterior = Auto;
+      interior = Auto;
+      contours = contours;
+      pairs = pairs;
+    }
+
+-- a contour of one vertex, given by the bits of its coordinates
+abbrev pub dot : ℕ → ℕ → ContourType → ℕ → ℕ → Contour
+dot id tag kind x y = record { id = id; tag = tag; kind = kind; vertices = record { x = ofBits binary64 x; y = ofBits binary64 y } ∷ [] }
+
+-- one before another, each with ten times its id as its tag
+abbrev pub waits : ℕ → ℕ → Pair
+waits before after = record { before-id = before; before-tag = 10 * before; after-id = after; after-tag = 10 * after }
+
+-- a contour at the corner
+abbrev pub cornered : ℕ → Contour
+cornered id = dot id (10 * id) Exterior 0 0
+
+-- job 41: (12,12), (3,0) and (3,4), the last before the second
+abbrev pub job41 : Card
+job41 =
+    asJob41
+    (dot 7 70 Exterior 0x4028_0000_0000_0000 0x4028_0000_0000_0000
+    ∷ dot 9 90 Exterior 0x4008_0000_0000_0000 0
+    ∷ dot 2 20 Interior 0x4008_0000_0000_0000 0x4010_0000_0000_0000
+    ∷ [])
+    (waits 2 9 ∷ [])
+
+-- position 3 waits on itself
+abbrev pub selfPair : Card
+selfPair = asJob41 (cornered 5 ∷ cornered 6 ∷ cornered 7 ∷ cornered 8 ∷ []) (waits 8 8 ∷ [])
+
+-- position 0 waits on a cycle of 1 and 2
+abbrev pub waiting : Card
+waiting = asJob41 (cornered 5 ∷ cornered 6 ∷ cornered 7 ∷ []) (waits 6 7 ∷ waits 7 6 ∷ waits 6 5 ∷ [])
+
+abbrev pub verdictOn : Card → Check
+verdictOn c = checkOf (written c)
+
+pub record Examples : Type 0 where
+  pub empty : verdictOn (asJob41 [] []) ≡ Fine
+  pub pair-of-nobody : verdictOn (asJob41 [] (waits 1 2 ∷ [])) ≡ Refused (record { number = 10; place = 0 })
+  pub job41-fine : verdictOn job41 ≡ Fine
+  pub on-itself : verdictOn selfPair ≡ Refused (record { number = 12; place = 3 })
+  pub on-a-cycle : verdictOn waiting ≡ Refused (record { number = 12; place = 1 })

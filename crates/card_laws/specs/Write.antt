@@ -1,0 +1,81 @@
+-- A card's bytes, from what it says: the other way round than reading, for examples. Assumes nothing.
+use mathlib.Core.List.{List, [], _∷_, _++_}
+use Prim.Native.Nat.{ℕ, zero, suc, _+_, _*_, _-_, _/_, _%_}
+use lib.ListN.{length, take, drop, replicate}
+use lib.Ieee.{Float, binary64, toBits}
+use Rattle.answer.specs.declared.Point.{Point}
+use Rattle.answer.specs.declared.ContourType.{ContourType}
+use Rattle.answer.specs.declared.ContourType.the-variants.{Exterior, Interior}
+use Rattle.answer.specs.declared.CutDirectionPreference.{CutDirectionPreference}
+use Rattle.answer.specs.declared.CutDirectionPreference.the-variants.{Ccw, Cw, Auto}
+use Rattle.block.specs.Block.{weigh}
+use Rattle.fields.specs.Limits.{pairsABlock, payloadBytes}
+use Rattle.card_laws.specs.Card.{Contour, Pair, Card}
+
+-- a number in so many bytes, the lowest first
+unfoldable pub bytes : ℕ → ℕ → List ℕ
+bytes zero x = []
+bytes (suc k) x = x % 256 ∷ bytes k (x / 256)
+
+-- a block: its start, the payload filled up with zeros, the check
+unfoldable pub blockOf : ℕ → ℕ → List ℕ → List ℕ
+unfolding bytes weigh
+blockOf kind number payload =
+    let body = kind ∷ 1 ∷ bytes 2 number ++ bytes 4 0 ++ payload ++ replicate (payloadBytes - length payload) 0 in
+    body ++ bytes 4 (weigh 1 body)
+
+unfoldable pub numberBytes : Float → List ℕ
+unfolding bytes toBits
+numberBytes x = bytes 8 (toBits binary64 x)
+
+unfoldable pub pointBytes : Point → List ℕ
+unfolding numberBytes
+pointBytes p = numberBytes (p .x) ++ numberBytes (p .y)
+
+abbrev pub preferenceByte : CutDirectionPreference → ℕ
+preferenceByte Ccw = 0
+preferenceByte Cw = 1
+preferenceByte Auto = 2
+
+abbrev pub typeByte : ContourType → ℕ
+typeByte Exterior = 0
+typeByte Interior = 1
+
+unfoldable pub headBytes : Card → List ℕ
+unfolding bytes pointBytes
+headBytes c =
+    bytes 4 (c .job) ++ bytes 2 (length (c .contours)) ++ bytes 2 (length (c .pairs)) ++ bytes 2 (c .per-contour) ++ bytes 2 (c .passes)
+    ++ bytes 4 (c .move-limit) ++ pointBytes (c .home) ++ preferenceByte (c .exterior) ∷ preferenceByte (c .interior) ∷ []
+
+-- points one after the other
+unfoldable pub pointsBytes : List Point → List ℕ
+unfolding pointBytes
+pointsBytes [] = []
+pointsBytes (p ∷ more) = pointBytes p ++ pointsBytes more
+
+unfoldable pub contourBytes : Contour → List ℕ
+unfolding bytes pointsBytes
+contourBytes c = bytes 4 (c .id) ++ bytes 4 (c .tag) ++ bytes 2 (length (c .vertices)) ++ typeByte (c .kind) ∷ 0 ∷ pointsBytes (c .vertices)
+
+-- the contours' blocks, from a block number on
+unfoldable pub contourBlocks : ℕ → List Contour → List ℕ
+unfolding blockOf contourBytes
+contourBlocks b [] = []
+contourBlocks b (c ∷ more) = blockOf 2 b (contourBytes c) ++ contourBlocks (suc b) more
+
+unfoldable pub pairBytes : List Pair → List ℕ
+unfolding bytes
+pairBytes [] = []
+pairBytes (p ∷ more) = bytes 4 (p .before-id) ++ bytes 4 (p .before-tag) ++ bytes 4 (p .after-id) ++ bytes 4 (p .after-tag) ++ pairBytes more
+
+-- so many blocks of pairs, from a block number on
+unfoldable pub pairBlocks : ℕ → ℕ → List Pair → List ℕ
+unfolding blockOf pairBytes
+pairBlocks zero b l = []
+pairBlocks (suc k) b l = blockOf 3 b (pairBytes (take pairsABlock l)) ++ pairBlocks k (suc b) (drop pairsABlock l)
+
+unfoldable pub written : Card → List ℕ
+unfolding blockOf headBytes contourBlocks pairBlocks
+written c =
+    blockOf 1 0 (headBytes c) ++ contourBlocks 1 (c .contours)
+    ++ pairBlocks ((length (c .pairs) + (pairsABlock - 1)) / pairsABlock) (suc (length (c .contours))) (c .pairs)

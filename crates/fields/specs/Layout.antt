@@ -1,0 +1,83 @@
+-- Where each field of a card stands, on any bytes: s is the card, k a contour, j a vertex, q a pair, each from 0. Assumes nothing.
+use mathlib.Core.List.{List}
+use Prim.Native.Nat.{ℕ, _+_, _*_, _/_, _%_}
+use lib.ListN.{length}
+use Rattle.block.specs.Field.{byteAt, u16At, u32At, u64At}
+use Rattle.block.specs.Block.{blockBytes}
+use Rattle.fields.specs.Limits.{pairsABlock}
+
+-- the blocks that the file has
+abbrev pub blocksOf : List ℕ → ℕ
+blocksOf s = length s / blockBytes
+
+-- where the payload of block b begins
+abbrev pub payload : ℕ → ℕ
+payload b = blockBytes * b + 8
+
+-- ---- the head
+
+abbrev pub jobOf : List ℕ → ℕ
+jobOf s = u32At s (payload 0 + 0)
+
+abbrev pub contoursOf : List ℕ → ℕ
+contoursOf s = u16At s (payload 0 + 4)
+
+abbrev pub pairsOf : List ℕ → ℕ
+pairsOf s = u16At s (payload 0 + 6)
+
+abbrev pub perContourOf : List ℕ → ℕ
+perContourOf s = u16At s (payload 0 + 8)
+
+abbrev pub passesOf : List ℕ → ℕ
+passesOf s = u16At s (payload 0 + 10)
+
+abbrev pub moveLimitOf : List ℕ → ℕ
+moveLimitOf s = u32At s (payload 0 + 12)
+
+-- home: its x, and 8 bytes on its y
+abbrev pub homePlace : ℕ
+homePlace = payload 0 + 16
+
+abbrev pub exteriorOf : List ℕ → ℕ
+exteriorOf s = byteAt s (payload 0 + 32)
+
+abbrev pub interiorOf : List ℕ → ℕ
+interiorOf s = byteAt s (payload 0 + 33)
+
+-- ---- a contour: one block each, after the head
+
+abbrev pub idOf : List ℕ → ℕ → ℕ
+idOf s k = u32At s (payload (k + 1) + 0)
+
+abbrev pub tagOf : List ℕ → ℕ → ℕ
+tagOf s k = u32At s (payload (k + 1) + 4)
+
+abbrev pub vertexCountOf : List ℕ → ℕ → ℕ
+vertexCountOf s k = u16At s (payload (k + 1) + 8)
+
+abbrev pub typeOf : List ℕ → ℕ → ℕ
+typeOf s k = byteAt s (payload (k + 1) + 10)
+
+abbrev pub fillerOf : List ℕ → ℕ → ℕ
+fillerOf s k = byteAt s (payload (k + 1) + 11)
+
+-- a vertex: its x, and 8 bytes on its y
+abbrev pub vertexPlace : ℕ → ℕ → ℕ
+vertexPlace k j = payload (k + 1) + 12 + 16 * j
+
+-- ---- a pair: 31 to a block, after the contours
+
+abbrev pub pairPlace : List ℕ → ℕ → ℕ
+pairPlace s q = payload (contoursOf s + 1 + q / pairsABlock) + 16 * (q % pairsABlock)
+
+abbrev pub beforeIdOf : List ℕ → ℕ → ℕ
+beforeIdOf s q = u32At s (pairPlace s q + 0)
+
+abbrev pub beforeTagOf : List ℕ → ℕ → ℕ
+beforeTagOf s q = u32At s (pairPlace s q + 4)
+
+abbrev pub afterIdOf : List ℕ → ℕ → ℕ
+afterIdOf s q = u32At s (pairPlace s q + 8)
+
+abbrev pub afterTagOf : List ℕ → ℕ → ℕ
+afterTagOf s q = u32At s (pairPlace s q + 12)
