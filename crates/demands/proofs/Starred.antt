@@ -16,7 +16,7 @@ use Rattle.cost.proofs.Starred.{closest-of-square}
 use Rattle.candidates.specs.Generate.{candidatesFrom, candidatesOf}
 use Rattle.candidates.proofs.Starred.{two-of-square, second-of-four}
 use Rattle.closure.specs.Pairs.{paired, every}
-use Rattle.hierarchy.specs.Keep.{latest, keptIn, keepsPairs, readyBy, readyIn}
+use Rattle.keep.specs.Keep.{latest, keptIn, keepsPairs, readyBy, readyIn}
 use Rattle.fields.specs.Layout.{jobOf}
 use Rattle.fields.specs.Values.{asType, asPreference, pointAt}
 use Rattle.card.specs.Stages.{seekOf}

@@ -26,7 +26,7 @@ use Rattle.candidates.specs.Along.{perimeterOf, spotAt}
 use Rattle.candidates.specs.Generate.{candidatesOf, filled}
 use Rattle.candidates.specs.Question.{offeredOf}
 use Rattle.closure.specs.Cycle.{firstOnCycle}
-use Rattle.hierarchy.specs.Keep.{keepsPairs, readyIn}
+use Rattle.keep.specs.Keep.{keepsPairs, readyIn}
 use Rattle.hierarchy.specs.Questions.{numContours, precedencesOf, violatesOf, predecessorsOf, successorsOf, validSequence, topologicalSort}
 use Rattle.fields.specs.Layout.{jobOf, contoursOf, pairsOf, perContourOf, passesOf, moveLimitOf, homePlace, exteriorOf, interiorOf, idOf, tagOf, vertexCountOf, typeOf, vertexPlace, beforeIdOf, beforeTagOf, afterIdOf, afterTagOf}
 use Rattle.fields.specs.Values.{asType, asPreference, pointAt}

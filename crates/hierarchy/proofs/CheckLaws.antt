@@ -19,7 +19,7 @@ use Rattle.hierarchy.specs.declared.Order.{Order}
 use Rattle.answer.specs.declared.Found.{Found}
 use Rattle.closure.specs.Cycle.{firstOnCycle}
 use Rattle.hierarchy.specs.Sort.{sortedBy}
-use Rattle.hierarchy.specs.Keep.{keepsPairs}
+use Rattle.keep.specs.Keep.{keepsPairs}
 use Rattle.hierarchy.specs.Questions.{pairsCheck, verdictOf, pairListOf, idsOf, orderOf, validSequence, topologicalSort}
 
 module _ (contours : ℕ) (pairs : List ℕ) where

@@ -1,4 +1,3 @@
-pub mod PlaceLaws
 pub mod CheckLaws
 pub mod FillLaws
 pub mod SortLaws

@@ -17,7 +17,7 @@ use Rattle.closure.proofs.PairLaws.{same-or, lt-or, is-pair}
 use Rattle.closure.proofs.FlagLaws.{linked-is}
 use Rattle.closure.proofs.PathLaws.{or-cases, or-left, or-right, and-first, and-second, both-true, yes-or-no, linked-within}
 use Rattle.hierarchy.specs.declared.Verdict.{Verdict}
-use Rattle.hierarchy.specs.Keep.{latest, lastPlace, keptAt, keptIn, keepsPairs, readyBy, readyIn}
+use Rattle.keep.specs.Keep.{latest, lastPlace, keptAt, keptIn, keepsPairs, readyBy, readyIn}
 use Rattle.hierarchy.specs.Sort.{both}
 use Rattle.hierarchy.specs.Questions.{pairsCheck, validSequence}
 use Rattle.hierarchy.specs.Legal.{EachOnce, Legal}

@@ -16,7 +16,7 @@ use Rattle.hierarchy.specs.declared.PairList.{PairList}
 use Rattle.hierarchy.specs.declared.Ids.{Ids}
 use Rattle.hierarchy.specs.declared.Order.{Order}
 use Rattle.hierarchy.specs.Fill.{padded}
-use Rattle.hierarchy.specs.Keep.{keepsPairs}
+use Rattle.keep.specs.Keep.{keepsPairs}
 use Rattle.hierarchy.specs.Sort.{sortedBy}
 
 -- ---- refusals

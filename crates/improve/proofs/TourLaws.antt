@@ -11,7 +11,7 @@ use lib.ListN.{length, getD, set, length-set}
 use lib.Seq.{set-set}
 use Rattle.bytes.proofs.Laws.{rev-append}
 use Rattle.bytes.specs.Bytes.{rev}
-use Rattle.hierarchy.specs.Keep.{keepsPairs}
+use Rattle.keep.specs.Keep.{keepsPairs}
 use Rattle.improve.specs.Search.{Sheet, State, lengthIn, contourOf, contours, legal, shorter, judged, atLimit, swap, turned, reversed, flip, searched}
 use Rattle.improve.proofs.Keeps.{Offers, Keeps, search-keeps}
 use Rattle.improve.proofs.ReversalLaws.{Parts, parts, turned-parts, length-turned}

@@ -7,7 +7,7 @@ use lib.Ieee.{Float, binary64, ofBits, sub, lt}
 use lib.ListN.{length, getD, set, take, drop}
 use Rattle.bytes.specs.Bytes.{rev, slice}
 use Rattle.closure.specs.Limits.{CONTOURS}
-use Rattle.hierarchy.specs.Keep.{keepsPairs}
+use Rattle.keep.specs.Keep.{keepsPairs}
 use Rattle.table.specs.Evaluate.{lengthOf}
 use Rattle.table.specs.Each.{each}
 

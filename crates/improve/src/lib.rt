@@ -7,7 +7,7 @@ ghost use Prim.Native.Nat.{_+_, _-_, _*_, _≤_, _<_, _^_};
 ghost use lib.ListN.{length, getD, set};
 ghost use Rattle.table.specs.Evaluate.{lengthOf};
 ghost use Rattle.closure.specs.Limits.{CONTOURS};
-ghost use Rattle.hierarchy.specs.Keep.{keepsPairs};
+ghost use Rattle.keep.specs.Keep.{keepsPairs};
 ghost use Rattle.table.specs.Each.{each};
 ghost use Rattle.improve.specs.Search.{contourOf, contours, shorter, atLimit, givenBack, alternative, turn, reversed, begun, repeated, searched};
 ghost use Rattle.improve.specs.Code.{Judged, Taken, Reached, going, stateOf, sheetOf};
@@ -242,7 +242,7 @@ fn is_legal(owner: &[u8], pairs: &[u8], tour: &[u8]) -> bool
         order[i] = contour_of(owner, tour[i]);
         i += 1;
     }
-    hierarchy::keeps_pairs(&order[..n], pairs)
+    keep::keeps_pairs(&order[..n], pairs)
 }
 
 // Holds a reversed tour up against the length that counts: it has to be shorter, and legal.

@@ -17,7 +17,7 @@ use Rattle.closure.specs.Cycle.{linked, Acyclic}
 use Rattle.closure.specs.Limits.{CONTOURS}
 use Rattle.closure.specs.Pairs.{paired, every}
 use Rattle.hierarchy.proofs.OrderLaws.{every-at, pair-linked, ReadyNext, one-ready, legal-keeps}
-use Rattle.hierarchy.specs.Keep.{readyIn, readyBy, keepsPairs}
+use Rattle.keep.specs.Keep.{readyIn, readyBy, keepsPairs}
 use Rattle.hierarchy.specs.Sort.{both}
 use Rattle.hierarchy.specs.Legal.{Legal}
 use Rattle.table.specs.Each.{each}

@@ -11,7 +11,7 @@ use lib.Ieee.{Float, lt}
 use lib.ListN.{length, getD, set, take, drop, length-append, take-append-drop}
 use lib.Seq.{length-take-le, take-suc-set, drop-set-lt, drop-drop, getD-at}
 use Rattle.closure.specs.Limits.{CONTOURS}
-use Rattle.hierarchy.specs.Keep.{readyIn}
+use Rattle.keep.specs.Keep.{readyIn}
 use Rattle.table.specs.Each.{each}
 use Rattle.table.specs.Evaluate.{homeAt, distanceAt}
 use Rattle.start.specs.Code.{Written}

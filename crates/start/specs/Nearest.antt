@@ -6,7 +6,7 @@ use lib.Dec.{eqb, leb}
 use lib.Ieee.{Float, binary64, ofBits, lt}
 use lib.ListN.{length, getD, set, replicate}
 use Rattle.closure.specs.Limits.{CONTOURS}
-use Rattle.hierarchy.specs.Keep.{readyIn}
+use Rattle.keep.specs.Keep.{readyIn}
 use Rattle.table.specs.Each.{each}
 use Rattle.table.specs.Evaluate.{homeAt, distanceAt}
 use Rattle.start.specs.declared.Choice.{Choice}

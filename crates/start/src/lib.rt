@@ -98,7 +98,7 @@ fn is_open(visited: &[u8], pairs: &[u8], k: u8) -> bool
     if table::byte_at(visited, k as usize) != 0 {
         return false;
     }
-    hierarchy::is_ready(visited, pairs, k)
+    keep::is_ready(visited, pairs, k)
 }
 
 // The nearest candidate of the open ones among n contours, or none.

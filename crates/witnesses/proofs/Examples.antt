@@ -18,7 +18,7 @@ use Rattle.cost.specs.Distance.{squares, distanceSqOf, distanceOf}
 use Rattle.candidates.specs.Generate.{candidatesFrom, candidatesOf}
 use Rattle.closure.specs.Pairs.{paired, someOf, every}
 use Rattle.closure.specs.Cycle.{linked, leads}
-use Rattle.hierarchy.specs.Keep.{latest, keptIn, keepsPairs, readyBy, readyIn}
+use Rattle.keep.specs.Keep.{latest, keptIn, keepsPairs, readyBy, readyIn}
 use Rattle.fields.specs.Values.{asType, asPreference, pointAt}
 use Rattle.card.specs.Stages.{lengthFault, checkFault, startFault, headFault, countFault, contourFault, spareFault, farVertex, farFault, seekOf, repeatFault, nameFault, tagFault}
 use Rattle.card.specs.Verdict.{cycleFault, checkOf}

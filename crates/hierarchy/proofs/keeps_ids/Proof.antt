@@ -4,8 +4,8 @@ use lib.ListN.{length}
 use borrow.Author.Needs.{needs}
 use borrow.Author.Tests.{not-true, not-false}
 use Rattle.closure.proofs.PairLaws.{EveryPart, every-none}
-use Rattle.hierarchy.specs.Keep.{keptIn}
-use Rattle.hierarchy.proofs.PlaceLaws.{ids-kept, ids-broken, pairs-kept}
+use Rattle.keep.specs.Keep.{keptIn}
+use Rattle.keep.proofs.PlaceLaws.{ids-kept, ids-broken, pairs-kept}
 use Rattle.hierarchy.proofs.keeps_ids.Statement.{statement}
 use Rattle.hierarchy.proofs.keeps_ids.Tie as tie
 

@@ -2,7 +2,7 @@
 use Prim.Native.Nat.{_-_}
 use lib.ListN.{length}
 use borrow.Author.Needs.{needs}
-use Rattle.hierarchy.proofs.PlaceLaws.{LatestPart, latest-none, latest-here, latest-other, latest-all}
+use Rattle.keep.proofs.PlaceLaws.{LatestPart, latest-none, latest-here, latest-other, latest-all}
 use Rattle.hierarchy.proofs.last_place.Statement.{statement}
 use Rattle.hierarchy.proofs.last_place.Tie as tie
 

@@ -7,7 +7,7 @@ use borrow.Author.Needs.{needs}
 use lib.ListN.{length, take, length-set}
 use lib.Seq.{length-take-le}
 use Rattle.closure.specs.Limits.{CONTOURS}
-use Rattle.hierarchy.specs.Keep.{keepsPairs}
+use Rattle.keep.specs.Keep.{keepsPairs}
 use Rattle.improve.specs.Search.{contours}
 use Rattle.improve.proofs.OrderLaws.{order-none, order-more, order-whole}
 use Rattle.improve.proofs.is_legal.Statement.{statement}

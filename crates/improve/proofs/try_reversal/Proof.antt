@@ -3,7 +3,7 @@ use mathlib.Core.List.{List}
 use Prim.Native.Nat.{ℕ}
 use native.Mathlib.Omega.{arith}
 use borrow.Author.Needs.{needs}
-use Rattle.hierarchy.specs.Keep.{keepsPairs}
+use Rattle.keep.specs.Keep.{keepsPairs}
 use Rattle.table.specs.Evaluate.{lengthOf}
 use Rattle.improve.specs.Search.{contours}
 use Rattle.improve.proofs.TrialLaws.{reversal-held, reversal-back}

@@ -1,7 +1,7 @@
 -- `hierarchy::kept_by` meets its contract. Assumes nothing.
-use Rattle.hierarchy.proofs.PlaceLaws.{kept-absent, kept-there}
-use Rattle.hierarchy.proofs.kept_by.Statement.{statement}
-use Rattle.hierarchy.proofs.kept_by.Tie as tie
+use Rattle.keep.proofs.PlaceLaws.{kept-absent, kept-there}
+use Rattle.keep.proofs.kept_by.Statement.{statement}
+use Rattle.keep.proofs.kept_by.Tie as tie
 
 returns : tie.Need-returns
 returns c = kept-absent (c .before .args .first) (c .before .args .second) (c .if1 .taken)

@@ -1,10 +1,10 @@
--- `hierarchy::note_places` meets its contract. Assumes nothing.
+-- `hierarchy::note_long` meets its contract. Assumes nothing.
 use Prim.Native.Nat.{_-_}
 use lib.ListN.{length}
 use borrow.Author.Needs.{needs}
-use Rattle.hierarchy.proofs.PlaceLaws.{PlacesPart, places-none, places-more, places-all}
-use Rattle.hierarchy.proofs.note_places.Statement.{statement}
-use Rattle.hierarchy.proofs.note_places.Tie as tie
+use Rattle.keep.proofs.PlaceLaws.{PlacesPart, places-none, places-more, places-all}
+use Rattle.keep.proofs.note_long.Statement.{statement}
+use Rattle.keep.proofs.note_long.Tie as tie
 
 abbrev Inv-loop : tie.InvT-loop
 Inv-loop order places₀ i₀ places i = PlacesPart order i places₀ places
@@ -13,7 +13,7 @@ abbrev μ-loop : tie.MeasureT-loop
 μ-loop order places₀ i₀ places i = length order - i
 
 loop-holds : tie.Need-loop-holds Inv-loop μ-loop
-loop-holds c = places-none _ _ (c .before .pre .1)
+loop-holds c = places-none _ _ (c .before .pre)
 
 shared-slice-read-wide : tie.Need-shared-slice-read-wide Inv-loop μ-loop
 shared-slice-read-wide c = search needs
@@ -24,8 +24,8 @@ wide-requires c κs = search needs
 add-i : tie.Need-add-i Inv-loop μ-loop
 add-i c = search needs
 
-cast-places : tie.Need-cast-places Inv-loop μ-loop
-cast-places c = search needs
+mul-places : tie.Need-mul-places Inv-loop μ-loop
+mul-places c = search needs
 
 element-write-places : tie.Need-element-write-places Inv-loop μ-loop
 element-write-places c = search needs
@@ -39,8 +39,8 @@ loop-again c = places-more _ _ _ _ _ (c .wide .ensures .0) (c .wide .ensures .1)
 returns : tie.Need-returns Inv-loop μ-loop
 returns c = places-all _ _ _ _ (c .loop-test .left) (c .before .loop .inv)
 
-pub note-places-spec : {M : Type 1} → statement M
-note-places-spec =
+pub note-long-spec : {M : Type 1} → statement M
+note-long-spec =
     tie.close
     (tie.spec
     Inv-loop
@@ -49,7 +49,7 @@ note-places-spec =
     shared-slice-read-wide
     wide-requires
     add-i
-    cast-places
+    mul-places
     element-write-places
     loop-less
     loop-again

@@ -1,8 +1,8 @@
 -- `hierarchy::ready_by` meets its contract. Assumes nothing.
-use Rattle.hierarchy.proofs.PlaceLaws.{ready-other, ready-flag}
+use Rattle.keep.proofs.PlaceLaws.{ready-other, ready-flag}
 use borrow.Author.Needs.{needs}
-use Rattle.hierarchy.proofs.ready_by.Statement.{statement}
-use Rattle.hierarchy.proofs.ready_by.Tie as tie
+use Rattle.keep.proofs.ready_by.Statement.{statement}
+use Rattle.keep.proofs.ready_by.Tie as tie
 
 returns : tie.Need-returns
 returns c = ready-other _ _ _ _ (c .if1 .taken)

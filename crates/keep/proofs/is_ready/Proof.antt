@@ -4,10 +4,10 @@ use lib.ListN.{length}
 use borrow.Author.Needs.{needs}
 use borrow.Author.Tests.{not-true, not-false}
 use Rattle.closure.proofs.PairLaws.{EveryPart, every-none}
-use Rattle.hierarchy.specs.Keep.{readyBy}
-use Rattle.hierarchy.proofs.PlaceLaws.{pair-ready, pair-waits, pairs-ready}
-use Rattle.hierarchy.proofs.is_ready.Statement.{statement}
-use Rattle.hierarchy.proofs.is_ready.Tie as tie
+use Rattle.keep.specs.Keep.{readyBy}
+use Rattle.keep.proofs.PlaceLaws.{pair-ready, pair-waits, pairs-ready}
+use Rattle.keep.proofs.is_ready.Statement.{statement}
+use Rattle.keep.proofs.is_ready.Tie as tie
 
 abbrev Inv-loop : tie.InvT-loop
 Inv-loop visited pairs k at₀ at = EveryPart (readyBy visited k) pairs at

@@ -4,10 +4,10 @@ use lib.ListN.{length}
 use borrow.Author.Needs.{needs}
 use borrow.Author.Tests.{not-true, not-false}
 use Rattle.closure.proofs.PairLaws.{EveryPart, every-none}
-use Rattle.hierarchy.specs.Keep.{keptIn}
-use Rattle.hierarchy.proofs.PlaceLaws.{pair-kept, pair-broken, pairs-kept}
-use Rattle.hierarchy.proofs.keeps_short.Statement.{statement}
-use Rattle.hierarchy.proofs.keeps_short.Tie as tie
+use Rattle.keep.specs.Keep.{keptIn}
+use Rattle.keep.proofs.PlaceLaws.{pair-kept, pair-broken, pairs-kept}
+use Rattle.keep.proofs.keeps_short.Statement.{statement}
+use Rattle.keep.proofs.keeps_short.Tie as tie
 
 abbrev Inv-loop : tie.InvT-loop
 Inv-loop order pairs places at₀ at = EveryPart (keptIn order) pairs at

@@ -11,7 +11,7 @@ use borrow.Author.Tests.{eq-eqb, ne-eqb, lt-ltb}
 use lib.ListN.{length, getD, set, drop, replicate, length-set, getD-replicate, drop-of-length-le}
 use lib.Seq.{drop-cons, getD-set-same, getD-set-other}
 use Rattle.closure.proofs.PairLaws.{same-or, pairAt, EveryPart, every-more, every-fails, every-all}
-use Rattle.hierarchy.specs.Keep.{latest, lastPlace, keptAt, keptIn, keepsPairs, PlacesOf, readyBy, readyIn}
+use Rattle.keep.specs.Keep.{latest, lastPlace, keptAt, keptIn, keepsPairs, PlacesOf, readyBy, readyIn}
 
 -- the table has a place for each byte, and going on from place i with what it holds gives what the whole order gives
 pub record PlacesPart (order : List ℕ) (i : ℕ) (p q : List ℕ) : Type 0 where

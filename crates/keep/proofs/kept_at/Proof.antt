@@ -1,7 +1,7 @@
 -- `hierarchy::kept_at` meets its contract. Assumes nothing.
-use Rattle.hierarchy.proofs.PlaceLaws.{kept-absent, kept-there}
-use Rattle.hierarchy.proofs.kept_at.Statement.{statement}
-use Rattle.hierarchy.proofs.kept_at.Tie as tie
+use Rattle.keep.proofs.PlaceLaws.{kept-absent, kept-there}
+use Rattle.keep.proofs.kept_at.Statement.{statement}
+use Rattle.keep.proofs.kept_at.Tie as tie
 
 returns : tie.Need-returns
 returns c = kept-absent (c .before .args .b) (c .before .args .a) (c .if1 .taken)
