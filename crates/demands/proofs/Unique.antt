@@ -2,7 +2,7 @@
 use mathlib.Core.Path.{_≡_, sym, _∙_}
 use mathlib.Core.List.{List}
 use Prim.Native.Nat.{ℕ}
-use Rattle.demands.specs.Unique.{OneAnswer, Is, OfNumbers, OfBlocks, OfCost, OfCandidates, OfPairs, OfCards, OfSearch, OfTours, Claim}
+use Rattle.demands.specs.Unique.{OneAnswer, Is, OfNumbers, OfBlocks, OfCost, OfCandidates, OfPairs, OfCards, OfReader, OfSearch, OfTours, Claim}
 
 -- two that equal the same are equal
 one : {A : Type 0} (definition : A) → OneAnswer (Is definition)
@@ -63,6 +63,7 @@ of-candidates = record {
 of-pairs : OfPairs
 of-pairs = record {
   first-on-cycle = λ contours pairs. one _;
+  kept-at = λ b a. one _;
   keeps-pairs = λ order pairs. one _;
   is-ready = λ visited pairs k. one _;
   num-contours = λ contours pairs. one _;
@@ -89,6 +90,8 @@ of-cards = record {
   id = λ s k. one _;
   tag = λ s k. one _;
   vertices = λ s k. one _;
+  contour-place = λ s k offset. one _;
+  contour-byte = λ s k offset. one _;
   contour-type = λ s k. one _;
   vertex = λ s k j. one _;
   before-id = λ s q. one _;
@@ -98,6 +101,19 @@ of-cards = record {
   position-of = λ s id. one _;
   pair-places = λ s. one _;
   gather = λ s. one _;
+}
+
+of-reader : OfReader
+of-reader = record {
+  field-at = λ s at width. one _;
+  left-at = λ s at. one _;
+  new = λ r. one _;
+  moved = λ r at. one _;
+  next = λ r width. one _;
+  left = λ r. one _;
+  read-field = λ s at width. one _;
+  read-head = λ s. one _;
+  read-contour = λ s k. one _;
 }
 
 of-search : OfSearch
@@ -121,6 +137,7 @@ of-tours = record {
   local-to-global = λ s contour within. one _;
   candidate = λ s number. one _;
   evaluate = λ s order. one _;
+  solve-nn = λ s. one _;
   homes-of = λ all home. one _;
   bits-of = λ x. one _;
   jl-check = λ s. one _;
@@ -129,4 +146,4 @@ of-tours = record {
 }
 
 pub claim : Claim
-claim = (of-numbers, of-blocks, of-cost, of-candidates, of-pairs, of-cards, of-search, of-tours)
+claim = (of-numbers, of-blocks, of-cost, of-candidates, of-pairs, of-cards, of-reader, of-search, of-tours)

@@ -2,9 +2,10 @@
 -- an equation with a definition, or a record of such equations; it speaks of every input, refused ones too. Assumes nothing.
 use mathlib.Core.Path.{_≡_}
 use mathlib.Core.List.{List}
-use Prim.Native.Nat.{ℕ}
+use Prim.Native.Nat.{ℕ, _+_, _-_, min}
+use denote.Ref.{now}
 use lib.Ieee.{Float, nan, binary64, toBits}
-use lib.ListN.{getD}
+use lib.ListN.{length, getD}
 use Rattle.answer.specs.declared.Point.{Point}
 use Rattle.answer.specs.declared.Check.{Check}
 use Rattle.answer.specs.declared.ContourType.{ContourType}
@@ -26,10 +27,14 @@ use Rattle.candidates.specs.Along.{perimeterOf, spotAt}
 use Rattle.candidates.specs.Generate.{candidatesOf, filled}
 use Rattle.candidates.specs.Question.{offeredOf}
 use Rattle.closure.specs.Cycle.{firstOnCycle}
-use Rattle.keep.specs.Keep.{keepsPairs, readyIn}
+use Rattle.keep.specs.Keep.{keptAt, keepsPairs, readyIn}
 use Rattle.hierarchy.specs.Questions.{numContours, precedencesOf, violatesOf, predecessorsOf, successorsOf, validSequence, topologicalSort}
-use Rattle.fields.specs.Layout.{jobOf, contoursOf, pairsOf, perContourOf, passesOf, moveLimitOf, homePlace, exteriorOf, interiorOf, idOf, tagOf, vertexCountOf, typeOf, vertexPlace, beforeIdOf, beforeTagOf, afterIdOf, afterTagOf}
+use Rattle.fields.specs.Layout.{payload, jobOf, contoursOf, pairsOf, perContourOf, passesOf, moveLimitOf, homePlace, exteriorOf, interiorOf, idOf, tagOf, vertexCountOf, typeOf, vertexPlace, beforeIdOf, beforeTagOf, afterIdOf, afterTagOf}
 use Rattle.fields.specs.Values.{asType, asPreference, pointAt}
+use Rattle.reader.specs.declared.Width.{Width}
+use Rattle.reader.specs.declared.Reader.{Reader}
+use Rattle.reader.specs.Fields.{fieldAt}
+use Rattle.reader.specs.OnCard.{headOf, contourOf}
 use Rattle.card.specs.Stages.{positionOf}
 use Rattle.card.specs.Names.{namedOf}
 use Rattle.card.specs.Verdict.{checkOf}
@@ -46,6 +51,7 @@ use Rattle.solve.specs.Solve.{Solved}
 use Rattle.tour.specs.Tour.{noDistances, tourOf}
 use Rattle.tour.specs.Questions.{locatedOf}
 use Rattle.tour.specs.Hosts.{hostTour, hostPlace}
+use Rattle.questions.specs.Nearest.{nearestOf}
 use Rattle.questions.specs.Order.{evaluated}
 use Rattle.questions.specs.Index.{pickedOf, globalOf}
 
@@ -104,6 +110,7 @@ pub record OfCandidates : Type 0 where
 -- closure and hierarchy
 pub record OfPairs : Type 0 where
   pub first-on-cycle : (contours : ℕ) (pairs : List ℕ) → OneAnswer (Is (firstOnCycle contours pairs))
+  pub kept-at : (b a : ℕ) → OneAnswer (Is (keptAt b a))
   pub keeps-pairs : (order pairs : List ℕ) → OneAnswer (Is (keepsPairs order pairs))
   pub is-ready : (visited pairs : List ℕ) (k : ℕ) → OneAnswer (Is (readyIn visited pairs k))
   pub num-contours : (contours : ℕ) (pairs : List ℕ) → OneAnswer (Is (numContours contours pairs))
@@ -114,7 +121,7 @@ pub record OfPairs : Type 0 where
   pub is-valid-sequence : (contours : ℕ) (pairs ids : List ℕ) → OneAnswer (Is (validSequence contours pairs ids))
   pub topological-sort : (contours : ℕ) (pairs : List ℕ) → OneAnswer (Is (topologicalSort contours pairs))
 
--- card and instance
+-- fields, card and instance
 pub record OfCards : Type 0 where
   pub check : (s : List ℕ) → OneAnswer (Is (checkOf s))
   pub job : (s : List ℕ) → OneAnswer (Is (jobOf s))
@@ -129,6 +136,8 @@ pub record OfCards : Type 0 where
   pub id : (s : List ℕ) (k : ℕ) → OneAnswer (Is (idOf s k))
   pub tag : (s : List ℕ) (k : ℕ) → OneAnswer (Is (tagOf s k))
   pub vertices : (s : List ℕ) (k : ℕ) → OneAnswer (Is (vertexCountOf s k))
+  pub contour-place : (s : List ℕ) (k offset : ℕ) → OneAnswer (Is (min (payload (k + 1) + offset) (length s)))
+  pub contour-byte : (s : List ℕ) (k offset : ℕ) → OneAnswer (Is (byteAt s (payload (k + 1) + offset)))
   pub contour-type : (s : List ℕ) (k : ℕ) → OneAnswer (Is (asType (typeOf s k)))
   pub vertex : (s : List ℕ) (k j : ℕ) → OneAnswer (Is (pointAt s (vertexPlace k j)))
   pub before-id : (s : List ℕ) (q : ℕ) → OneAnswer (Is (beforeIdOf s q))
@@ -138,6 +147,18 @@ pub record OfCards : Type 0 where
   pub position-of : (s : List ℕ) (id : ℕ) → OneAnswer (Is (positionOf s id))
   pub pair-places : (s : List ℕ) → OneAnswer (Is (namedOf s))
   pub gather : (s : List ℕ) → OneAnswer (Is (instanceOf s))
+
+-- reader: on a slice and a place, on the struct that holds both, and over a card
+pub record OfReader : Type 0 where
+  pub field-at : (s : List ℕ) (at : ℕ) (width : Width) → OneAnswer (Is (fieldAt s at width))
+  pub left-at : (s : List ℕ) (at : ℕ) → OneAnswer (Is (length s - at))
+  pub new : (r : Reader) → OneAnswer {A = Reader} (Is (record { src = r .src; at = 0 }))
+  pub moved : (r : Reader) (at : ℕ) → OneAnswer {A = Reader} (Is (record { src = r .src; at = at }))
+  pub next : (r : Reader) (width : Width) → OneAnswer (Is (fieldAt (now (r .src)) (r .at) width))
+  pub left : (r : Reader) → OneAnswer (Is (length (now (r .src)) - r .at))
+  pub read-field : (s : List ℕ) (at : ℕ) (width : Width) → OneAnswer (Is (fieldAt s at width))
+  pub read-head : (s : List ℕ) → OneAnswer (Is (headOf s))
+  pub read-contour : (s : List ℕ) (k : ℕ) → OneAnswer (Is (contourOf s k))
 
 -- table, start, improve and solve; where a room is lent, an answer is a pair: what is told, and the room afterwards
 pub record OfSearch : Type 0 where
@@ -159,6 +180,7 @@ pub record OfTours : Type 0 where
   pub local-to-global : (s : List ℕ) (contour within : ℕ) → OneAnswer (Is (globalOf s contour within))
   pub candidate : (s : List ℕ) (number : ℕ) → OneAnswer (Is (pickedOf s number))
   pub evaluate : (s order : List ℕ) → OneAnswer (Is (evaluated s order))
+  pub solve-nn : (s : List ℕ) → OneAnswer (Is (nearestOf s))
   pub homes-of : (all : Instance) (home : Point) → OneAnswer (Is (homed (all .items) (all .count) home noDistances))
   pub bits-of : (x : Float) → OneAnswer (Is (toBits binary64 x))
   pub jl-check : (s : List ℕ) → OneAnswer (Is (codeOf (checkOf s)))
@@ -166,4 +188,4 @@ pub record OfTours : Type 0 where
   pub jl-place : (s : List ℕ) (candidate contour within : ℕ) → OneAnswer (Is (hostPlace (locatedOf s candidate) contour within))
 
 abbrev pub Claim : Type 0
-Claim = OfNumbers × OfBlocks × OfCost × OfCandidates × OfPairs × OfCards × OfSearch × OfTours
+Claim = OfNumbers × OfBlocks × OfCost × OfCandidates × OfPairs × OfCards × OfReader × OfSearch × OfTours
