@@ -7,9 +7,9 @@ use native.Mathlib.Numerals.{add-one}
 use lib.ListN.{length, getD, drop, drop-of-length-le}
 use lib.Seq.{drop-cons}
 use lib.Ieee.{Float, binary64, add}
-use Rattle.cost.specs.Points.{nowhere, noEnds, points, edges}
-use Rattle.cost.specs.Closest.{zero64}
-use Rattle.cost.proofs.PointLaws.{points-length, edges-count}
+use Rattle.points.specs.Points.{nowhere, noEnds, points, edges}
+use Rattle.points.specs.Numbers.{zero64}
+use Rattle.points.proofs.PointLaws.{points-length, edges-count}
 use Rattle.candidates.specs.Along.{spot, lengthOf, around, perimeterOf, reaches, onEdge, spotFrom, lastSpot, spotAt}
 
 module _ (n : List Float) where

@@ -10,7 +10,7 @@ use lib.ListN.{length, getD, replicate, length-append, length-replicate, List·g
 use lib.Ieee.{Float, lt}
 use Rattle.answer.specs.declared.Point.{Point}
 use Rattle.answer.specs.declared.CutDirection.{CutDirection}
-use Rattle.cost.specs.Closest.{tiny}
+use Rattle.points.specs.Numbers.{tiny}
 use Rattle.candidates.specs.declared.Candidate.{Candidate}
 use Rattle.candidates.specs.declared.Spot.{Spot}
 use Rattle.candidates.specs.Along.{perimeterOf, spot}

@@ -7,8 +7,8 @@ use lib.ListN.{length, getD}
 use lib.Ieee.{Float}
 use Rattle.answer.specs.declared.Point.{Point}
 use Rattle.answer.specs.declared.CutDirection.{CutDirection}
-use Rattle.cost.specs.Points.{nowhere, points}
-use Rattle.cost.proofs.PointLaws.{points-length}
+use Rattle.points.specs.Points.{nowhere, points}
+use Rattle.points.proofs.PointLaws.{points-length}
 use Rattle.candidates.specs.Generate.{mostCandidates, candidatesFrom, candidatesOf}
 
 none-of : (way : CutDirection) (ps : List Point) (c : ℕ) → length ps ≡ 0 → candidatesOf way ps c ≡ []

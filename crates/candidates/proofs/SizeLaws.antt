@@ -16,12 +16,13 @@ use Rattle.answer.specs.declared.Point.{Point}
 use Rattle.answer.specs.declared.CutDirection.{CutDirection}
 use Rattle.answer.specs.declared.Found.the-variants.{Absent}
 use Rattle.answer.proofs.LowestLaws.{is-absent}
-use Rattle.cost.specs.declared.Ends.{Ends}
-use Rattle.cost.specs.Points.{point, nowhere, points, closing, edges}
-use Rattle.cost.specs.Bad.{badPoint, badAt, firstBad}
-use Rattle.cost.specs.Closest.{zero64, tiny, alongOf}
-use Rattle.cost.proofs.PointLaws.{edges-length}
-use Rattle.cost.proofs.SizeLaws.{Under, Plus, Over, Near, under-more, plus-under, plus-more, near-more, add-under, sub-under, add-plus, mul-under, div-under, rem-under, distance-plus, good-near, not-tiny}
+use Rattle.points.specs.declared.Ends.{Ends}
+use Rattle.points.specs.Points.{point, nowhere, points, closing, edges}
+use Rattle.points.specs.Bad.{badPoint, badAt, firstBad}
+use Rattle.points.specs.Numbers.{zero64, tiny}
+use Rattle.points.specs.Along.{alongOf}
+use Rattle.points.proofs.PointLaws.{edges-length}
+use Rattle.points.proofs.SizeLaws.{Under, Plus, Over, Near, under-more, plus-under, plus-more, near-more, add-under, sub-under, add-plus, mul-under, div-under, rem-under, distance-plus, good-near, not-tiny}
 use Rattle.candidates.specs.declared.Spot.{Spot}
 use Rattle.candidates.specs.declared.Candidate.{Candidate}
 use Rattle.candidates.specs.Along.{lengthOf, around, perimeterOf, spot, reaches, onEdge, spotFrom, lastSpot, spotAt}

@@ -7,9 +7,10 @@ use lib.Ieee.{Float, binary64, add, sub, mul, div, rem, neg, lt, eq, le, ofInt, 
 use Rattle.answer.specs.declared.CutDirection.{CutDirection}
 use Rattle.root.specs.Whole.{digits, wholeRoot, halves}
 use Rattle.root.specs.Root.{rootFinite, sqrtOf}
-use Rattle.cost.specs.Points.{point, points, closing, edges}
-use Rattle.cost.specs.Distance.{squares, distanceSqOf, distanceOf}
-use Rattle.cost.specs.Closest.{zero64, alongOf}
+use Rattle.points.specs.Points.{point, points, closing, edges}
+use Rattle.points.specs.Distance.{squares, distanceSqOf, distanceOf}
+use Rattle.points.specs.Numbers.{zero64}
+use Rattle.points.specs.Along.{alongOf}
 use Rattle.cost.proofs.Starred.{square}
 use Rattle.candidates.specs.Along.{around, perimeterOf, spot, reaches, onEdge, spotFrom, lastSpot, spotAt}
 use Rattle.candidates.specs.Generate.{candidateAt, blank, target, spaced, candidatesFrom, candidatesOf}

@@ -5,10 +5,11 @@ use Prim.Native.Nat.{ℕ, suc, _-_}
 use lib.ListN.{length, getD}
 use lib.Ieee.{Float, binary64, add, sub, div, lt, le}
 use Rattle.answer.specs.declared.Point.{Point}
-use Rattle.cost.specs.declared.Ends.{Ends}
-use Rattle.cost.specs.Points.{nowhere, edges}
-use Rattle.cost.specs.Distance.{distanceOf}
-use Rattle.cost.specs.Closest.{zero64, tiny, alongOf}
+use Rattle.points.specs.declared.Ends.{Ends}
+use Rattle.points.specs.Points.{nowhere, edges}
+use Rattle.points.specs.Distance.{distanceOf}
+use Rattle.points.specs.Numbers.{zero64, tiny}
+use Rattle.points.specs.Along.{alongOf}
 use Rattle.candidates.specs.declared.Spot.{Spot}
 
 abbrev pub lengthOf : Ends → Float

@@ -9,8 +9,8 @@ use lib.Ieee.{Float, binary64, mul, div, rem, lt, ofInt}
 use Rattle.answer.specs.declared.Point.{Point}
 use Rattle.answer.specs.declared.CutDirection.{CutDirection}
 use Rattle.answer.specs.declared.CutDirection.the-variants.{Ccw}
-use Rattle.cost.specs.Points.{point}
-use Rattle.cost.specs.Closest.{zero64, tiny}
+use Rattle.points.specs.Points.{point}
+use Rattle.points.specs.Numbers.{zero64, tiny}
 use Rattle.candidates.specs.declared.Spot.{Spot}
 use Rattle.candidates.specs.declared.Candidate.{Candidate}
 use Rattle.candidates.specs.declared.Candidates.{Candidates}

@@ -3,7 +3,7 @@ ghost use mathlib.Core.Path.{_≡_};
 ghost use mathlib.Core.List.{[], _∷_};
 ghost use Prim.Native.Nat.{_≤_, min};
 ghost use lib.ListN.{getD};
-ghost use Rattle.cost.specs.Points.{points, nowhere};
+ghost use Rattle.points.specs.Points.{points, nowhere};
 ghost use Rattle.candidates.specs.Direction.{directionOf};
 ghost use Rattle.candidates.specs.Along.{lengthOf, perimeterOf, reaches, onEdge, spot, spotAt, lastSpot};
 ghost use Rattle.candidates.specs.Generate.{mostCandidates, candidateAt, blank, target, spaced, candidatesOf, filled};
@@ -15,7 +15,7 @@ use answer::CutDirectionPreference;
 use answer::Found;
 use answer::Point;
 use answer::Refusal;
-use cost::Ends;
+use points::Ends;
 
 // The most candidates of one contour.
 pub const MOST_CANDIDATES: usize = 8;
@@ -83,7 +83,7 @@ fn length_of(e: Ends) -> f64
 {
     let a = e.start;
     let b = e.finish;
-    cost::distance(a, b)
+    points::distance(a, b)
 }
 
 // The length of the way around a contour.
@@ -94,7 +94,7 @@ pub fn perimeter(numbers: &[f64]) -> f64
     let mut sum = 0.0;
     let mut i = 0;
     while i < n {
-        sum = sum + length_of(cost::edge_at(numbers, i));
+        sum = sum + length_of(points::edge_at(numbers, i));
         i += 1;
     }
     sum
@@ -123,7 +123,7 @@ fn on_edge(d: f64, i: usize, before: f64, e: Ends) -> Spot
         };
     }
     Spot {
-        point: cost::along(e, (d - before) / length),
+        point: points::along(e, (d - before) / length),
         vertex: i,
     }
 }
@@ -135,12 +135,12 @@ fn last_spot(numbers: &[f64]) -> Spot
     let n = numbers.len() / 2;
     if n == 0 {
         return Spot {
-            point: cost::point_at(numbers, 0),
+            point: points::point_at(numbers, 0),
             vertex: 0,
         };
     }
     Spot {
-        point: cost::point_at(numbers, n - 1),
+        point: points::point_at(numbers, n - 1),
         vertex: n - 1,
     }
 }
@@ -153,7 +153,7 @@ pub fn spot_at(numbers: &[f64], d: f64) -> Spot
     let mut before = 0.0;
     let mut i = 0;
     while i < n {
-        let e = cost::edge_at(numbers, i);
+        let e = points::edge_at(numbers, i);
         let after = before + length_of(e);
         if on_the_way(d, before, after) {
             return on_edge(d, i, before, e);
@@ -209,7 +209,7 @@ fn first_vertex(direction: CutDirection, numbers: &[f64]) -> Candidates
     items[0] = candidate_at(
         direction,
         Spot {
-            point: cost::point_at(numbers, 0),
+            point: points::point_at(numbers, 0),
             vertex: 0,
         },
     );
@@ -301,7 +301,7 @@ fn one_contour(numbers: &[f64], c: usize) -> Check
             place: v,
         });
     }
-    match cost::first_bad(numbers, v) {
+    match points::first_bad(numbers, v) {
         Found::At(k) => Check::Refused(Refusal {
             number: 8,
             place: k,

@@ -11,7 +11,7 @@ use lib.Ieee.{Float, nan, inf, fin, binary64, up, down, odd, ofFields, ofBits}
 use lib.Ieee.Exact.{HasValue, odd-sign}
 use lib.Ieee.Fits.{down-pos}
 use borrow.Author.Tests.{lt-ltb, le-ltb, ltb-true, ltb-false, eqb-true}
-use Rattle.cost.specs.Bad.{largest, badNumber}
+use Rattle.points.specs.Bad.{largest, badNumber}
 use Rattle.fields.specs.Limits.{farthest}
 use Rattle.card.specs.Stages.{tooFar}
 

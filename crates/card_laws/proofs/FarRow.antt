@@ -10,7 +10,7 @@ use Rattle.answer.specs.declared.Found.the-variants.{At, Absent}
 use Rattle.answer.specs.Lowest.{lowest}
 use Rattle.answer.proofs.LowestLaws.{LowestAt, is-at, is-absent}
 use Rattle.block.specs.Field.{u64At, f64At}
-use Rattle.cost.specs.Bad.{badNumber, badPoint}
+use Rattle.points.specs.Bad.{badNumber, badPoint}
 use Rattle.fields.specs.Layout.{homePlace, contoursOf, vertexCountOf, vertexPlace}
 use Rattle.fields.specs.Values.{pointAt}
 use Rattle.card.specs.Stages.{isAt, tooFar, farPoint, farVertex, farPlace, farFault}

@@ -8,7 +8,7 @@ use Rattle.answer.specs.declared.Point.{Point}
 use Rattle.answer.specs.declared.ContourType.{ContourType}
 use Rattle.answer.specs.declared.CutDirectionPreference.{CutDirectionPreference}
 use Rattle.block.specs.Block.{blockBytes}
-use Rattle.cost.specs.Bad.{badPoint}
+use Rattle.points.specs.Bad.{badPoint}
 use Rattle.closure.specs.Limits.{CONTOURS, PAIRS}
 use Rattle.closure.specs.Cycle.{Acyclic}
 use Rattle.fields.specs.Limits.{perContourLimit, candidateLimit, passLimit, vertexLimit}

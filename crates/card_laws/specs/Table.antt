@@ -10,7 +10,7 @@ use Rattle.answer.specs.declared.Refusal.{Refusal}
 use Rattle.answer.specs.declared.Check.the-variants.{Fine, Refused}
 use Rattle.block.specs.Field.{byteAt, u32At}
 use Rattle.block.specs.Block.{blockBytes, checkPlace, checkAt, Due}
-use Rattle.cost.specs.Bad.{badPoint}
+use Rattle.points.specs.Bad.{badPoint}
 use Rattle.closure.specs.Limits.{CONTOURS, PAIRS}
 use Rattle.closure.specs.Cycle.{linked, Reaches}
 use Rattle.fields.specs.Limits.{cardBytes, perContourLimit, candidateLimit, passLimit, vertexLimit, payloadBytes}

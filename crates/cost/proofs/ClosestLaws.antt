@@ -11,9 +11,9 @@ use lib.Ieee.{Float}
 use Rattle.answer.specs.declared.Point.{Point}
 use Rattle.cost.specs.declared.Best.{Best}
 use Rattle.cost.specs.declared.Closest.the-variants.{At, Nowhere}
-use Rattle.cost.specs.Points.{nowhere, noEnds, points, edges}
+use Rattle.points.specs.Points.{nowhere, noEnds, points, edges}
 use Rattle.cost.specs.Closest.{closerOf, closestFrom, unbeaten, closestTo}
-use Rattle.cost.proofs.PointLaws.{points-length, edges-count}
+use Rattle.points.proofs.PointLaws.{points-length, edges-count}
 
 first-of : (p : Point) (ps : List Point) → 0 < length ps → closestTo p ps ≡ At (closestFrom p 0 (unbeaten (getD ps 0 nowhere)) (edges ps) .nearest)
 unfolding closestTo

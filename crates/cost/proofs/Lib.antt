@@ -1,7 +1,4 @@
-pub mod NumberLaws
-pub mod PointLaws
+pub mod AmountLaws
 pub mod ClosestLaws
 pub mod RapidLaws
-pub mod DistanceLaws
-pub mod SizeLaws
 pub mod Starred

@@ -11,12 +11,12 @@ use lib.Ieee.{Float, binary64, add, ofBits}
 use Rattle.answer.specs.declared.Point.{Point}
 use Rattle.answer.specs.declared.Found.the-variants.{At}
 use Rattle.answer.proofs.LowestLaws.{is-at}
-use Rattle.cost.specs.declared.Ends.{Ends}
-use Rattle.cost.specs.Points.{noEnds, points, legs}
-use Rattle.cost.specs.Bad.{firstBad, badAt}
-use Rattle.cost.specs.Distance.{distanceOf}
+use Rattle.points.specs.declared.Ends.{Ends}
+use Rattle.points.specs.Points.{noEnds, points, legs}
+use Rattle.points.specs.Bad.{firstBad, badAt}
+use Rattle.points.specs.Distance.{distanceOf}
 use Rattle.cost.specs.Rapid.{onward, rapidOf}
-use Rattle.cost.proofs.PointLaws.{legs-count}
+use Rattle.points.proofs.PointLaws.{legs-count}
 
 first-of : (home : Point) (l : List Ends) → 0 < length l → rapidOf home l ≡ onward (distanceOf home (getD l 0 noEnds .start)) (getD l 0 noEnds .finish) (drop 1 l)
 unfolding rapidOf

@@ -6,10 +6,12 @@ use lib.Count.{trailingZeros}
 use Rattle.answer.specs.Stage.{firstRefusal}
 use Rattle.answer.specs.Lowest.{lowest, lowestFrom}
 use Rattle.cost.specs.declared.Closest.the-variants.{At}
-use Rattle.cost.specs.Points.{point, points, closing, edges}
-use Rattle.cost.specs.Bad.{badNumber, badPoint, badAt, firstBad}
-use Rattle.cost.specs.Distance.{squares, distanceSqOf}
-use Rattle.cost.specs.Closest.{clampOf, footOf, alongOf, closerOf, closestFrom, closestTo, polygonAndPoint, closestOnPolygonOf, zero64}
+use Rattle.points.specs.Points.{point, points, closing, edges}
+use Rattle.points.specs.Bad.{badNumber, badPoint, badAt, firstBad}
+use Rattle.points.specs.Distance.{squares, distanceSqOf}
+use Rattle.points.specs.Along.{alongOf}
+use Rattle.points.specs.Numbers.{zero64}
+use Rattle.cost.specs.Closest.{clampOf, footOf, closerOf, closestFrom, closestTo, polygonAndPoint, closestOnPolygonOf}
 
 abbrev four64 : Float
 four64 = ofBits binary64 0x4010_0000_0000_0000

@@ -3,33 +3,21 @@ use mathlib.Core.Bool.{cond}
 use mathlib.Core.List.{List, [], _∷_}
 use Prim.Native.Nat.{ℕ, suc, _+_, _/_}
 use lib.ListN.{length}
-use lib.Ieee.{Float, binary64, add, sub, mul, div, lt, ofBits}
+use lib.Ieee.{Float, binary64, add, sub, mul, div, lt}
 use Rattle.answer.specs.declared.Point.{Point}
 use Rattle.answer.specs.declared.Check.{Check}
 use Rattle.answer.specs.declared.Check.the-variants.{Fine, Refused}
 use Rattle.answer.specs.Lowest.{refuseAt}
 use Rattle.answer.specs.Stage.{firstRefusal}
-use Rattle.cost.specs.declared.Ends.{Ends}
+use Rattle.points.specs.declared.Ends.{Ends}
 use Rattle.cost.specs.declared.Best.{Best}
 use Rattle.cost.specs.declared.Closest.{Closest}
 use Rattle.cost.specs.declared.Closest.the-variants.{At, Nowhere, Refused as Unplaced}
-use Rattle.cost.specs.Points.{point, points, edges}
-use Rattle.cost.specs.Bad.{badPoint, firstBad, refuseIf}
-use Rattle.cost.specs.Distance.{distanceSqOf}
-
-abbrev pub zero64 : Float
-zero64 = ofBits binary64 0
-
-abbrev pub one64 : Float
-one64 = ofBits binary64 0x3ff0_0000_0000_0000
-
--- 1e-12
-abbrev pub tiny : Float
-tiny = ofBits binary64 0x3d71_9799_812d_ea11
-
--- the largest finite number
-abbrev pub huge : Float
-huge = ofBits binary64 0x7fef_ffff_ffff_ffff
+use Rattle.points.specs.Numbers.{zero64, one64, tiny, huge}
+use Rattle.points.specs.Points.{points, edges}
+use Rattle.points.specs.Bad.{badPoint, firstBad, refuseIf}
+use Rattle.points.specs.Distance.{distanceSqOf}
+use Rattle.points.specs.Along.{alongOf}
 
 -- brought into 0 to 1; what is neither below 0 nor above 1 stays as it is, -0 too
 unfoldable pub clampOf : Float → Float
@@ -42,13 +30,6 @@ footOf p e =
     let b = e .finish in
     let over = add binary64 (mul binary64 (sub binary64 (p .x) (a .x)) (sub binary64 (b .x) (a .x))) (mul binary64 (sub binary64 (p .y) (a .y)) (sub binary64 (b .y) (a .y))) in
     cond (lt (distanceSqOf a b) tiny) zero64 (div binary64 over (distanceSqOf a b))
-
--- the point at t of an edge
-unfoldable pub alongOf : Ends → Float → Point
-alongOf e t =
-    let a = e .start in
-    let b = e .finish in
-    point (add binary64 (a .x) (mul binary64 t (sub binary64 (b .x) (a .x)))) (add binary64 (a .y) (mul binary64 t (sub binary64 (b .y) (a .y))))
 
 -- edge i takes the place of the best so far only if it is strictly closer
 unfoldable pub closerOf : Point → ℕ → Ends → Best → Best

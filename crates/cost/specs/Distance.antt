@@ -1,26 +1,14 @@
--- The distance of two points, and what is answered to those who ask for it. Assumes nothing.
+-- What is answered to those who ask for the distance of two points. Assumes nothing.
 use mathlib.Core.List.{[], _∷_}
-use lib.Ieee.{Float, binary64, add, sub, mul}
+use lib.Ieee.{Float}
 use Rattle.answer.specs.declared.Point.{Point}
 use Rattle.answer.specs.declared.Check.{Check}
 use Rattle.answer.specs.declared.Check.the-variants.{Fine, Refused}
 use Rattle.answer.specs.Stage.{firstRefusal}
-use Rattle.root.specs.Root.{sqrtOf}
 use Rattle.cost.specs.declared.Measured.{Measured}
 use Rattle.cost.specs.declared.Measured.the-variants.{Is, Refused as Unmeasured}
-use Rattle.cost.specs.Bad.{badPoint, refuseIf}
-
--- the sum of two squares
-unfoldable pub squares : Float → Float → Float
-squares dx dy = add binary64 (mul binary64 dx dx) (mul binary64 dy dy)
-
--- the differences, their squares, the sum: each rounded once
-unfoldable pub distanceSqOf : Point → Point → Float
-distanceSqOf a b = squares (sub binary64 (b .x) (a .x)) (sub binary64 (b .y) (a .y))
-
--- and the root, rounded once
-unfoldable pub distanceOf : Point → Point → Float
-distanceOf a b = sqrtOf (distanceSqOf a b)
+use Rattle.points.specs.Bad.{badPoint, refuseIf}
+use Rattle.points.specs.Distance.{distanceSqOf, distanceOf}
 
 -- a length, unless the check refuses
 abbrev pub measured : Check → Float → Measured

@@ -1,5 +1,3 @@
-pub mod Points
-pub mod Bad
 pub mod Distance
 pub mod Closest
 pub mod Rapid

@@ -9,11 +9,12 @@ use Rattle.answer.specs.declared.Found.the-variants.{At, Absent}
 use Rattle.answer.specs.declared.Check.{Check}
 use Rattle.answer.specs.Lowest.{refuseAt}
 use Rattle.answer.specs.Stage.{firstRefusal}
-use Rattle.cost.specs.declared.Ends.{Ends}
+use Rattle.points.specs.declared.Ends.{Ends}
 use Rattle.cost.specs.declared.Measured.{Measured}
-use Rattle.cost.specs.Points.{points, legs}
-use Rattle.cost.specs.Bad.{badPoint, firstBad, refuseIf}
-use Rattle.cost.specs.Distance.{distanceOf, measured}
+use Rattle.points.specs.Points.{points, legs}
+use Rattle.points.specs.Bad.{badPoint, firstBad, refuseIf}
+use Rattle.points.specs.Distance.{distanceOf}
+use Rattle.cost.specs.Distance.{measured}
 
 -- the sum so far, from where the head stands, through the legs to come
 unfoldable pub onward : Float → Point → List Ends → Float

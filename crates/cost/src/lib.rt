@@ -2,19 +2,16 @@
 ghost use mathlib.Core.Path.{_≡_};
 ghost use Prim.Native.Nat.{_<_, _/_};
 ghost use lib.ListN.{length, getD};
-ghost use Rattle.cost.specs.Points.{points, nowhere, noEnds, edges, legs};
-ghost use Rattle.cost.specs.Bad.{badNumber, badPoint, firstBad};
-ghost use Rattle.cost.specs.Distance.{distanceSqOf, distanceOf, twoPoints, pointDistanceSqOf, pointDistanceOf};
-ghost use Rattle.cost.specs.Closest.{clampOf, footOf, alongOf, closerOf, closestTo, polygonAndPoint, closestOnPolygonOf};
+ghost use Rattle.points.specs.Points.{points, noEnds, legs};
+ghost use Rattle.cost.specs.Distance.{twoPoints, pointDistanceSqOf, pointDistanceOf};
+ghost use Rattle.cost.specs.Closest.{clampOf, footOf, closerOf, closestTo, polygonAndPoint, closestOnPolygonOf};
 ghost use Rattle.cost.specs.Rapid.{rapidOf, homeAndLegs, totalRapidOf};
 ghost use Rattle.cost.specs.Sequence.{noAmount, amounts, sequenceCostOf};
 use answer::Check;
 use answer::Found;
 use answer::Point;
 use answer::Refusal;
-
-// The largest size of a coordinate, in millimetres.
-pub const LARGEST: f64 = 1048576.0;
+use points::Ends;
 
 // An edge whose squared length is below this has no direction.
 const TINY: f64 = 1e-12;
@@ -24,12 +21,6 @@ const HUGE: f64 = 1.7976931348623157e308;
 
 // The most pierces that are counted.
 pub const MOST_PIERCES: usize = 1000;
-
-// Where something begins and where it ends: an edge of a polygon, or a leg of a sequence.
-pub struct Ends {
-    pub start: Point,
-    pub finish: Point,
-}
 
 // A length, or why there is none.
 pub enum Measured {
@@ -57,120 +48,27 @@ pub enum Closest {
     Refused(Refusal),
 }
 
-// Whether a number cannot be a coordinate.
-pub fn bad_number(x: f64) -> bool
-    ensures { λ r. ⌜ r ≡ badNumber x ⌝ }
-{
-    if x <= LARGEST {
-        if -LARGEST <= x {
-            return false;
-        }
-    }
-    true
-}
-
-// Whether a point has such a number.
-pub fn bad_point(p: Point) -> bool
-    ensures { λ r. ⌜ r ≡ badPoint p ⌝ }
-{
-    if bad_number(p.x) {
-        return true;
-    }
-    bad_number(p.y)
-}
-
-// Point k of a flat list of numbers, two to a point. Past the last whole point it is no place at all.
-pub fn point_at(numbers: &[f64], k: usize) -> Point
-    ensures { λ r. ⌜ r ≡ getD (points (now (numbers .entry))) k nowhere ⌝ }
-{
-    if k < numbers.len() / 2 {
-        return Point {
-            x: numbers[2 * k],
-            y: numbers[2 * k + 1],
-        };
-    }
-    Point {
-        x: 0.0 / 0.0,
-        y: 0.0 / 0.0,
-    }
-}
-
-// Edge i of the polygon with these vertices: from vertex i to the next, from the last one to the first.
-pub fn edge_at(numbers: &[f64], i: usize) -> Ends
-    ensures { λ r. ⌜ r ≡ getD (edges (points (now (numbers .entry)))) i noEnds ⌝ }
-{
-    let start = point_at(numbers, i);
-    if i < numbers.len() / 2 {
-        let next = i + 1;
-        if next < numbers.len() / 2 {
-            return Ends {
-                start,
-                finish: point_at(numbers, next),
-            };
-        }
-        return Ends {
-            start,
-            finish: point_at(numbers, 0),
-        };
-    }
-    Ends {
-        start,
-        finish: start,
-    }
-}
-
 // Leg k of a sequence, four numbers to a leg.
 fn leg_at(numbers: &[f64], k: usize) -> Ends
     requires { ⌜ k < length (now numbers) / 4 ⌝ }
     ensures { λ r. ⌜ r ≡ getD (legs (points (now (numbers .entry)))) k noEnds ⌝ }
 {
     Ends {
-        start: point_at(numbers, 2 * k),
-        finish: point_at(numbers, 2 * k + 1),
+        start: points::point_at(numbers, 2 * k),
+        finish: points::point_at(numbers, 2 * k + 1),
     }
-}
-
-// The first bad one of the first `count` points of a flat list of numbers.
-pub fn first_bad(numbers: &[f64], count: usize) -> Found
-    ensures { λ r. ⌜ r ≡ firstBad (now (numbers .entry)) count ⌝ }
-{
-    let mut k = 0;
-    while k < count {
-        let p = point_at(numbers, k);
-        if bad_point(p) {
-            return Found::At(k);
-        }
-        k += 1;
-    }
-    Found::Absent
-}
-
-// The squared distance of two points.
-pub fn distance_sq(a: Point, b: Point) -> f64
-    ensures { λ r. ⌜ r ≡ distanceSqOf a b ⌝ }
-{
-    let dx = b.x - a.x;
-    let dy = b.y - a.y;
-    dx * dx + dy * dy
-}
-
-// The distance of two points. Total: it serves coordinates that an accepted card leads to, a little beyond the limit too.
-pub fn distance(a: Point, b: Point) -> f64
-    ensures { λ r. ⌜ r ≡ distanceOf a b ⌝ }
-{
-    root::sqrt(distance_sq(a, b))
 }
 
 fn two_points(a: Point, b: Point) -> Check
     ensures { λ r. ⌜ r ≡ twoPoints a b ⌝ }
 {
-    if bad_point(a) {
+    if points::bad_point(a) {
         return Check::Refused(Refusal {
             number: 8,
             place: 0,
         });
     }
-    if bad_point(b) {
+    if points::bad_point(b) {
         return Check::Refused(Refusal {
             number: 8,
             place: 1,
@@ -184,7 +82,7 @@ pub fn point_distance_sq(a: Point, b: Point) -> Measured
     ensures { λ r. ⌜ r ≡ pointDistanceSqOf a b ⌝ }
 {
     match two_points(a, b) {
-        Check::Fine => Measured::Is(distance_sq(a, b)),
+        Check::Fine => Measured::Is(points::distance_sq(a, b)),
         Check::Refused(r) => Measured::Refused(r),
     }
 }
@@ -194,7 +92,7 @@ pub fn point_distance(a: Point, b: Point) -> Measured
     ensures { λ r. ⌜ r ≡ pointDistanceOf a b ⌝ }
 {
     match two_points(a, b) {
-        Check::Fine => Measured::Is(distance(a, b)),
+        Check::Fine => Measured::Is(points::distance(a, b)),
         Check::Refused(r) => Measured::Refused(r),
     }
 }
@@ -218,23 +116,11 @@ fn foot(p: Point, e: Ends) -> f64
 {
     let a = e.start;
     let b = e.finish;
-    let length_sq = distance_sq(a, b);
+    let length_sq = points::distance_sq(a, b);
     if length_sq < TINY {
         return 0.0;
     }
     ((p.x - a.x) * (b.x - a.x) + (p.y - a.y) * (b.y - a.y)) / length_sq
-}
-
-// The point at t of an edge.
-pub fn along(e: Ends, t: f64) -> Point
-    ensures { λ r. ⌜ r ≡ alongOf e t ⌝ }
-{
-    let a = e.start;
-    let b = e.finish;
-    Point {
-        x: a.x + t * (b.x - a.x),
-        y: a.y + t * (b.y - a.y),
-    }
 }
 
 // Edge i takes the place of the best so far only if it is strictly closer.
@@ -242,8 +128,8 @@ fn closer(p: Point, i: usize, e: Ends, best: Best) -> Best
     ensures { λ r. ⌜ r ≡ closerOf p i e best ⌝ }
 {
     let t = clamp(foot(p, e));
-    let point = along(e, t);
-    let distance = distance_sq(p, point);
+    let point = points::along(e, t);
+    let distance = points::distance_sq(p, point);
     if distance < best.distance {
         return Best {
             distance,
@@ -268,14 +154,14 @@ pub fn closest_to(polygon: &[f64], p: Point) -> Closest
     let mut best = Best {
         distance: HUGE,
         nearest: Nearest {
-            point: point_at(polygon, 0),
+            point: points::point_at(polygon, 0),
             vertex: 0,
             t: 0.0,
         },
     };
     let mut i = 0;
     while i < n {
-        best = closer(p, i, edge_at(polygon, i), best);
+        best = closer(p, i, points::edge_at(polygon, i), best);
         i += 1;
     }
     let nearest = best.nearest;
@@ -287,13 +173,13 @@ fn polygon_and_point(polygon: &[f64], p: Point) -> Check
 {
     let whole = polygon.len() / 2;
     let count = (polygon.len() + 1) / 2;
-    match first_bad(polygon, count) {
+    match points::first_bad(polygon, count) {
         Found::At(k) => Check::Refused(Refusal {
             number: 8,
             place: k,
         }),
         Found::Absent => {
-            if bad_point(p) {
+            if points::bad_point(p) {
                 return Check::Refused(Refusal {
                     number: 8,
                     place: whole,
@@ -325,13 +211,13 @@ pub fn rapid_distance(home: Point, numbers: &[f64]) -> f64
     }
     let first = leg_at(numbers, 0);
     let start = first.start;
-    let mut total = distance(home, start);
+    let mut total = points::distance(home, start);
     let mut at = first.finish;
     let mut k = 1;
     while k < n {
         let leg = leg_at(numbers, k);
         let next = leg.start;
-        total = total + distance(at, next);
+        total = total + points::distance(at, next);
         at = leg.finish;
         k += 1;
     }
@@ -341,14 +227,14 @@ pub fn rapid_distance(home: Point, numbers: &[f64]) -> f64
 fn home_and_legs(home: Point, numbers: &[f64]) -> Check
     ensures { λ r. ⌜ r ≡ homeAndLegs home (now (numbers .entry)) ⌝ }
 {
-    if bad_point(home) {
+    if points::bad_point(home) {
         return Check::Refused(Refusal {
             number: 8,
             place: 0,
         });
     }
     let count = 2 * ((numbers.len() + 3) / 4);
-    match first_bad(numbers, count) {
+    match points::first_bad(numbers, count) {
         Found::At(k) => Check::Refused(Refusal {
             number: 8,
             place: k + 1,

@@ -13,10 +13,10 @@ use lib.Seq.{getD-at}
 use Rattle.answer.specs.declared.Point.{Point}
 use Rattle.answer.specs.declared.CutDirection.{CutDirection}
 use Rattle.answer.specs.declared.Check.the-variants.{Fine}
-use Rattle.cost.specs.Points.{nowhere}
-use Rattle.cost.specs.Bad.{badPoint}
-use Rattle.cost.specs.Closest.{tiny}
-use Rattle.cost.proofs.SizeLaws.{Near}
+use Rattle.points.specs.Points.{nowhere}
+use Rattle.points.specs.Bad.{badPoint}
+use Rattle.points.specs.Numbers.{tiny}
+use Rattle.points.proofs.SizeLaws.{Near}
 use Rattle.candidates.specs.declared.Candidate.{Candidate}
 use Rattle.candidates.specs.Along.{perimeterOf, spot}
 use Rattle.candidates.specs.Generate.{mostCandidates, candidateAt, blank, spaced, candidatesFrom, candidatesOf}

@@ -11,7 +11,7 @@ use lib.ListN.{length}
 use Rattle.answer.specs.declared.Check.{Check}
 use Rattle.answer.specs.declared.Check.the-variants.{Fine, Refused}
 use Rattle.answer.specs.Stage.{firstRefusal}
-use Rattle.cost.specs.Bad.{refuseIf}
+use Rattle.points.specs.Bad.{refuseIf}
 use Rattle.fields.specs.Layout.{contoursOf}
 use Rattle.card.specs.Verdict.{checkOf}
 use Rattle.table.proofs.PlaceLaws.{square-small}

@@ -12,8 +12,8 @@ use lib.Ieee.{Float, nan, inf, fin, ofBits, ofFields, odd}
 use lib.ListN.{length, getD, set, length-append}
 use Rattle.answer.specs.declared.Point.{Point}
 use Rattle.answer.specs.declared.Check.the-variants.{Fine}
-use Rattle.cost.specs.Distance.{distanceOf}
-use Rattle.cost.proofs.SizeLaws.{Plus, Near, distance-plus}
+use Rattle.points.specs.Distance.{distanceOf}
+use Rattle.points.proofs.SizeLaws.{Plus, Near, distance-plus}
 use Rattle.closure.proofs.PairLaws.{same-or}
 use Rattle.fields.specs.Layout.{contoursOf}
 use Rattle.card.specs.Verdict.{checkOf}

@@ -6,7 +6,7 @@ use native.Mathlib.Omega.{arith}
 use lib.Ieee.{Float, binary64, add, ofBits, ofFields, odd}
 use lib.ListN.{length, getD}
 use Rattle.answer.specs.declared.Point.{Point}
-use Rattle.cost.specs.Distance.{distanceOf}
+use Rattle.points.specs.Distance.{distanceOf}
 use Rattle.candidates.specs.declared.Candidate.{Candidate}
 use Rattle.table.specs.Walk.{walk, legs}
 use Rattle.table.specs.Evaluate.{distanceAt, addLeg, lengthOf}

@@ -11,7 +11,7 @@ use Rattle.bytes.specs.Bytes.{rev, slice}
 use Rattle.root.specs.Whole.{digits, wholeRoot, halves}
 use Rattle.root.specs.Root.{rootFinite, sqrtOf}
 use Rattle.root.proofs.Starred.{starred-roots}
-use Rattle.cost.specs.Distance.{squares, distanceSqOf, distanceOf}
+use Rattle.points.specs.Distance.{squares, distanceSqOf, distanceOf}
 use Rattle.cost.proofs.Starred.{closest-of-square}
 use Rattle.candidates.specs.Generate.{candidatesFrom, candidatesOf}
 use Rattle.candidates.proofs.Starred.{two-of-square, second-of-four}

@@ -8,7 +8,7 @@ use native.Mathlib.Omega.{arith}
 use lib.Dec.{lit≤}
 use lib.ListN.{length, getD, length-map, length-append}
 use Rattle.answer.specs.declared.Check.the-variants.{Fine}
-use Rattle.cost.proofs.SizeLaws.{Near, near-more, good-near, distance-below}
+use Rattle.points.proofs.SizeLaws.{Near, near-more, good-near, distance-below}
 use Rattle.hierarchy.specs.Legal.{EachOnce, Legal}
 use Rattle.hierarchy.proofs.OrderLaws.{keeps-legal, legal-keeps}
 use Rattle.fields.specs.Layout.{contoursOf, passesOf, moveLimitOf}

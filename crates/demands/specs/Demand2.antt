@@ -9,8 +9,8 @@ use Prim.Native.Nat.{ℕ, suc, _+_, _*_, _≤_, _<_}
 use lib.Dec.{T}
 use lib.Ieee.{Float, lt, le}
 use lib.ListN.{length, getD, set, take, drop}
-use Rattle.cost.specs.Closest.{huge}
-use Rattle.cost.specs.Distance.{distanceOf}
+use Rattle.points.specs.Numbers.{huge}
+use Rattle.points.specs.Distance.{distanceOf}
 use Rattle.candidates.specs.declared.Candidate.{Candidate}
 use Rattle.candidates.specs.Direction.{directionOf}
 use Rattle.candidates.specs.Generate.{candidatesOf}

@@ -9,7 +9,7 @@ use Rattle.answer.specs.declared.CutDirection.the-variants.{Ccw, Cw}
 use Rattle.answer.specs.declared.Check.the-variants.{Refused}
 use Rattle.root.specs.Root.{sqrtOf}
 use Rattle.cost.specs.declared.Closest.the-variants.{At}
-use Rattle.cost.specs.Points.{point, points}
+use Rattle.points.specs.Points.{point, points}
 use Rattle.cost.specs.Closest.{closestOnPolygonOf}
 use Rattle.candidates.specs.Along.{spot}
 use Rattle.candidates.specs.Generate.{candidateAt, blank, candidatesOf}

@@ -14,11 +14,13 @@ use Rattle.answer.specs.Code.{codeOf}
 use Rattle.root.specs.Root.{sqrtOf, rootOf}
 use Rattle.block.specs.Field.{byteAt, u16At, u32At, u64At, f64At}
 use Rattle.block.specs.Block.{starts, checkAt, checked, zerosAt}
-use Rattle.cost.specs.declared.Ends.{Ends}
-use Rattle.cost.specs.Points.{nowhere, noEnds, points, edges, legs}
-use Rattle.cost.specs.Bad.{badNumber, badPoint, firstBad}
-use Rattle.cost.specs.Distance.{distanceSqOf, distanceOf, pointDistanceSqOf, pointDistanceOf}
-use Rattle.cost.specs.Closest.{alongOf, closestTo, closestOnPolygonOf}
+use Rattle.points.specs.declared.Ends.{Ends}
+use Rattle.points.specs.Points.{nowhere, noEnds, points, edges, legs}
+use Rattle.points.specs.Bad.{badNumber, badPoint, firstBad}
+use Rattle.points.specs.Distance.{distanceSqOf, distanceOf}
+use Rattle.cost.specs.Distance.{pointDistanceSqOf, pointDistanceOf}
+use Rattle.points.specs.Along.{alongOf}
+use Rattle.cost.specs.Closest.{closestTo, closestOnPolygonOf}
 use Rattle.cost.specs.Rapid.{rapidOf, totalRapidOf}
 use Rattle.cost.specs.Sequence.{sequenceCostOf}
 use Rattle.candidates.specs.declared.Candidate.{Candidate}

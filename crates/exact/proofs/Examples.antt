@@ -9,7 +9,7 @@ use Rattle.answer.specs.declared.Point.{Point}
 use Rattle.root.specs.Whole.{wholeRoot, digits, halves}
 use Rattle.root.specs.Root.{sqrtOf, rootFinite}
 use Rattle.exact.specs.Grid.{gridPoints, squaredLength}
-use Rattle.cost.specs.Distance.{distanceOf, distanceSqOf, squares as squaresOf}
+use Rattle.points.specs.Distance.{distanceOf, distanceSqOf, squares as squaresOf}
 use Rattle.exact.specs.Length.{alongRoute, total, legRoot, lowerEnd, upperEnd}
 use Rattle.exact.proofs.RouteLaws.{computed, squares}
 

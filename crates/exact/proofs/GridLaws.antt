@@ -16,7 +16,7 @@ use Rattle.root.proofs.GridRoot.{Within, grid-root}
 use Rattle.root.proofs.RootLaws.{root-fits, root-sign, root-finite}
 use Rattle.exact.specs.Grid.{perMm, reach, onGrid, gridPoint, unitsOf, gap, apart, squaredLength}
 use Rattle.exact.specs.Length.{legRoot, step40}
-use Rattle.cost.specs.Distance.{distanceOf, distanceSqOf, squares as squaresOf}
+use Rattle.points.specs.Distance.{distanceOf, distanceSqOf, squares as squaresOf}
 use Rattle.exact.proofs.AddLaws.{Plain, add-at, value-plain}
 
 -- ---- a coordinate on the grid

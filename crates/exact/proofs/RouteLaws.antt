@@ -8,7 +8,7 @@ use lib.Ieee.{Float, le}
 use lib.Ieee.Fits.{and-l, and-r}
 use Rattle.answer.specs.declared.Point.{Point}
 use Rattle.exact.specs.Grid.{gridPoint, gridPoints, squaredLength}
-use Rattle.cost.specs.Distance.{distanceOf}
+use Rattle.points.specs.Distance.{distanceOf}
 use Rattle.exact.specs.Length.{alongRoute, total, lowerEnd, upperEnd, step40}
 use Rattle.exact.specs.Bound.{NearEnds, Enough}
 use Rattle.exact.proofs.GridLaws.{grid-leg}

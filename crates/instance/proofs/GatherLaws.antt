@@ -25,8 +25,8 @@ use Rattle.fields.specs.Values.{asType, asPreference, pointAt}
 use Rattle.answer.specs.declared.ContourType.{ContourType}
 use Rattle.answer.specs.declared.CutDirectionPreference.{CutDirectionPreference}
 use Rattle.candidates.specs.Direction.{directionOf}
-use Rattle.cost.specs.Points.{points}
-use Rattle.cost.specs.Closest.{zero64}
+use Rattle.points.specs.Points.{points}
+use Rattle.points.specs.Numbers.{zero64}
 use Rattle.instance.specs.Gather.{verticesOf, outlineOf, wayOf, offersOf, gathered, owners, firsts, roomFor, heldOf}
 use Rattle.instance.specs.Room.{padded, flat, outlined, heldAt, joined, Roomy, instanceOf}
 use Rattle.instance.proofs.RoomLaws.{padded-length, padded-front, padded-paste, padded-one, padded-two, points-flat, flat-length, flat-more}

@@ -9,7 +9,7 @@ use lib.ListN.{length, take, drop, set, replicate, length-append, length-replica
 use lib.Seq.{paste, sets-eq, take-append-seam, take-at, drop-append-add, length-take-le}
 use lib.Ieee.{Float}
 use Rattle.answer.specs.declared.Point.{Point}
-use Rattle.cost.specs.Points.{points}
+use Rattle.points.specs.Points.{points}
 use Rattle.instance.specs.Room.{padded, flat}
 
 -- ---- rooms

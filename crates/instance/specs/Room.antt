@@ -7,7 +7,7 @@ use lib.Seq.{paste}
 use lib.Ieee.{Float}
 use Rattle.answer.specs.declared.Point.{Point}
 use Rattle.candidates.specs.declared.Candidates.{Candidates}
-use Rattle.cost.specs.Closest.{zero64}
+use Rattle.points.specs.Numbers.{zero64}
 use Rattle.candidates.specs.Generate.{mostCandidates, blank}
 use Rattle.closure.specs.Limits.{CONTOURS}
 use Rattle.fields.specs.Limits.{candidateLimit, vertexLimit}

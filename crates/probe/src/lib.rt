@@ -3,8 +3,9 @@
 ghost use mathlib.Core.Path.{_≡_};
 ghost use Rattle.probe.specs.Told.{rootCode, rootOr, lengthCode, lengthOr, closestCode, nearestOr, countCode, countOr, verdictCode, kindOf, preferenceOf, wayOf, nthOf, placeOf};
 ghost use Rattle.root.specs.Root.{sqrtOf, rootOf};
-ghost use Rattle.cost.specs.Points.{point};
-ghost use Rattle.cost.specs.Distance.{distanceOf, pointDistanceOf, pointDistanceSqOf};
+ghost use Rattle.points.specs.Points.{point};
+ghost use Rattle.points.specs.Distance.{distanceOf};
+ghost use Rattle.cost.specs.Distance.{pointDistanceOf, pointDistanceSqOf};
 ghost use Rattle.cost.specs.Closest.{closestOnPolygonOf};
 ghost use Rattle.cost.specs.Rapid.{totalRapidOf};
 ghost use Rattle.cost.specs.Sequence.{sequenceCostOf};
@@ -108,7 +109,7 @@ pub extern "C" fn probe_distance_sq(ax: f64, ay: f64, bx: f64, by: f64, out: &mu
 pub extern "C" fn probe_between(ax: f64, ay: f64, bx: f64, by: f64) -> f64
     ensures { λ r. ⌜ r ≡ distanceOf (point ax ay) (point bx by) ⌝ }
 {
-    cost::distance(Point { x: ax, y: ay }, Point { x: bx, y: by })
+    points::distance(Point { x: ax, y: ay }, Point { x: bx, y: by })
 }
 
 #[no_mangle]

@@ -20,7 +20,7 @@ use Rattle.fields.specs.Layout.{contoursOf}
 use Rattle.card.specs.Stages.{isAt}
 use Rattle.card.specs.Verdict.{checkOf}
 use Rattle.card.proofs.GroupLaws.{last-stage}
-use Rattle.cost.specs.Closest.{zero64}
+use Rattle.points.specs.Numbers.{zero64}
 use Rattle.table.specs.Evaluate.{lengthOf}
 use Rattle.table.specs.Distances.{entryLimit, tabled}
 use Rattle.instance.specs.declared.Instance.{Instance}

@@ -11,7 +11,7 @@ use Rattle.answer.specs.Lowest.{lowest, refuseAt}
 use Rattle.answer.specs.Stage.{firstRefusal}
 use Rattle.cost.specs.declared.Measured.{Measured}
 use Rattle.cost.specs.declared.Measured.the-variants as measured
-use Rattle.cost.specs.Bad.{refuseIf}
+use Rattle.points.specs.Bad.{refuseIf}
 use Rattle.fields.specs.Layout.{contoursOf}
 use Rattle.card.specs.Stages.{isAt}
 use Rattle.card.specs.Verdict.{checkOf}

@@ -9,8 +9,8 @@ use lib.ListN.{length, getD}
 use Rattle.answer.specs.declared.Point.{Point}
 use Rattle.candidates.specs.declared.Candidate.{Candidate}
 use Rattle.fields.specs.Limits.{candidateLimit}
-use Rattle.cost.specs.Closest.{huge}
-use Rattle.cost.specs.Distance.{distanceOf}
+use Rattle.points.specs.Numbers.{huge}
+use Rattle.points.specs.Distance.{distanceOf}
 use Rattle.table.specs.Evaluate.{homeAt, distanceAt}
 use Rattle.table.specs.Distances.{entryLimit, absent, pierced, left, legOf, legAt, rowOf, distancesOf, homeLeg, homesOf}
 use Rattle.table.proofs.FillLaws.{listed-length, listed-at, chained-length, chained-at}

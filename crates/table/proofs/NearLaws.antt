@@ -7,8 +7,8 @@ use lib.Ieee.{lt}
 use lib.ListN.{length, getD}
 use Rattle.answer.specs.declared.Point.{Point}
 use Rattle.candidates.specs.declared.Candidate.{Candidate}
-use Rattle.cost.proofs.SizeLaws.{Near, distance-below}
-use Rattle.cost.specs.Closest.{huge}
+use Rattle.points.proofs.SizeLaws.{Near, distance-below}
+use Rattle.points.specs.Numbers.{huge}
 use Rattle.table.specs.Evaluate.{homeAt, distanceAt}
 use Rattle.table.specs.Distances.{absent, pierced, left, distancesOf, homesOf}
 use Rattle.table.proofs.DistanceLaws.{other-contour, homes-at}

@@ -10,7 +10,7 @@ use lib.Seq.{length-take-le, getD-take}
 use Rattle.answer.specs.declared.Point.{Point}
 use Rattle.candidates.specs.declared.Candidate.{Candidate}
 use Rattle.fields.specs.Limits.{candidateLimit}
-use Rattle.cost.specs.Distance.{distanceOf}
+use Rattle.points.specs.Distance.{distanceOf}
 use Rattle.table.specs.Distances.{absent, pierced, listed, homeLeg, homesOf, homed, tabled, legOf, legAt, rowOf, chained, distancesOf, written}
 use Rattle.table.proofs.FillLaws.{listed-length, entry-more, list-more}
 

@@ -11,9 +11,9 @@ use Rattle.candidates.specs.Generate.{candidateAt}
 use Rattle.candidates.specs.Along.{spot}
 use Rattle.answer.specs.declared.CutDirection.the-variants.{Ccw}
 use Rattle.fields.specs.Limits.{candidateLimit}
-use Rattle.cost.specs.Points.{point, nowhere}
-use Rattle.cost.specs.Closest.{huge}
-use Rattle.cost.specs.Distance.{distanceOf}
+use Rattle.points.specs.Points.{point, nowhere}
+use Rattle.points.specs.Numbers.{huge}
+use Rattle.points.specs.Distance.{distanceOf}
 
 -- the most entries that the distances of a card take
 abbrev pub entryLimit : ℕ

@@ -78,7 +78,7 @@ fn leg(from: Candidate, k: u8, to: Candidate, m: u8) -> f64
     if k == m {
         return HUGE;
     }
-    cost::distance(
+    points::distance(
         Point {
             x: from.end_x,
             y: from.end_y,
@@ -134,7 +134,7 @@ pub fn fill_home(room: &mut [f64], items: [Candidate; CANDIDATES], t: usize, hom
     let mut a = 0;
     while a < t {
         let to = items[a];
-        room[a] = cost::distance(home, Point { x: to.x, y: to.y });
+        room[a] = points::distance(home, Point { x: to.x, y: to.y });
         a += 1;
     }
 }

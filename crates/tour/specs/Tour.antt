@@ -7,8 +7,8 @@ use lib.Ieee.{Float}
 use Rattle.answer.specs.declared.Check.{Check}
 use Rattle.answer.specs.declared.Check.the-variants.{Fine, Refused}
 use Rattle.answer.specs.Stage.{firstRefusal}
-use Rattle.cost.specs.Bad.{refuseIf}
-use Rattle.cost.specs.Closest.{zero64}
+use Rattle.points.specs.Bad.{refuseIf}
+use Rattle.points.specs.Numbers.{zero64}
 use Rattle.fields.specs.Limits.{candidateLimit}
 use Rattle.fields.specs.Layout.{contoursOf}
 use Rattle.card.specs.Verdict.{checkOf}

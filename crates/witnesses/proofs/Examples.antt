@@ -14,7 +14,7 @@ use Rattle.block.specs.Block.{weigh, checkAt, checked, starts, allZero, zerosAt
 use Rattle.bytes.specs.Bytes.{rev, slice}
 use Rattle.root.specs.Whole.{digits, wholeRoot, halves}
 use Rattle.root.specs.Root.{rootFinite, sqrtOf}
-use Rattle.cost.specs.Distance.{squares, distanceSqOf, distanceOf}
+use Rattle.points.specs.Distance.{squares, distanceSqOf, distanceOf}
 use Rattle.candidates.specs.Generate.{candidatesFrom, candidatesOf}
 use Rattle.closure.specs.Pairs.{paired, someOf, every}
 use Rattle.closure.specs.Cycle.{linked, leads}
@@ -35,8 +35,8 @@ use Rattle.answer.specs.Stage.{firstRefusal}
 use Rattle.candidates.specs.declared.Candidate.{Candidate}
 use Rattle.candidates.specs.Along.{around, perimeterOf, reaches, onEdge, spotFrom, lastSpot, spotAt}
 use Rattle.candidates.specs.Generate.{spaced, target}
-use Rattle.cost.specs.Points.{closing, edges}
-use Rattle.cost.specs.Closest.{alongOf}
+use Rattle.points.specs.Points.{closing, edges}
+use Rattle.points.specs.Along.{alongOf}
 use Rattle.card_laws.specs.Examples.{job41, waiting}
 use Rattle.card_laws.specs.Table.{Given, twelve, Past11}
 use Rattle.card_laws.proofs.Starred.{examples}

@@ -2,7 +2,7 @@
 use mathlib.Core.Path.{_≡_}
 use Prim.Native.Nat.{_≤_, _-_}
 use native.Mathlib.Omega.{arith}
-use Rattle.cost.specs.Points.{points}
+use Rattle.points.specs.Points.{points}
 use Rattle.candidates.specs.Generate.{spaced}
 use Rattle.candidates.proofs.FillLaws.{room, room-more, room-full}
 use Rattle.candidates.proofs.spaced.Statement.{statement}

@@ -1,7 +1,7 @@
 -- `cost::leg_at` meets its contract: a leg's two points stand side by side. Assumes nothing.
 use mathlib.Core.Path.{sym}
 use borrow.Author.Needs.{needs}
-use Rattle.cost.proofs.PointLaws.{leg-of}
+use Rattle.points.proofs.PointLaws.{leg-of}
 use Rattle.cost.proofs.leg_at.Statement.{statement}
 use Rattle.cost.proofs.leg_at.Tie as tie
 

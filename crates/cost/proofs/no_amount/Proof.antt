@@ -1,7 +1,7 @@
 -- `cost::no_amount` meets its contract: each way out is a law of comparisons. Assumes nothing.
 use mathlib.Core.Path.{sym}
 use lib.Ieee.{nanBits}
-use Rattle.cost.proofs.NumberLaws.{finite-amount, endless-amount}
+use Rattle.cost.proofs.AmountLaws.{finite-amount, endless-amount}
 use Rattle.cost.proofs.no_amount.Statement.{statement}
 use Rattle.cost.proofs.no_amount.Tie as tie
 

@@ -1,6 +1,6 @@
 -- `tour::jl_tour` meets its contract: the library's own table is large enough, so a host is told what the tour's door says. Assumes nothing.
 use lib.ListN.{length-replicate}
-use Rattle.cost.specs.Closest.{zero64}
+use Rattle.points.specs.Numbers.{zero64}
 use Rattle.table.specs.Distances.{entryLimit}
 use Rattle.tour.proofs.HostLaws.{host-refused, host-done}
 use borrow.Author.Needs.{needs}

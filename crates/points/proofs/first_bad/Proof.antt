@@ -6,9 +6,9 @@ use native.Mathlib.Omega.{arith}
 use borrow.Author.Needs.{needs}
 use borrow.Author.Count.{below-none, below-more}
 use Rattle.answer.proofs.LowestLaws.{at-is, absent-is}
-use Rattle.cost.specs.Bad.{badAt, firstBad}
-use Rattle.cost.proofs.first_bad.Statement.{statement}
-use Rattle.cost.proofs.first_bad.Tie as tie
+use Rattle.points.specs.Bad.{badAt, firstBad}
+use Rattle.points.proofs.first_bad.Statement.{statement}
+use Rattle.points.proofs.first_bad.Tie as tie
 
 abbrev Inv-loop : tie.InvT-loop
 Inv-loop numbers count k₀ k = (k ≤ count) × ((j : ℕ) → j < k → badAt numbers j ≡ false)

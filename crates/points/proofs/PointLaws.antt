@@ -8,7 +8,7 @@ use native.Mathlib.Omega.{arith}
 use lib.ListN.{length, getD, List·getD-eq-default}
 use lib.Ieee.{Float, nan}
 use Rattle.answer.specs.declared.Point.{Point}
-use Rattle.cost.specs.Points.{point, ends, nowhere, noEnds, points, closing, edges, legs}
+use Rattle.points.specs.Points.{point, ends, nowhere, noEnds, points, closing, edges, legs}
 
 -- ---- points
 

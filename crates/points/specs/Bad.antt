@@ -10,7 +10,7 @@ use Rattle.answer.specs.declared.Found.{Found}
 use Rattle.answer.specs.declared.Check.{Check}
 use Rattle.answer.specs.declared.Check.the-variants.{Fine, Refused}
 use Rattle.answer.specs.Lowest.{lowest}
-use Rattle.cost.specs.Points.{points, nowhere}
+use Rattle.points.specs.Points.{points, nowhere}
 
 -- the largest size of a coordinate, in millimetres
 abbrev pub largest : ℕ

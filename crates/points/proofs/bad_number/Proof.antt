@@ -1,8 +1,8 @@
 -- `cost::bad_number` meets its contract: each way out is a law of comparisons. Assumes nothing.
 use mathlib.Core.Path.{sym}
-use Rattle.cost.proofs.NumberLaws.{within-is, under-is, above-is}
-use Rattle.cost.proofs.bad_number.Statement.{statement}
-use Rattle.cost.proofs.bad_number.Tie as tie
+use Rattle.points.proofs.NumberLaws.{within-is, under-is, above-is}
+use Rattle.points.proofs.bad_number.Statement.{statement}
+use Rattle.points.proofs.bad_number.Tie as tie
 
 returns : tie.Need-returns
 returns c = sym (within-is _ (c .before .if1 .taken) (c .if2 .taken))

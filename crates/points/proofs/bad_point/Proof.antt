@@ -1,8 +1,8 @@
 -- `cost::bad_point` meets its contract: the second number is asked only where the first is good, as `||` has it. Assumes nothing.
 use borrow.Author.Needs.{needs}
-use Rattle.cost.specs.Bad.{badPoint}
-use Rattle.cost.proofs.bad_point.Statement.{statement}
-use Rattle.cost.proofs.bad_point.Tie as tie
+use Rattle.points.specs.Bad.{badPoint}
+use Rattle.points.proofs.bad_point.Statement.{statement}
+use Rattle.points.proofs.bad_point.Tie as tie
 
 bad-number-requires : tie.Need-bad-number-requires
 bad-number-requires c κs = search needs

@@ -1,8 +1,8 @@
 -- `cost::along` meets its contract: the code is the definition. Assumes nothing.
 use mathlib.Core.Path.{refl}
-use Rattle.cost.specs.Closest.{alongOf}
-use Rattle.cost.proofs.along.Statement.{statement}
-use Rattle.cost.proofs.along.Tie as tie
+use Rattle.points.specs.Along.{alongOf}
+use Rattle.points.proofs.along.Statement.{statement}
+use Rattle.points.proofs.along.Tie as tie
 
 returns : tie.Need-returns
 unfolding alongOf

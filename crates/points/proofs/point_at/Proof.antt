@@ -2,9 +2,9 @@
 use mathlib.Core.Path.{sym}
 use borrow.Author.Needs.{needs}
 use lib.Ieee.{div, ofBits}
-use Rattle.cost.proofs.PointLaws.{points-at, point-past}
-use Rattle.cost.proofs.point_at.Statement.{statement}
-use Rattle.cost.proofs.point_at.Tie as tie
+use Rattle.points.proofs.PointLaws.{points-at, point-past}
+use Rattle.points.proofs.point_at.Statement.{statement}
+use Rattle.points.proofs.point_at.Tie as tie
 
 mul-t6 : tie.Need-mul-t6
 mul-t6 c = search needs

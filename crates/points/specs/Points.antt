@@ -2,7 +2,7 @@
 use mathlib.Core.List.{List, [], _∷_}
 use lib.Ieee.{Float, nan}
 use Rattle.answer.specs.declared.Point.{Point}
-use Rattle.cost.specs.declared.Ends.{Ends}
+use Rattle.points.specs.declared.Ends.{Ends}
 
 abbrev pub point : Float → Float → Point
 point x y = record { x = x; y = y }

@@ -1,8 +1,8 @@
 -- `cost::distance` meets its contract: the root of the squared distance. Assumes nothing.
 use borrow.Author.Needs.{needs}
-use Rattle.cost.specs.Distance.{distanceOf}
-use Rattle.cost.proofs.distance.Statement.{statement}
-use Rattle.cost.proofs.distance.Tie as tie
+use Rattle.points.specs.Distance.{distanceOf}
+use Rattle.points.proofs.distance.Statement.{statement}
+use Rattle.points.proofs.distance.Tie as tie
 
 distance-sq-requires : tie.Need-distance-sq-requires
 distance-sq-requires c κs = search needs

@@ -16,9 +16,9 @@ use Rattle.root.specs.Whole.{halves}
 use Rattle.root.specs.Root.{rootFinite, sqrtOf}
 use Rattle.root.proofs.Rounding.{round-steps, grid-le}
 use Rattle.root.proofs.WholeLaws.{halves-le-even}
-use Rattle.cost.specs.Bad.{largest, badNumber, badPoint}
-use Rattle.cost.specs.Distance.{squares, distanceSqOf, distanceOf}
-use Rattle.cost.specs.Closest.{tiny, huge}
+use Rattle.points.specs.Bad.{largest, badNumber, badPoint}
+use Rattle.points.specs.Distance.{squares, distanceSqOf, distanceOf}
+use Rattle.points.specs.Numbers.{tiny, huge}
 
 -- finite, and at most 2^k in size
 abbrev pub Under : ℕ → Float → Type 0

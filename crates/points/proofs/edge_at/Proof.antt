@@ -2,9 +2,9 @@
 use mathlib.Core.Path.{sym}
 use native.Mathlib.Omega.{arith}
 use borrow.Author.Needs.{needs}
-use Rattle.cost.proofs.PointLaws.{edge-next, edge-back, edge-past, point-past}
-use Rattle.cost.proofs.edge_at.Statement.{statement}
-use Rattle.cost.proofs.edge_at.Tie as tie
+use Rattle.points.proofs.PointLaws.{edge-next, edge-back, edge-past, point-past}
+use Rattle.points.proofs.edge_at.Statement.{statement}
+use Rattle.points.proofs.edge_at.Tie as tie
 
 point-at-requires : tie.Need-point-at-requires
 point-at-requires c κs = search needs

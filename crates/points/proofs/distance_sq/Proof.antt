@@ -1,8 +1,8 @@
 -- `cost::distance_sq` meets its contract: the code is the definition. Assumes nothing.
 use mathlib.Core.Path.{refl}
-use Rattle.cost.specs.Distance.{distanceSqOf, squares}
-use Rattle.cost.proofs.distance_sq.Statement.{statement}
-use Rattle.cost.proofs.distance_sq.Tie as tie
+use Rattle.points.specs.Distance.{distanceSqOf, squares}
+use Rattle.points.proofs.distance_sq.Statement.{statement}
+use Rattle.points.proofs.distance_sq.Tie as tie
 
 returns : tie.Need-returns
 unfolding distanceSqOf squares

@@ -10,7 +10,7 @@ use lib.Dec.{ltb}
 use lib.Ieee.{Float, nan, inf, fin, Format, binary64, prec, emax, low, up, down, size, nearest, odd, units, round, neg, sum, add, sub, mul}
 use Rattle.answer.specs.declared.Point.{Point}
 use Rattle.root.specs.Root.{sqrtOf}
-use Rattle.cost.specs.Distance.{squares, distanceSqOf, distanceOf}
+use Rattle.points.specs.Distance.{squares, distanceSqOf, distanceOf}
 
 -- ---- the other sign in, the other sign out
 

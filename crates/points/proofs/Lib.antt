@@ -1,0 +1,4 @@
+pub mod NumberLaws
+pub mod PointLaws
+pub mod DistanceLaws
+pub mod SizeLaws

@@ -1,0 +1,5 @@
+pub mod Numbers
+pub mod Points
+pub mod Bad
+pub mod Distance
+pub mod Along
