@@ -1,4 +1,8 @@
 // A card's list on standard output: the stops of its tour, one to a line, or the one line of a refusal.
+ghost use mathlib.Core.Path.{_≡_};
+ghost use mathlib.Core.List.{_++_};
+ghost use Rattle.list.specs.Page.{paged, putByte, put};
+ghost use Rattle.list.specs.Text.{decimalOf, hexOf};
 use answer::CutDirection;
 use answer::Refusal;
 use closure::CONTOURS;
@@ -7,6 +11,60 @@ use libc::STDOUT_FILENO;
 use solve::Outcome;
 use table::ENTRIES;
 use tour::Toured;
+
+// ---- a page
+
+// A byte at a place of the page, if there is room. The answer is the place after it.
+fn put_byte(page: &mut [u8], at: usize, b: u8) -> usize
+    ensures { λ r. ⌜ paged r (now (page .exit)) ≡ putByte b (paged at (now (page .entry))) ⌝ }
+{
+    if at < page.len() {
+        page[at] = b;
+        return at + 1;
+    }
+    at
+}
+
+// A text from a place of the page on, as far as there is room.
+fn put(page: &mut [u8], at: usize, text: &[u8]) -> usize
+    ensures { λ r. ⌜ paged r (now (page .exit)) ≡ put (now (text .entry)) (paged at (now (page .entry))) ⌝ }
+{
+    let mut next = at;
+    let mut i = 0;
+    while i < text.len() {
+        next = put_byte(page, next, text[i]);
+        i += 1;
+    }
+    next
+}
+
+// A number in decimal.
+fn put_decimal(page: &mut [u8], at: usize, n: u64) -> usize
+    ensures { λ r. ⌜ paged r (now (page .exit)) ≡ put (decimalOf n) (paged at (now (page .entry))) ⌝ }
+{
+    let mut digits = [0u8; 20];
+    let k = io::decimal(n, &mut digits);
+    put(page, at, &digits[..k])
+}
+
+// A number in hexadecimal, all 16 digits.
+fn put_hex(page: &mut [u8], at: usize, n: u64) -> usize
+    ensures { λ r. ⌜ paged r (now (page .exit)) ≡ put (hexOf n) (paged at (now (page .entry))) ⌝ }
+{
+    let mut digits = [0u8; 16];
+    let k = io::hex(n, 16, &mut digits);
+    put(page, at, &digits[..k])
+}
+
+// A text, and a number after it.
+fn put_number(page: &mut [u8], at: usize, text: &[u8], n: u64) -> usize
+    ensures { λ r. ⌜ paged r (now (page .exit)) ≡ put (now (text .entry) ++ decimalOf n) (paged at (now (page .entry))) ⌝ }
+{
+    let next = put(page, at, text);
+    put_decimal(page, next, n)
+}
+
+// ---- the list
 
 // A text, and a number after it.
 fn show(text: &[u8], number: u64) {
