@@ -1,2 +1,4 @@
 pub mod PageLaws
 pub mod TextLaws
+pub mod LineLaws
+pub mod DoorLaws
