@@ -2,3 +2,4 @@ pub mod PageLaws
 pub mod TextLaws
 pub mod LineLaws
 pub mod DoorLaws
+pub mod Fits

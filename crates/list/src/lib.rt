@@ -9,7 +9,7 @@ ghost use Rattle.instance.specs.Gather.{wayOf};
 ghost use Rattle.instance.specs.Room.{instanceOf};
 ghost use Rattle.list.specs.Page.{paged, putByte, put, over};
 ghost use Rattle.list.specs.Text.{decimalOf, hexOf};
-ghost use Rattle.list.specs.Lines.{headLine, wayWord, nameWords, placeLine, stopLine, stopLines, outcomeLines, tourLines, refusalLine, listOf, placeIn};
+ghost use Rattle.list.specs.Lines.{headLine, wayWord, nameWords, placeLine, stopLines, outcomeLines, tourLines, refusalLine, listOf, placeIn};
 use answer::CutDirection;
 use answer::Refusal;
 use closure::CONTOURS;
@@ -20,7 +20,7 @@ use table::ENTRIES;
 use tour::Place;
 use tour::Toured;
 
-// No list is longer.
+// No list is longer (proofs/Fits.antt).
 const LONGEST: usize = 1280;
 
 // ---- a page
@@ -110,8 +110,10 @@ fn put_way(page: &mut [u8], at: usize, direction: CutDirection) -> usize
 fn put_name(card: &[u8], k: usize, page: &mut [u8], at: usize) -> usize
     ensures { λ r. ⌜ paged r (now (page .exit)) ≡ put (nameWords (now (card .entry)) k) (paged at (now (page .entry))) ⌝ }
 {
-    let id = put_decimal(page, at, card::id(card, k) as u64);
-    put_number(page, id, b" ", card::tag(card, k) as u64)
+    let id = card::id(card, k) as u64;
+    let tag = card::tag(card, k) as u64;
+    let next = put_decimal(page, at, id);
+    put_number(page, next, b" ", tag)
 }
 
 // A stop: the contour's id and tag, the candidate's number within it, and which way round it is cut.
@@ -187,9 +189,11 @@ fn put_tour(card: &[u8], tour: &[u8], o: Outcome, page: &mut [u8]) -> usize
 fn put_refusal(r: Refusal, page: &mut [u8]) -> usize
     ensures { λ n. ⌜ paged n (now (page .exit)) ≡ put (refusalLine r) (paged 0 (now (page .entry))) ⌝ }
 {
-    let number = put_number(page, 0, b"REFUSED ", r.number as u64);
-    let place = put_number(page, number, b" AT ", r.place as u64);
-    put(page, place, b"\n")
+    let number = r.number as u64;
+    let place = r.place as u64;
+    let next = put_number(page, 0, b"REFUSED ", number);
+    let end = put_number(page, next, b" AT ", place);
+    put(page, end, b"\n")
 }
 
 // ---- the list

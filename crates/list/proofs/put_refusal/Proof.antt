@@ -4,11 +4,11 @@ use borrow.Author.Needs.{needs}
 use Rattle.list.proofs.put_refusal.Statement.{statement}
 use Rattle.list.proofs.put_refusal.Tie as tie
 
+cast-number : tie.Need-cast-number
+cast-number c = search needs
+
 slice-aggregate-put-number : tie.Need-slice-aggregate-put-number
 slice-aggregate-put-number c = search needs
-
-cast-put-number : tie.Need-cast-put-number
-cast-put-number c = search needs
 
 put-number-requires : tie.Need-put-number-requires
 put-number-requires c κs = search needs
@@ -35,8 +35,8 @@ pub put-refusal-spec : {M : Type 1} → statement M
 put-refusal-spec =
     tie.close
     (tie.spec
+    cast-number
     slice-aggregate-put-number
-    cast-put-number
     put-number-requires
     slice-aggregate-put-number-2
     put-number-requires-2
