@@ -1,5 +1,5 @@
 -- No list is longer than its page. Assumes nothing.
-use mathlib.Core.Path.{_≡_, refl, ap}
+use mathlib.Core.Path.{_≡_, refl, ap, _∙_}
 use mathlib.Core.List.{List, [], _∷_, _++_}
 use Prim.Native.Nat.{ℕ, zero, suc, _+_, _*_, _/_, _%_, _^_, _≤_, _<_, min}
 use native.Mathlib.Decide.{decLe}
@@ -183,8 +183,14 @@ all-laid [] held h = refl
 all-laid (b ∷ text) [] h = absurd (omega arith)
 all-laid (b ∷ text) (x ∷ held) h = ap (λ (l : List ℕ). b ∷ l) (all-laid text held (omega arith))
 
+module _ (s held : List ℕ) (ofBytes : OfBytes s) (room : longest ≤ length held) where
+  counted : min (length (listOf s)) (length held) ≡ length (listOf s)
+  counted = let fits = list-fits s ofBytes in omega arith
+
+  pub whole-list : (after : List ℕ) (n : ℕ) → after ≡ over (listOf s) held → n ≡ min (length (listOf s)) (length held) → (take n after ≡ listOf s) × (n ≡ length (listOf s))
+  whole-list after n e k =
+      let fits = list-fits s ofBytes in
+      (rw (k, counted, e) (all-laid (listOf s) held (omega arith)), k ∙ counted)
+
 pub list-whole : Whole
-list-whole s held ofBytes room =
-    let fits = list-fits s ofBytes in
-    let n : min (length (listOf s)) (length held) ≡ length (listOf s) = omega arith in
-    rw n (all-laid (listOf s) held (omega arith))
+list-whole s held ofBytes room = whole-list s held ofBytes room (over (listOf s) held) (min (length (listOf s)) (length held)) refl refl .0

@@ -5,7 +5,7 @@ use Prim.Native.Nat.{ℕ, suc, _+_, _<_, _≤_, min}
 use native.Mathlib.Numerals.{add-one}
 use native.Mathlib.Omega.{arith}
 use lib.ListN.{length, take, getD, set, length-append}
-use lib.Seq.{take-suc, take-all, set-at, length-take-le}
+use lib.Seq.{take-suc, take-all, set-at}
 use borrow.Author.Tests.{lt-ltb, le-ltb}
 use Rattle.list.specs.Page.{Page, paged, putByte, put, over}
 
@@ -79,18 +79,3 @@ pub written : (a b held after : List ℕ) (n : ℕ) → paged n after ≡ put a 
 written a b held after n e f =
     let l = laid b held after n (put-same a b (paged 0 held) (paged n after) e f) in
     (ap (λ (p : Page). p .held) l, ap (λ (p : Page). p .at) l)
-
--- ---- what a page holds after a text was laid over it
-
-length-over : (text held : List ℕ) → length (over text held) ≡ length held
-unfolding over
-length-over [] held = refl
-length-over (b ∷ text) [] = refl
-length-over (b ∷ text) (x ∷ held) = ap suc (length-over text held)
-
-module _ (text held after : List ℕ) (n : ℕ) (e : after ≡ over text held) (k : n ≡ min (length text) (length held)) where
-  pub laid-within : n ≤ length after
-  laid-within = let w : length after ≡ length held = ap length e ∙ length-over text held in omega arith
-
-  pub laid-whole : n ≡ length (take n after)
-  laid-whole = sym (length-take-le n after laid-within)

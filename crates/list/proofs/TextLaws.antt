@@ -1,5 +1,5 @@
 -- Numbers as text: what `io` promises of its digits is what the definitions say. Assumes nothing.
-use mathlib.Core.Path.{_≡_, ap, _∙_}
+use mathlib.Core.Path.{_≡_, refl, ap, _∙_}
 use mathlib.Core.List.{List, [], _∷_, _++_}
 use Prim.Native.Nat.{ℕ, zero, suc, _-_, _/_, _%_, _^_, _≤_, _<_, min, max}
 use native.Mathlib.Decide.{decLe}
@@ -9,7 +9,7 @@ use lib.Dec.{lit≤}
 use lib.ListN.{take}
 use borrow.Author.Tests.{lt-ltb, le-ltb}
 use Rattle.io.specs.Digits.{glyph, digits, Fewest}
-use Rattle.list.specs.Text.{decimalIn, decimalOf, hexOf}
+use Rattle.list.specs.Text.{bytes, decimalIn, decimalOf, hexOf}
 
 -- a number that so many digits can hold takes no more of them
 few : (base least most n k : ℕ) → 0 < base → least ≤ most → n < base ^ most → Fewest base least n k → k ≤ most
@@ -59,3 +59,21 @@ unfolding hexOf
 hex-is k n out h f e =
     let all : k ≡ 16 = omega (arith, f .0, few 16 16 16 n k (lit≤ tt) (lit≤ tt) h f) in
     e ∙ ap (λ (i : ℕ). digits 16 i n) all
+
+-- ---- examples
+
+none : decimalOf 0 ≡ bytes "0"
+unfolding decimalOf
+none = refl
+
+job : decimalOf 41 ≡ bytes "41"
+unfolding decimalOf
+job = refl
+
+most : decimalOf 18446744073709551615 ≡ bytes "18446744073709551615"
+unfolding decimalOf
+most = refl
+
+rapid : hexOf 0x4038_0000_0000_0000 ≡ bytes "4038000000000000"
+unfolding hexOf
+rapid = refl

@@ -1,8 +1,8 @@
 // A card's list as a text: the stops of its tour, one to a line, or the one line of a refusal; and that text on standard output.
 ghost use mathlib.Core.Path.{_≡_};
 ghost use mathlib.Core.List.{_++_};
-ghost use Prim.Native.Nat.{_-_, min};
-ghost use lib.ListN.{length};
+ghost use Prim.Native.Nat.{_-_, _≤_, min};
+ghost use lib.ListN.{length, take};
 ghost use Rattle.answer.specs.declared.Check.the-variants.{Fine};
 ghost use Rattle.card.specs.Verdict.{checkOf};
 ghost use Rattle.instance.specs.Gather.{wayOf};
@@ -10,6 +10,7 @@ ghost use Rattle.instance.specs.Room.{instanceOf};
 ghost use Rattle.list.specs.Page.{paged, putByte, put, over};
 ghost use Rattle.list.specs.Text.{decimalOf, hexOf};
 ghost use Rattle.list.specs.Lines.{headLine, wayWord, nameWords, placeLine, stopLines, outcomeLines, tourLines, refusalLine, listOf, placeIn};
+ghost use Rattle.list.specs.Fits.{longest};
 use answer::CutDirection;
 use answer::Refusal;
 use closure::CONTOURS;
@@ -20,7 +21,7 @@ use table::ENTRIES;
 use tour::Place;
 use tour::Toured;
 
-// No list is longer (proofs/Fits.antt).
+// No list is longer.
 const LONGEST: usize = 1280;
 
 // ---- a page
@@ -215,9 +216,18 @@ pub fn write_list(card: &[u8], page: &mut [u8]) -> usize
     }
 }
 
-// The list of a card, given as any bytes, on standard output.
+// The same on a page that is long enough for every list: the whole list.
+fn write_whole(card: &[u8], page: &mut [u8]) -> usize
+    requires { ⌜ longest ≤ length (now page) ⌝ }
+    ensures { λ r. ⌜ take r (now (page .exit)) ≡ listOf (now (card .entry)) ⌝ }
+    ensures { λ r. ⌜ r ≡ length (listOf (now (card .entry))) ⌝ }
+{
+    write_list(card, page)
+}
+
+// The list of a card, given as any bytes, on standard output, in one write.
 pub fn show_card(card: &[u8]) {
     let mut page = [0u8; LONGEST];
-    let n = write_list(card, &mut page);
+    let n = write_whole(card, &mut page);
     io::write_all(STDOUT_FILENO, &page[..n]);
 }
