@@ -225,7 +225,7 @@ fn write_whole(card: &[u8], page: &mut [u8]) -> usize
     write_list(card, page)
 }
 
-// The list of a card, given as any bytes, on standard output, in one write.
+// The list of a card, given as any bytes, on standard output.
 pub fn show_card(card: &[u8]) {
     let mut page = [0u8; LONGEST];
     let n = write_whole(card, &mut page);
