@@ -1,4 +1,16 @@
-// A card's list on standard output: the stops of its tour, one to a line, or the one line of a refusal.
+// A card's list as a text: the stops of its tour, one to a line, or the one line of a refusal; and that text on standard output.
+ghost use mathlib.Core.Path.{_≡_};
+ghost use mathlib.Core.List.{_++_};
+ghost use Prim.Native.Nat.{_-_, _≤_, min};
+ghost use lib.ListN.{length, take};
+ghost use Rattle.answer.specs.declared.Check.the-variants.{Fine};
+ghost use Rattle.card.specs.Verdict.{checkOf};
+ghost use Rattle.instance.specs.Gather.{wayOf};
+ghost use Rattle.instance.specs.Room.{instanceOf};
+ghost use Rattle.list.specs.Page.{paged, putByte, put, over};
+ghost use Rattle.list.specs.Text.{decimalOf, hexOf};
+ghost use Rattle.list.specs.Lines.{headLine, wayWord, nameWords, placeLine, stopLines, outcomeLines, tourLines, refusalLine, listOf, placeIn};
+ghost use Rattle.list.specs.Fits.{longest};
 use answer::CutDirection;
 use answer::Refusal;
 use closure::CONTOURS;
@@ -6,86 +18,216 @@ use instance::Instance;
 use libc::STDOUT_FILENO;
 use solve::Outcome;
 use table::ENTRIES;
+use tour::Place;
 use tour::Toured;
 
+// No list is longer.
+const LONGEST: usize = 1280;
+
+// ---- a page
+
+// A byte at a place of the page, if there is room. The answer is the place after it.
+fn put_byte(page: &mut [u8], at: usize, b: u8) -> usize
+    ensures { λ r. ⌜ paged r (now (page .exit)) ≡ putByte b (paged at (now (page .entry))) ⌝ }
+{
+    if at < page.len() {
+        page[at] = b;
+        return at + 1;
+    }
+    at
+}
+
+// A text from a place of the page on, as far as there is room.
+fn put(page: &mut [u8], at: usize, text: &[u8]) -> usize
+    ensures { λ r. ⌜ paged r (now (page .exit)) ≡ put (now (text .entry)) (paged at (now (page .entry))) ⌝ }
+{
+    let mut next = at;
+    let mut i = 0;
+    while i < text.len() {
+        next = put_byte(page, next, text[i]);
+        i += 1;
+    }
+    next
+}
+
+// A number in decimal.
+fn put_decimal(page: &mut [u8], at: usize, n: u64) -> usize
+    ensures { λ r. ⌜ paged r (now (page .exit)) ≡ put (decimalOf n) (paged at (now (page .entry))) ⌝ }
+{
+    let mut digits = [0u8; 20];
+    let k = io::decimal(n, &mut digits);
+    put(page, at, &digits[..k])
+}
+
+// A number in hexadecimal, all 16 digits.
+fn put_hex(page: &mut [u8], at: usize, n: u64) -> usize
+    ensures { λ r. ⌜ paged r (now (page .exit)) ≡ put (hexOf n) (paged at (now (page .entry))) ⌝ }
+{
+    let mut digits = [0u8; 16];
+    let k = io::hex(n, 16, &mut digits);
+    put(page, at, &digits[..k])
+}
+
 // A text, and a number after it.
-fn show(text: &[u8], number: u64) {
-    io::write_all(STDOUT_FILENO, text);
-    io::print_decimal(STDOUT_FILENO, number);
+fn put_number(page: &mut [u8], at: usize, text: &[u8], n: u64) -> usize
+    ensures { λ r. ⌜ paged r (now (page .exit)) ≡ put (now (text .entry) ++ decimalOf n) (paged at (now (page .entry))) ⌝ }
+{
+    let next = put(page, at, text);
+    put_decimal(page, next, n)
 }
 
-// How far one number is above another.
-fn above(a: u8, from: u8) -> u64 {
-    if a < from {
-        return 0;
-    }
-    (a - from) as u64
+// ---- the lines
+
+// Which job it is, and how many contours it has, at the front of the page.
+fn put_head(card: &[u8], page: &mut [u8]) -> usize
+    ensures { λ r. ⌜ paged r (now (page .exit)) ≡ put (headLine (now (card .entry))) (paged 0 (now (page .entry))) ⌝ }
+{
+    let job = put_number(page, 0, b"JOB ", fields::job(card) as u64);
+    let count = put_number(page, job, b" CONTOURS ", fields::contours(card) as u64);
+    put(page, count, b"\n")
 }
 
-// The end of a stop's line.
-fn show_direction(direction: CutDirection) {
-    match direction {
-        CutDirection::Ccw => {
-            io::write_all(STDOUT_FILENO, b" ccw\n");
-        }
-        CutDirection::Cw => {
-            io::write_all(STDOUT_FILENO, b" cw\n");
-        }
-    }
-}
-
-// A stop: the contour's id and tag, the candidate's number within it, and which way round it is cut.
-fn show_stop(card: &[u8], all: Instance, a: u8) {
-    let owner = all.owner;
-    let first = all.first;
-    let contour = table::byte_at(&owner, a as usize);
-    let k = contour as usize;
-    let from = table::byte_at(&first, k);
-    show(b"", fields::id(card, k) as u64);
-    show(b" ", fields::tag(card, k) as u64);
-    show(b" ", above(a, from));
+// Which way round contour k is cut.
+fn way(card: &[u8], k: usize) -> CutDirection
+    ensures { λ r. ⌜ r ≡ wayOf (now (card .entry)) k ⌝ }
+{
     let kind = fields::contour_type(card, k);
     let exterior = fields::exterior(card);
     let interior = fields::interior(card);
-    show_direction(candidates::determine_direction(kind, exterior, interior));
+    candidates::determine_direction(kind, exterior, interior)
 }
 
-// All stops, in the order in which they are cut.
-fn show_stops(card: &[u8], all: Instance, room: &[u8], n: usize) {
-    let mut p = 0;
-    while p < n {
-        show_stop(card, all, table::byte_at(room, p));
-        p += 1;
+// The end of a stop's line.
+fn put_way(page: &mut [u8], at: usize, direction: CutDirection) -> usize
+    ensures { λ r. ⌜ paged r (now (page .exit)) ≡ put (wayWord direction) (paged at (now (page .entry))) ⌝ }
+{
+    match direction {
+        CutDirection::Ccw => put(page, at, b" ccw\n"),
+        CutDirection::Cw => put(page, at, b" cw\n"),
     }
 }
 
-// The list of a tour.
-fn show_tour(card: &[u8], room: &[u8], o: Outcome) {
+// Contour k's id and tag.
+fn put_name(card: &[u8], k: usize, page: &mut [u8], at: usize) -> usize
+    ensures { λ r. ⌜ paged r (now (page .exit)) ≡ put (nameWords (now (card .entry)) k) (paged at (now (page .entry))) ⌝ }
+{
+    let id = fields::id(card, k) as u64;
+    let tag = fields::tag(card, k) as u64;
+    let next = put_decimal(page, at, id);
+    put_number(page, next, b" ", tag)
+}
+
+// A stop: the contour's id and tag, the candidate's number within it, and which way round it is cut.
+fn put_place(card: &[u8], p: Place, page: &mut [u8], at: usize) -> usize
+    ensures { λ r. ⌜ paged r (now (page .exit)) ≡ put (placeLine (now (card .entry)) p) (paged at (now (page .entry))) ⌝ }
+{
+    let k = p.contour;
+    let name = put_name(card, k, page, at);
+    let number = put_number(page, name, b" ", p.within as u64);
+    put_way(page, number, way(card, k))
+}
+
+// How far one number is above another.
+fn above(a: u8, from: u8) -> usize
+    ensures { λ r. ⌜ r ≡ a - from ⌝ }
+{
+    if a < from {
+        return 0;
+    }
+    (a - from) as usize
+}
+
+// Where candidate a is, read from what was gathered.
+fn place(all: Instance, a: u8) -> Place
+    ensures { λ r. ⌜ r ≡ placeIn all a ⌝ }
+{
+    let owner = all.owner;
+    let first = all.first;
+    let k = table::byte_at(&owner, a as usize) as usize;
+    Place {
+        contour: k,
+        within: above(a, table::byte_at(&first, k)),
+    }
+}
+
+// All stops of a tour, in the order in which they are cut.
+fn put_stops(card: &[u8], all: Instance, tour: &[u8], page: &mut [u8], at: usize) -> usize
+    requires { ⌜ checkOf (now card) ≡ Fine ⌝ }
+    requires { ⌜ all ≡ instanceOf (now card) ⌝ }
+    ensures { λ r. ⌜ paged r (now (page .exit)) ≡ put (stopLines (now (card .entry)) (now (tour .entry))) (paged at (now (page .entry))) ⌝ }
+{
+    let mut next = at;
+    let mut p = 0;
+    while p < tour.len() {
+        next = put_place(card, place(all, tour[p]), page, next);
+        p += 1;
+    }
+    next
+}
+
+// The trials, and the bits of the length.
+fn put_outcome(o: Outcome, page: &mut [u8], at: usize) -> usize
+    ensures { λ r. ⌜ paged r (now (page .exit)) ≡ put (outcomeLines o) (paged at (now (page .entry))) ⌝ }
+{
+    let moves = put_number(page, at, b"MOVES ", o.moves);
+    let rapid = put(page, moves, b"\nRAPID ");
+    let length = put_hex(page, rapid, tour::bits_of(o.length));
+    put(page, length, b"\n")
+}
+
+// The list of a tour, at the front of the page.
+fn put_tour(card: &[u8], tour: &[u8], o: Outcome, page: &mut [u8]) -> usize
+    requires { ⌜ checkOf (now card) ≡ Fine ⌝ }
+    ensures { λ r. ⌜ paged r (now (page .exit)) ≡ put (tourLines (now (card .entry)) (now (tour .entry)) o) (paged 0 (now (page .entry))) ⌝ }
+{
     let all = instance::gather(card);
-    let n = all.contours;
-    show(b"JOB ", fields::job(card) as u64);
-    show(b" CONTOURS ", n as u64);
-    io::write_all(STDOUT_FILENO, b"\n");
-    show_stops(card, all, room, n);
-    show(b"MOVES ", o.moves);
-    io::write_all(STDOUT_FILENO, b"\nRAPID ");
-    io::print_hex(STDOUT_FILENO, tour::bits_of(o.length), 16);
-    io::write_all(STDOUT_FILENO, b"\n");
+    let head = put_head(card, page);
+    let stops = put_stops(card, all, tour, page, head);
+    put_outcome(o, page, stops)
 }
 
-// The one line of a refusal.
-fn show_refusal(r: Refusal) {
-    show(b"REFUSED ", r.number as u64);
-    show(b" AT ", r.place as u64);
-    io::write_all(STDOUT_FILENO, b"\n");
+// The one line of a refusal, at the front of the page.
+fn put_refusal(r: Refusal, page: &mut [u8]) -> usize
+    ensures { λ n. ⌜ paged n (now (page .exit)) ≡ put (refusalLine r) (paged 0 (now (page .entry))) ⌝ }
+{
+    let number = r.number as u64;
+    let place = r.place as u64;
+    let next = put_number(page, 0, b"REFUSED ", number);
+    let end = put_number(page, next, b" AT ", place);
+    put(page, end, b"\n")
 }
 
-// Writes the list of a card, given as any bytes.
-pub fn show_card(card: &[u8]) {
+// ---- the list
+
+// Writes the list of a card, given as any bytes, to the front of a page, as far as it reaches, and answers how many bytes that are. The
+// page's rest is kept.
+pub fn write_list(card: &[u8], page: &mut [u8]) -> usize
+    ensures { λ r. ⌜ now (page .exit) ≡ over (listOf (now (card .entry))) (now (page .entry)) ⌝ }
+    ensures { λ r. ⌜ r ≡ min (length (listOf (now (card .entry)))) (length (now (page .entry))) ⌝ }
+{
     let mut room = [0u8; CONTOURS];
     let mut distances = [0.0; ENTRIES];
     match tour::tour(card, &mut room, &mut distances) {
-        Toured::Refused(r) => show_refusal(r),
-        Toured::Done(o) => show_tour(card, &room, o),
+        Toured::Refused(r) => put_refusal(r, page),
+        Toured::Done(o) => {
+            let n = fields::contours(card);
+            put_tour(card, &room[..n], o, page)
+        }
     }
+}
+
+// The same on a page that is long enough for every list: the whole list.
+fn write_whole(card: &[u8], page: &mut [u8]) -> usize
+    requires { ⌜ longest ≤ length (now page) ⌝ }
+    ensures { λ r. ⌜ take r (now (page .exit)) ≡ listOf (now (card .entry)) ⌝ }
+    ensures { λ r. ⌜ r ≡ length (listOf (now (card .entry))) ⌝ }
+{
+    write_list(card, page)
+}
+
+// The list of a card, given as any bytes, on standard output.
+pub fn show_card(card: &[u8]) {
+    let mut page = [0u8; LONGEST];
+    let n = write_whole(card, &mut page);
+    io::write_all(STDOUT_FILENO, &page[..n]);
 }

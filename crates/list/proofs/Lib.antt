@@ -1,0 +1,5 @@
+pub mod PageLaws
+pub mod TextLaws
+pub mod LineLaws
+pub mod DoorLaws
+pub mod Fits

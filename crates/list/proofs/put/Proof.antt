@@ -1,0 +1,59 @@
+-- `list::put` meets its contract. The loop's invariant: the bytes passed have been put. Assumes nothing.
+use mathlib.Core.Path.{_≡_, refl}
+use Prim.Native.Nat.{_≤_, _-_}
+use native.Mathlib.Omega.{arith}
+use lib.ListN.{length, take}
+use Rattle.list.specs.Page.{paged, put}
+use Rattle.list.proofs.PageLaws.{byte-more, all-passed}
+use Rattle.list.proofs.put.Statement.{statement}
+use Rattle.list.proofs.put.Tie as tie
+
+abbrev Inv-loop : tie.InvT-loop
+Inv-loop page₀ at text next₀ i₀ page next i = (i ≤ length text) × (length page ≡ length page₀) × (paged next page ≡ put (take i text) (paged at page₀))
+
+abbrev μ-loop : tie.MeasureT-loop
+μ-loop page₀ at text next₀ i₀ page next i = length text - i
+
+loop-holds : tie.Need-loop-holds Inv-loop μ-loop
+unfolding put
+loop-holds c = (omega arith, refl, refl)
+
+shared-slice-read-put-byte : tie.Need-shared-slice-read-put-byte Inv-loop μ-loop
+shared-slice-read-put-byte c = omega arith
+
+put-byte-requires : tie.Need-put-byte-requires Inv-loop μ-loop
+put-byte-requires c κs = tt
+
+add-i : tie.Need-add-i Inv-loop μ-loop
+add-i c = omega arith
+
+loop-less : tie.Need-loop-less Inv-loop μ-loop
+loop-less c = omega arith
+
+loop-again : tie.Need-loop-again Inv-loop μ-loop
+loop-again c = (
+  omega arith,
+  omega arith,
+  byte-more _ _ _ _ _ (c .before .before .before .before .before .loop-test .taken) (c .before .before .before .before .before .before .loop .inv .2) (c .before .before .put-byte .ensures),
+)
+
+same-length : tie.Need-same-length Inv-loop μ-loop
+same-length c = c .before .loop .inv .1
+
+returns : tie.Need-returns Inv-loop μ-loop
+returns c = all-passed _ _ _ _ (c .before .loop .inv .2) (c .loop-test .left)
+
+pub put-spec : {M : Type 1} → statement M
+put-spec =
+    tie.close
+    (tie.spec
+    Inv-loop
+    μ-loop
+    loop-holds
+    shared-slice-read-put-byte
+    put-byte-requires
+    add-i
+    loop-less
+    loop-again
+    same-length
+    returns)

@@ -1,0 +1,37 @@
+-- `list::put_decimal` meets its contract. Assumes nothing.
+use Rattle.list.proofs.PageLaws.{put-same}
+use Rattle.list.proofs.TextLaws.{decimal-is}
+use borrow.Author.Needs.{needs}
+use Rattle.list.proofs.put_decimal.Statement.{statement}
+use Rattle.list.proofs.put_decimal.Tie as tie
+
+decimal-requires : tie.Need-decimal-requires
+decimal-requires c κs = search needs
+
+array-share-prefix-digits : tie.Need-array-share-prefix-digits
+array-share-prefix-digits c = search needs
+
+slice-aggregate-put : tie.Need-slice-aggregate-put
+slice-aggregate-put c = search needs
+
+put-requires : tie.Need-put-requires
+put-requires c κs = search needs
+
+same-length : tie.Need-same-length
+same-length c = search needs
+
+returns : tie.Need-returns
+returns c =
+    let d = c .before .before .before .before .before .decimal .ensures in
+    put-same _ _ _ _ (c .before .before .put .ensures) (decimal-is _ _ _ (search needs) (d .1 .0) (d .1 .1))
+
+pub put-decimal-spec : {M : Type 1} → statement M
+put-decimal-spec =
+    tie.close
+    (tie.spec
+    decimal-requires
+    array-share-prefix-digits
+    slice-aggregate-put
+    put-requires
+    same-length
+    returns)

@@ -1,0 +1,37 @@
+-- `list::put_hex` meets its contract. Assumes nothing.
+use Rattle.list.proofs.PageLaws.{put-same}
+use Rattle.list.proofs.TextLaws.{hex-is}
+use borrow.Author.Needs.{needs}
+use Rattle.list.proofs.put_hex.Statement.{statement}
+use Rattle.list.proofs.put_hex.Tie as tie
+
+hex-requires : tie.Need-hex-requires
+hex-requires c κs = search needs
+
+array-share-prefix-digits : tie.Need-array-share-prefix-digits
+array-share-prefix-digits c = search needs
+
+slice-aggregate-put : tie.Need-slice-aggregate-put
+slice-aggregate-put c = search needs
+
+put-requires : tie.Need-put-requires
+put-requires c κs = search needs
+
+same-length : tie.Need-same-length
+same-length c = search needs
+
+returns : tie.Need-returns
+returns c =
+    let d = c .before .before .before .before .before .hex .ensures in
+    put-same _ _ _ _ (c .before .before .put .ensures) (hex-is _ _ _ (search needs) (d .1 .0) (d .1 .1))
+
+pub put-hex-spec : {M : Type 1} → statement M
+put-hex-spec =
+    tie.close
+    (tie.spec
+    hex-requires
+    array-share-prefix-digits
+    slice-aggregate-put
+    put-requires
+    same-length
+    returns)

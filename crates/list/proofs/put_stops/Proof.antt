@@ -1,0 +1,65 @@
+-- `list::put_stops` meets its contract. The loop's invariant: the lines of the stops passed have been put. Assumes nothing.
+use mathlib.Core.Path.{_≡_, refl}
+use Prim.Native.Nat.{_≤_, _-_}
+use native.Mathlib.Omega.{arith}
+use lib.ListN.{length, take}
+use Rattle.list.specs.Page.{paged, put}
+use Rattle.list.specs.Lines.{stopLines}
+use Rattle.list.proofs.LineLaws.{stop-more, all-stops}
+use Rattle.list.proofs.put_stops.Statement.{statement}
+use Rattle.list.proofs.put_stops.Tie as tie
+
+abbrev Inv-loop : tie.InvT-loop
+Inv-loop card all tour page₀ at next₀ p₀ page next p =
+    (p ≤ length tour) × (length page ≡ length page₀) × (paged next page ≡ put (stopLines card (take p tour)) (paged at page₀))
+
+abbrev μ-loop : tie.MeasureT-loop
+μ-loop card all tour page₀ at next₀ p₀ page next p = length tour - p
+
+loop-holds : tie.Need-loop-holds Inv-loop μ-loop
+unfolding put stopLines
+loop-holds c = (omega arith, refl, refl)
+
+shared-slice-read-place : tie.Need-shared-slice-read-place Inv-loop μ-loop
+shared-slice-read-place c = omega arith
+
+place-requires : tie.Need-place-requires Inv-loop μ-loop
+place-requires c κs = tt
+
+put-place-requires : tie.Need-put-place-requires Inv-loop μ-loop
+put-place-requires c κs = tt
+
+add-p : tie.Need-add-p Inv-loop μ-loop
+add-p c = omega arith
+
+loop-less : tie.Need-loop-less Inv-loop μ-loop
+loop-less c = omega arith
+
+loop-again : tie.Need-loop-again Inv-loop μ-loop
+loop-again c = (
+  omega arith,
+  omega arith,
+  stop-more _ (c .before .before .before .before .before .before .before .before .before .before .before .pre .0) _ (c .before .before .before .before .before .before .before .before .before .before .before .pre .1) _ _ _ _ _ _ (c .before .before .before .before .before .before .loop-test .taken) (c .before .before .before .before .place .ensures) (c .before .before .before .before .before .before .before .loop .inv .2) (c .before .before .put-place .ensures),
+)
+
+same-length : tie.Need-same-length Inv-loop μ-loop
+same-length c = c .before .loop .inv .1
+
+returns : tie.Need-returns Inv-loop μ-loop
+returns c = all-stops _ _ _ _ _ (c .before .loop .inv .2) (c .loop-test .left)
+
+pub put-stops-spec : {M : Type 1} → statement M
+put-stops-spec =
+    tie.close
+    (tie.spec
+    Inv-loop
+    μ-loop
+    loop-holds
+    shared-slice-read-place
+    place-requires
+    put-place-requires
+    add-p
+    loop-less
+    loop-again
+    same-length
+    returns)

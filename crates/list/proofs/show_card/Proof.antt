@@ -1,0 +1,35 @@
+-- `list::show_card` meets its contract. Assumes nothing.
+use mathlib.Core.Path.{sym}
+use Rattle.tour.proofs.RunLaws.{lent-whole, lent-within}
+use borrow.Author.Needs.{needs}
+use Rattle.list.proofs.show_card.Statement.{statement}
+use Rattle.list.proofs.show_card.Tie as tie
+
+slice-aggregate-write-whole : tie.Need-slice-aggregate-write-whole
+slice-aggregate-write-whole c = search needs
+
+write-whole-requires : tie.Need-write-whole-requires
+write-whole-requires c κs = search needs
+
+array-share-prefix-page : tie.Need-array-share-prefix-page
+array-share-prefix-page c = lent-within _ _ _ (c .before .write-whole .ensures .0) (sym (c .before .write-whole .ensures .1))
+
+slice-aggregate-write-all : tie.Need-slice-aggregate-write-all
+slice-aggregate-write-all c = lent-whole _ _ _ (c .before .before .write-whole .ensures .0) (sym (c .before .before .write-whole .ensures .1))
+
+write-all-requires : tie.Need-write-all-requires
+write-all-requires c κs = search needs
+
+returns : tie.Need-returns
+returns c = search needs
+
+pub show-card-spec : {M : Type 1} → statement M
+show-card-spec =
+    tie.close
+    (tie.spec
+    slice-aggregate-write-whole
+    write-whole-requires
+    array-share-prefix-page
+    slice-aggregate-write-all
+    write-all-requires
+    returns)

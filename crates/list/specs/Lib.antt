@@ -1,0 +1,4 @@
+pub mod Page
+pub mod Text
+pub mod Lines
+pub mod Fits
