@@ -3,3 +3,4 @@ pub mod TextLaws
 pub mod LineLaws
 pub mod DoorLaws
 pub mod Fits
+pub mod Unique

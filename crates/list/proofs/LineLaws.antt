@@ -15,6 +15,8 @@ use Rattle.answer.specs.declared.Refusal.{Refusal}
 use Rattle.candidates.specs.Direction.{directionOf}
 use Rattle.fields.specs.Layout.{jobOf, contoursOf, idOf, tagOf, typeOf, exteriorOf, interiorOf}
 use Rattle.fields.specs.Values.{asType, asPreference}
+use Rattle.reader.specs.declared.Head.{Head}
+use Rattle.reader.specs.OnCard.{headOf}
 use Rattle.card.specs.Verdict.{checkOf}
 use Rattle.instance.specs.declared.Instance.{Instance}
 use Rattle.instance.specs.Gather.{wayOf}
@@ -28,10 +30,13 @@ use Rattle.list.specs.Text.{bytes, decimalOf, hexOf}
 use Rattle.list.specs.Lines.{headLine, wayWord, nameWords, placeLine, stopLine, stopLines, outcomeLines, tourLines, refusalLine, placeIn}
 use Rattle.list.proofs.PageLaws.{put-then, put-same}
 
-pub head-put : (s : List ℕ) (job n : ℕ) (p q r t : Page) → job ≡ jobOf s → n ≡ contoursOf s → q ≡ put (bytes "JOB " ++ decimalOf job) p → r ≡ put (bytes " CONTOURS " ++ decimalOf n) q → t ≡ put (bytes "\n") r
+pub head-put : (s : List ℕ) (h : Head) (p q r t : Page) → h ≡ headOf s → q ≡ put (bytes "JOB " ++ decimalOf (h .job)) p → r ≡ put (bytes " CONTOURS " ++ decimalOf (h .contours)) q → t ≡ put (bytes "\n") r
     → t ≡ put (headLine s) p
-unfolding headLine
-head-put s job n p q r t j c e f g = rw (← j, ← c) (put-then _ _ p r t (put-then _ _ p q r e f) g)
+unfolding headLine headOf
+head-put s h p q r t a e f g =
+    let j : h .job ≡ jobOf s = ap (λ (x : Head). x .job) a in
+    let n : h .contours ≡ contoursOf s = ap (λ (x : Head). x .contours) a in
+    rw (← j, ← n) (put-then _ _ p r t (put-then _ _ p q r e f) g)
 
 pub way-is : (s : List ℕ) (k : ℕ) (kind : ContourType) (exterior interior : CutDirectionPreference) (r : CutDirection) → kind ≡ asType (typeOf s k) → exterior ≡ asPreference (exteriorOf s) → interior ≡ asPreference (interiorOf s)
     → r ≡ directionOf kind exterior interior → r ≡ wayOf s k

@@ -82,8 +82,9 @@ fn put_number(page: &mut [u8], at: usize, text: &[u8], n: u64) -> usize
 fn put_head(card: &[u8], page: &mut [u8]) -> usize
     ensures { λ r. ⌜ paged r (now (page .exit)) ≡ put (headLine (now (card .entry))) (paged 0 (now (page .entry))) ⌝ }
 {
-    let job = put_number(page, 0, b"JOB ", fields::job(card) as u64);
-    let count = put_number(page, job, b" CONTOURS ", fields::contours(card) as u64);
+    let head = reader::read_head(card);
+    let job = put_number(page, 0, b"JOB ", head.job);
+    let count = put_number(page, job, b" CONTOURS ", head.contours);
     put(page, count, b"\n")
 }
 

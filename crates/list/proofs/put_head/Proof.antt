@@ -4,23 +4,17 @@ use borrow.Author.Needs.{needs}
 use Rattle.list.proofs.put_head.Statement.{statement}
 use Rattle.list.proofs.put_head.Tie as tie
 
+read-head-requires : tie.Need-read-head-requires
+read-head-requires c κs = search needs
+
 slice-aggregate-put-number : tie.Need-slice-aggregate-put-number
 slice-aggregate-put-number c = search needs
-
-job-requires : tie.Need-job-requires
-job-requires c κs = search needs
-
-cast-put-number : tie.Need-cast-put-number
-cast-put-number c = search needs
 
 put-number-requires : tie.Need-put-number-requires
 put-number-requires c κs = search needs
 
 slice-aggregate-put-number-2 : tie.Need-slice-aggregate-put-number-2
 slice-aggregate-put-number-2 c = search needs
-
-contours-requires : tie.Need-contours-requires
-contours-requires c κs = search needs
 
 put-number-requires-2 : tie.Need-put-number-requires-2
 put-number-requires-2 c κs = search needs
@@ -35,18 +29,16 @@ same-length : tie.Need-same-length
 same-length c = search needs
 
 returns : tie.Need-returns
-returns c = head-put _ _ _ _ _ _ _ (c .before .before .before .before .before .before .before .before .before .before .before .before .before .before .job .ensures) (c .before .before .before .before .before .before .before .before .contours .ensures) (c .before .before .before .before .before .before .before .before .before .before .before .before .before .put-number .ensures) (c .before .before .before .before .before .before .before .put-number2 .ensures) (c .before .before .put .ensures)
+returns c = head-put _ _ _ _ _ _ (c .before .before .before .before .before .before .before .before .before .before .before .before .before .before .before .read-head .ensures) (c .before .before .before .before .before .before .before .before .before .before .before .before .put-number .ensures) (c .before .before .before .before .before .before .before .put-number2 .ensures) (c .before .before .put .ensures)
 
 pub put-head-spec : {M : Type 1} → statement M
 put-head-spec =
     tie.close
     (tie.spec
+    read-head-requires
     slice-aggregate-put-number
-    job-requires
-    cast-put-number
     put-number-requires
     slice-aggregate-put-number-2
-    contours-requires
     put-number-requires-2
     slice-aggregate-put
     put-requires
