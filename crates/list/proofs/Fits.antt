@@ -28,8 +28,8 @@ use Rattle.tour.specs.Search.{countOn, tourOn, outcomeOn}
 use Rattle.tour.specs.Questions.{placeOn}
 use Rattle.demands.proofs.BelowLaws.{AllBelow}
 use Rattle.demands.proofs.TourLaws.{tour-long, tour-among}
-use Rattle.list.specs.Page.{over}
-use Rattle.list.specs.Text.{bytes, decimalIn, decimalOf, hexOf}
+use Rattle.text.specs.Page.{over}
+use Rattle.text.specs.Text.{bytes, decimalIn, decimalOf, hexOf}
 use Rattle.list.specs.Lines.{headLine, wayWord, nameWords, placeLine, stopLine, stopLines, outcomeLines, tourLines, refusalLine, listUnless, listOf}
 use Rattle.list.specs.Fits.{OfBytes, longest, Fits, Whole}
 

@@ -1,5 +1,3 @@
-pub mod PageLaws
-pub mod TextLaws
 pub mod LineLaws
 pub mod DoorLaws
 pub mod Fits

@@ -25,10 +25,10 @@ use Rattle.instance.proofs.FineLaws.{instance-is}
 use Rattle.solve.specs.declared.Outcome.{Outcome}
 use Rattle.tour.specs.declared.Place.{Place}
 use Rattle.tour.specs.Questions.{placeOn}
-use Rattle.list.specs.Page.{Page, put}
-use Rattle.list.specs.Text.{bytes, decimalOf, hexOf}
+use Rattle.text.specs.Page.{Page, put}
+use Rattle.text.specs.Text.{bytes, decimalOf, hexOf}
 use Rattle.list.specs.Lines.{headLine, wayWord, nameWords, placeLine, stopLine, stopLines, outcomeLines, tourLines, refusalLine, placeIn}
-use Rattle.list.proofs.PageLaws.{put-then, put-same}
+use Rattle.text.proofs.PageLaws.{put-then, put-same}
 
 pub head-put : (s : List ℕ) (h : Head) (p q r t : Page) → h ≡ headOf s → q ≡ put (bytes "JOB " ++ decimalOf (h .job)) p → r ≡ put (bytes " CONTOURS " ++ decimalOf (h .contours)) q → t ≡ put (bytes "\n") r
     → t ≡ put (headLine s) p

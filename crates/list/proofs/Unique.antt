@@ -1,6 +1,9 @@
--- The promise of `write_list` leaves one answer: both equal the definition. Assumes nothing.
+-- Each promise leaves one answer: both equal the definition. Assumes nothing.
 use mathlib.Core.Path.{_≡_, sym, _∙_}
 use Rattle.list.specs.Unique.{Unique}
 
 pub unique : Unique
-unique s page x y p q i = ((p .0 ∙ sym (q .0)) i, (p .1 ∙ sym (q .1)) i)
+unique = record {
+  write-list = λ s page x y p q i. ((p .0 ∙ sym (q .0)) i, (p .1 ∙ sym (q .1)) i);
+  put = λ text page at x y p q i. ((p ∙ sym q) i .at, (p ∙ sym q) i .held);
+}

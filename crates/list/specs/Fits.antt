@@ -3,7 +3,7 @@ use mathlib.Core.Path.{_≡_}
 use mathlib.Core.List.{List}
 use Prim.Native.Nat.{ℕ, _≤_, _<_, min}
 use lib.ListN.{length, getD, take}
-use Rattle.list.specs.Page.{over}
+use Rattle.text.specs.Page.{over}
 use Rattle.list.specs.Lines.{listOf}
 
 -- every number of a list is a byte's, as those of a slice of bytes are

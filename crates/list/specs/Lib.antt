@@ -1,5 +1,3 @@
-pub mod Page
-pub mod Text
 pub mod Lines
 pub mod Fits
 pub mod Unique

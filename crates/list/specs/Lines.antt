@@ -16,7 +16,7 @@ use Rattle.solve.specs.declared.Outcome.{Outcome}
 use Rattle.tour.specs.declared.Place.{Place}
 use Rattle.tour.specs.Search.{tourOn, outcomeOn}
 use Rattle.tour.specs.Questions.{placeOn}
-use Rattle.list.specs.Text.{bytes, decimalOf, hexOf}
+use Rattle.text.specs.Text.{bytes, decimalOf, hexOf}
 
 -- which job it is, and how many contours it has
 unfoldable pub headLine : List ℕ → List ℕ

@@ -1,11 +1,14 @@
--- Two answers of `write_list` that meet its promise are equal: the count, and the page afterwards. Assumes nothing.
+-- Two answers of a function of `list` or `text` that meet its promise are equal: what is told, and the page afterwards. Assumes nothing.
 use mathlib.Core.Path.{_≡_}
 use mathlib.Core.List.{List}
 use Prim.Native.Nat.{ℕ, min}
 use lib.ListN.{length}
 use Rattle.demands.specs.Unique.{OneAnswer}
-use Rattle.list.specs.Page.{over}
+use Rattle.text.specs.Page.{paged, put, over}
 use Rattle.list.specs.Lines.{listOf}
 
-abbrev pub Unique : Type 0
-Unique = (s page : List ℕ) → OneAnswer {A = ℕ × List ℕ} (λ a. (a .0 ≡ min (length (listOf s)) (length page)) × (a .1 ≡ over (listOf s) page))
+pub record Unique : Type 0 where
+  -- `write_list`: how many bytes, and the page
+  pub write-list : (s page : List ℕ) → OneAnswer {A = ℕ × List ℕ} (λ a. (a .0 ≡ min (length (listOf s)) (length page)) × (a .1 ≡ over (listOf s) page))
+  -- `put` and all that put a text: the place after it, and the page
+  pub put : (text page : List ℕ) (at : ℕ) → OneAnswer {A = ℕ × List ℕ} (λ a. paged (a .0) (a .1) ≡ put text (paged at page))

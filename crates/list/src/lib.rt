@@ -7,8 +7,7 @@ ghost use Rattle.answer.specs.declared.Check.the-variants.{Fine};
 ghost use Rattle.card.specs.Verdict.{checkOf};
 ghost use Rattle.instance.specs.Gather.{wayOf};
 ghost use Rattle.instance.specs.Room.{instanceOf};
-ghost use Rattle.list.specs.Page.{paged, putByte, put, over};
-ghost use Rattle.list.specs.Text.{decimalOf, hexOf};
+ghost use Rattle.text.specs.Page.{paged, put, over};
 ghost use Rattle.list.specs.Lines.{headLine, wayWord, nameWords, placeLine, stopLines, outcomeLines, tourLines, refusalLine, listOf, placeIn};
 ghost use Rattle.list.specs.Fits.{longest};
 use answer::CutDirection;
@@ -24,68 +23,14 @@ use tour::Toured;
 // No list is longer.
 const LONGEST: usize = 1280;
 
-// ---- a page
-
-// A byte at a place of the page, if there is room. The answer is the place after it.
-fn put_byte(page: &mut [u8], at: usize, b: u8) -> usize
-    ensures { λ r. ⌜ paged r (now (page .exit)) ≡ putByte b (paged at (now (page .entry))) ⌝ }
-{
-    if at < page.len() {
-        page[at] = b;
-        return at + 1;
-    }
-    at
-}
-
-// A text from a place of the page on, as far as there is room.
-fn put(page: &mut [u8], at: usize, text: &[u8]) -> usize
-    ensures { λ r. ⌜ paged r (now (page .exit)) ≡ put (now (text .entry)) (paged at (now (page .entry))) ⌝ }
-{
-    let mut next = at;
-    let mut i = 0;
-    while i < text.len() {
-        next = put_byte(page, next, text[i]);
-        i += 1;
-    }
-    next
-}
-
-// A number in decimal.
-fn put_decimal(page: &mut [u8], at: usize, n: u64) -> usize
-    ensures { λ r. ⌜ paged r (now (page .exit)) ≡ put (decimalOf n) (paged at (now (page .entry))) ⌝ }
-{
-    let mut digits = [0u8; 20];
-    let k = io::decimal(n, &mut digits);
-    put(page, at, &digits[..k])
-}
-
-// A number in hexadecimal, all 16 digits.
-fn put_hex(page: &mut [u8], at: usize, n: u64) -> usize
-    ensures { λ r. ⌜ paged r (now (page .exit)) ≡ put (hexOf n) (paged at (now (page .entry))) ⌝ }
-{
-    let mut digits = [0u8; 16];
-    let k = io::hex(n, 16, &mut digits);
-    put(page, at, &digits[..k])
-}
-
-// A text, and a number after it.
-fn put_number(page: &mut [u8], at: usize, text: &[u8], n: u64) -> usize
-    ensures { λ r. ⌜ paged r (now (page .exit)) ≡ put (now (text .entry) ++ decimalOf n) (paged at (now (page .entry))) ⌝ }
-{
-    let next = put(page, at, text);
-    put_decimal(page, next, n)
-}
-
-// ---- the lines
-
 // Which job it is, and how many contours it has, at the front of the page.
 fn put_head(card: &[u8], page: &mut [u8]) -> usize
     ensures { λ r. ⌜ paged r (now (page .exit)) ≡ put (headLine (now (card .entry))) (paged 0 (now (page .entry))) ⌝ }
 {
     let head = reader::read_head(card);
-    let job = put_number(page, 0, b"JOB ", head.job);
-    let count = put_number(page, job, b" CONTOURS ", head.contours);
-    put(page, count, b"\n")
+    let job = text::put_number(page, 0, b"JOB ", head.job);
+    let count = text::put_number(page, job, b" CONTOURS ", head.contours);
+    text::put(page, count, b"\n")
 }
 
 // Which way round contour k is cut.
@@ -103,8 +48,8 @@ fn put_way(page: &mut [u8], at: usize, direction: CutDirection) -> usize
     ensures { λ r. ⌜ paged r (now (page .exit)) ≡ put (wayWord direction) (paged at (now (page .entry))) ⌝ }
 {
     match direction {
-        CutDirection::Ccw => put(page, at, b" ccw\n"),
-        CutDirection::Cw => put(page, at, b" cw\n"),
+        CutDirection::Ccw => text::put(page, at, b" ccw\n"),
+        CutDirection::Cw => text::put(page, at, b" cw\n"),
     }
 }
 
@@ -114,8 +59,8 @@ fn put_name(card: &[u8], k: usize, page: &mut [u8], at: usize) -> usize
 {
     let id = fields::id(card, k) as u64;
     let tag = fields::tag(card, k) as u64;
-    let next = put_decimal(page, at, id);
-    put_number(page, next, b" ", tag)
+    let next = text::put_decimal(page, at, id);
+    text::put_number(page, next, b" ", tag)
 }
 
 // A stop: the contour's id and tag, the candidate's number within it, and which way round it is cut.
@@ -124,7 +69,7 @@ fn put_place(card: &[u8], p: Place, page: &mut [u8], at: usize) -> usize
 {
     let k = p.contour;
     let name = put_name(card, k, page, at);
-    let number = put_number(page, name, b" ", p.within as u64);
+    let number = text::put_number(page, name, b" ", p.within as u64);
     put_way(page, number, way(card, k))
 }
 
@@ -170,10 +115,10 @@ fn put_stops(card: &[u8], all: Instance, tour: &[u8], page: &mut [u8], at: usize
 fn put_outcome(o: Outcome, page: &mut [u8], at: usize) -> usize
     ensures { λ r. ⌜ paged r (now (page .exit)) ≡ put (outcomeLines o) (paged at (now (page .entry))) ⌝ }
 {
-    let moves = put_number(page, at, b"MOVES ", o.moves);
-    let rapid = put(page, moves, b"\nRAPID ");
-    let length = put_hex(page, rapid, tour::bits_of(o.length));
-    put(page, length, b"\n")
+    let moves = text::put_number(page, at, b"MOVES ", o.moves);
+    let rapid = text::put(page, moves, b"\nRAPID ");
+    let length = text::put_hex(page, rapid, tour::bits_of(o.length));
+    text::put(page, length, b"\n")
 }
 
 // The list of a tour, at the front of the page.
@@ -193,9 +138,9 @@ fn put_refusal(r: Refusal, page: &mut [u8]) -> usize
 {
     let number = r.number as u64;
     let place = r.place as u64;
-    let next = put_number(page, 0, b"REFUSED ", number);
-    let end = put_number(page, next, b" AT ", place);
-    put(page, end, b"\n")
+    let next = text::put_number(page, 0, b"REFUSED ", number);
+    let end = text::put_number(page, next, b" AT ", place);
+    text::put(page, end, b"\n")
 }
 
 // ---- the list

@@ -3,7 +3,7 @@ use mathlib.Core.Path.{_≡_, refl}
 use Prim.Native.Nat.{_≤_, _-_}
 use native.Mathlib.Omega.{arith}
 use lib.ListN.{length, take}
-use Rattle.list.specs.Page.{paged, put}
+use Rattle.text.specs.Page.{paged, put}
 use Rattle.list.specs.Lines.{stopLines}
 use Rattle.list.proofs.LineLaws.{stop-more, all-stops}
 use Rattle.list.proofs.put_stops.Statement.{statement}

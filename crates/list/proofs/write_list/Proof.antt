@@ -5,7 +5,7 @@ use lib.ListN.{length, replicate, length-replicate}
 use lib.Ieee.{ofBits, binary64}
 use Rattle.closure.specs.Limits.{CONTOURS}
 use Rattle.table.specs.Distances.{entryLimit}
-use Rattle.list.proofs.PageLaws.{written}
+use Rattle.text.proofs.PageLaws.{written}
 use Rattle.list.proofs.DoorLaws.{refused-listed, done-fine, tour-within, tour-whole, done-listed}
 use borrow.Author.Needs.{needs}
 use Rattle.list.proofs.write_list.Statement.{statement}

@@ -1,12 +1,12 @@
--- `list::put` meets its contract. The loop's invariant: the bytes passed have been put. Assumes nothing.
+-- `text::put` meets its contract. The loop's invariant: the bytes passed have been put. Assumes nothing.
 use mathlib.Core.Path.{_≡_, refl}
 use Prim.Native.Nat.{_≤_, _-_}
 use native.Mathlib.Omega.{arith}
 use lib.ListN.{length, take}
-use Rattle.list.specs.Page.{paged, put}
-use Rattle.list.proofs.PageLaws.{byte-more, all-passed}
-use Rattle.list.proofs.put.Statement.{statement}
-use Rattle.list.proofs.put.Tie as tie
+use Rattle.text.specs.Page.{paged, put}
+use Rattle.text.proofs.PageLaws.{byte-more, all-passed}
+use Rattle.text.proofs.put.Statement.{statement}
+use Rattle.text.proofs.put.Tie as tie
 
 abbrev Inv-loop : tie.InvT-loop
 Inv-loop page₀ at text next₀ i₀ page next i = (i ≤ length text) × (length page ≡ length page₀) × (paged next page ≡ put (take i text) (paged at page₀))

@@ -9,7 +9,7 @@ use lib.Dec.{lit≤}
 use lib.ListN.{take}
 use borrow.Author.Tests.{lt-ltb, le-ltb}
 use Rattle.io.specs.Digits.{glyph, digits, Fewest}
-use Rattle.list.specs.Text.{bytes, decimalIn, decimalOf, hexOf}
+use Rattle.text.specs.Text.{bytes, decimalIn, decimalOf, hexOf}
 
 -- a number that so many digits can hold takes no more of them
 few : (base least most n k : ℕ) → 0 < base → least ≤ most → n < base ^ most → Fewest base least n k → k ≤ most

@@ -1,9 +1,9 @@
--- `list::put_decimal` meets its contract. Assumes nothing.
-use Rattle.list.proofs.PageLaws.{put-same}
-use Rattle.list.proofs.TextLaws.{decimal-is}
+-- `text::put_decimal` meets its contract. Assumes nothing.
+use Rattle.text.proofs.PageLaws.{put-same}
+use Rattle.text.proofs.TextLaws.{decimal-is}
 use borrow.Author.Needs.{needs}
-use Rattle.list.proofs.put_decimal.Statement.{statement}
-use Rattle.list.proofs.put_decimal.Tie as tie
+use Rattle.text.proofs.put_decimal.Statement.{statement}
+use Rattle.text.proofs.put_decimal.Tie as tie
 
 decimal-requires : tie.Need-decimal-requires
 decimal-requires c κs = search needs

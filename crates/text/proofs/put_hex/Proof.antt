@@ -1,9 +1,9 @@
--- `list::put_hex` meets its contract. Assumes nothing.
-use Rattle.list.proofs.PageLaws.{put-same}
-use Rattle.list.proofs.TextLaws.{hex-is}
+-- `text::put_hex` meets its contract. Assumes nothing.
+use Rattle.text.proofs.PageLaws.{put-same}
+use Rattle.text.proofs.TextLaws.{hex-is}
 use borrow.Author.Needs.{needs}
-use Rattle.list.proofs.put_hex.Statement.{statement}
-use Rattle.list.proofs.put_hex.Tie as tie
+use Rattle.text.proofs.put_hex.Statement.{statement}
+use Rattle.text.proofs.put_hex.Tie as tie
 
 hex-requires : tie.Need-hex-requires
 hex-requires c κs = search needs

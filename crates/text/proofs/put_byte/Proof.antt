@@ -1,8 +1,8 @@
--- `list::put_byte` meets its contract. Assumes nothing.
-use Rattle.list.proofs.PageLaws.{byte-put, byte-left}
+-- `text::put_byte` meets its contract. Assumes nothing.
+use Rattle.text.proofs.PageLaws.{byte-put, byte-left}
 use borrow.Author.Needs.{needs}
-use Rattle.list.proofs.put_byte.Statement.{statement}
-use Rattle.list.proofs.put_byte.Tie as tie
+use Rattle.text.proofs.put_byte.Statement.{statement}
+use Rattle.text.proofs.put_byte.Tie as tie
 
 slice-write-page : tie.Need-slice-write-page
 slice-write-page c = search needs

@@ -1,8 +1,8 @@
--- `list::put_number` meets its contract. Assumes nothing.
-use Rattle.list.proofs.PageLaws.{put-then}
+-- `text::put_number` meets its contract. Assumes nothing.
+use Rattle.text.proofs.PageLaws.{put-then}
 use borrow.Author.Needs.{needs}
-use Rattle.list.proofs.put_number.Statement.{statement}
-use Rattle.list.proofs.put_number.Tie as tie
+use Rattle.text.proofs.put_number.Statement.{statement}
+use Rattle.text.proofs.put_number.Tie as tie
 
 put-requires : tie.Need-put-requires
 put-requires c κs = search needs

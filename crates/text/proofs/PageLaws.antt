@@ -7,7 +7,7 @@ use native.Mathlib.Omega.{arith}
 use lib.ListN.{length, take, getD, set, length-append}
 use lib.Seq.{take-suc, take-all, set-at}
 use borrow.Author.Tests.{lt-ltb, le-ltb}
-use Rattle.list.specs.Page.{Page, paged, putByte, put, over}
+use Rattle.text.specs.Page.{Page, paged, putByte, put, over}
 
 -- a text and then another is both as one text
 pub put-both : (a b : List ℕ) (p : Page) → put b (put a p) ≡ put (a ++ b) p
