@@ -22,7 +22,7 @@ pub struct Coverage {
 }
 
 impl Coverage {
-    pub fn new() -> Coverage {
+    pub fn begin() -> Coverage {
         let (start, end) = (START.load(Ordering::Relaxed), END.load(Ordering::Relaxed));
         // the archives' counters live as long as the program; only this thread calls the archives
         let counters = match end - start {

@@ -148,7 +148,7 @@ fn placed(card: &crate::card::Card, candidate: u64, place: (u64, u64, u64)) -> R
 pub fn run(seed: u64, seconds: u64, failed: &std::path::Path) -> bool {
     let began = Instant::now();
     let mut memory = [LARGEST, 64, 64, 64].map(Guarded::new);
-    let (mut coverage, mut kept) = (Coverage::new(), Vec::new());
+    let (mut coverage, mut kept) = (Coverage::begin(), Vec::new());
     let (mut case, mut accepted) = (0u64, 0u64);
     println!("fuzz: seed {seed}, {seconds} s, {}", coverage.kind());
     while began.elapsed().as_secs() < seconds {

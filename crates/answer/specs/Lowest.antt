@@ -1,6 +1,6 @@
 -- The lowest place at which a test holds. Assumes nothing.
 use mathlib.Core.Bool.{Bool, true, false}
-use Prim.Native.Nat.{ℕ, zero, suc, _+_}
+use Prim.Native.Nat.{ℕ, zero, suc}
 use Rattle.answer.specs.declared.Found.{Found}
 use Rattle.answer.specs.declared.Found.the-variants.{At, Absent}
 use Rattle.answer.specs.declared.Check.{Check}

@@ -1,6 +1,6 @@
 -- A block of 512 bytes: how it starts, its check, and bytes that are all zero. `at` is where the block begins. Assumes nothing.
 use mathlib.Core.Path.{_≡_}
-use mathlib.Core.Bool.{Bool, true, false, _&&_}
+use mathlib.Core.Bool.{Bool, true, _&&_}
 use mathlib.Core.List.{List, [], _∷_}
 use Prim.Native.Nat.{ℕ, suc, _+_, _*_}
 use lib.ListN.{take, drop}

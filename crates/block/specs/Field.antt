@@ -1,6 +1,6 @@
 -- Numbers in a list of bytes, the lowest byte first. A byte past the end reads 0. Assumes nothing.
 use mathlib.Core.List.{List}
-use Prim.Native.Nat.{ℕ, _+_, _*_, _^_}
+use Prim.Native.Nat.{ℕ, _+_, _*_}
 use lib.ListN.{getD}
 use lib.Ieee.{Float, binary64, ofBits}
 

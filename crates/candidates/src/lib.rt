@@ -16,15 +16,13 @@ use answer::Found;
 use answer::Point;
 use answer::Refusal;
 use points::Ends;
+use points::TINY;
 
 // The most candidates of one contour.
 pub const MOST_CANDIDATES: usize = 8;
 
 // The most vertices of one contour.
 pub const MOST_VERTICES: usize = 30;
-
-// A length below this is none.
-const TINY: f64 = 1e-12;
 
 // A place where the beam may pierce: the point, where the beam stands after the cut, the vertex at which the point's edge
 // starts, and which way round the contour is cut.

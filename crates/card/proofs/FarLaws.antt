@@ -1,8 +1,8 @@
 -- Places of coordinates: home, then each contour one place further on; a vertex read at a place cut off at the card's end. Assumes nothing.
-use mathlib.Core.Path.{_≡_, refl, sym, ap, _∙_}
-use mathlib.Core.Bool.{Bool, true, false, _||_}
+use mathlib.Core.Path.{_≡_, sym}
+use mathlib.Core.Bool.{Bool, true, false}
 use mathlib.Core.List.{List}
-use Prim.Native.Nat.{ℕ, suc, _+_, _*_, min}
+use Prim.Native.Nat.{ℕ, _+_, min}
 use native.Mathlib.Numerals.{add-one}
 use native.Mathlib.Nat.{add-assoc}
 use lib.ListN.{length}
@@ -11,8 +11,8 @@ use Rattle.answer.specs.declared.Found.the-variants.{At, Absent}
 use Rattle.answer.proofs.LowestLaws.{Nowhere}
 use Rattle.block.specs.Field.{u64At}
 use Rattle.block.proofs.Readings.{cut-u64}
-use Rattle.fields.specs.Layout.{payload, vertexPlace, homePlace}
-use Rattle.card.specs.Stages.{isAt, tooFar, farPoint, farVertex, farPlace}
+use Rattle.fields.specs.Layout.{homePlace}
+use Rattle.card.specs.Stages.{farPoint, farVertex, farPlace}
 use Rattle.card.proofs.LoopLaws.{none-yet, one-more}
 
 pub home-near : (s : List ℕ) → farPoint s homePlace ≡ false → Nowhere (farPlace s) (0 + 1)

@@ -1,12 +1,12 @@
 -- A loop that looks for the lowest place at which a test holds: what it knows at each turn, and what it may answer. Assumes nothing.
-use mathlib.Core.Path.{_≡_, sym, ap, _∙_}
+use mathlib.Core.Path.{_≡_, sym}
 use mathlib.Core.Bool.{Bool, true, false}
 use Prim.Native.Nat.{ℕ, _+_, _≤_, _<_}
 use native.Mathlib.Omega.{arith}
 use borrow.Author.Count.{below-none, below-more}
 use Rattle.answer.specs.declared.Found.the-variants.{At, Absent}
 use Rattle.answer.specs.Lowest.{lowest}
-use Rattle.answer.proofs.LowestLaws.{LowestAt, Nowhere, at-is, absent-is}
+use Rattle.answer.proofs.LowestLaws.{Nowhere, at-is, absent-is}
 
 module _ (test : ℕ → Bool) where
   pub none-yet : Nowhere test 0

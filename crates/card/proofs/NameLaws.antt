@@ -15,13 +15,12 @@ use Rattle.answer.specs.declared.Found.{Found}
 use Rattle.answer.specs.declared.Found.the-variants.{At, Absent}
 use Rattle.answer.specs.declared.Check.{Check}
 use Rattle.answer.specs.declared.Check.the-variants.{Fine, Refused}
-use Rattle.answer.specs.Lowest.{lowest, refuseAt}
 use Rattle.answer.proofs.LowestLaws.{Nowhere, is-at}
 use Rattle.card.specs.declared.Named.{Named}
 use Rattle.closure.specs.Limits.{CONTOURS, PAIRS}
 use Rattle.fields.specs.Layout.{idOf, tagOf, contoursOf, pairsOf, beforeIdOf, beforeTagOf, afterIdOf, afterTagOf}
 use Rattle.card.specs.Stages.{isAt, seekOf, repeats, positionOf, unnamed, nameFault, seat, beforeOf, afterOf, otherTag}
-use Rattle.card.specs.Names.{seatsOf, padded, upTo, namedPairs, namedOf}
+use Rattle.card.specs.Names.{seatsOf, padded, namedPairs, namedOf}
 use Rattle.card.proofs.LoopLaws.{found-here, none-found}
 
 -- ---- repeats

@@ -2,11 +2,10 @@
 // stands in the crate `fields`.
 ghost use mathlib.Core.Path.{_≡_};
 ghost use mathlib.Core.Bool.{false, not};
-ghost use Prim.Native.Nat.{_+_, _*_, _<_, _≤_, min};
+ghost use Prim.Native.Nat.{_+_, _*_, _<_, _≤_};
 ghost use lib.ListN.{length};
 ghost use Rattle.answer.specs.Lowest.{refuseAt};
 ghost use Rattle.answer.specs.Stage.{firstRefusal};
-ghost use Rattle.block.specs.Field.{byteAt, u32At};
 ghost use Rattle.closure.specs.Limits.{CONTOURS, PAIRS};
 ghost use Rattle.fields.specs.Layout.{blocksOf, payload, contoursOf, pairsOf};
 ghost use Rattle.card.specs.Stages.{lengthFault, checkFault, kindDue, startFault, headFaults, headFault, countFault, badContour, contourFault, usedIn, badSpare, spareFault, tooFar, farPoint, farVertex, farFault, seekOf, repeatFault, positionOf, tagFault};

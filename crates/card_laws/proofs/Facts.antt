@@ -1,6 +1,6 @@
 -- Every fine card has each fact that later parts stand on; and the record of a card's fields reads what the field questions read. Assumes
 -- nothing.
-use mathlib.Core.Path.{_≡_, refl, sym, ap, _∙_, subst}
+use mathlib.Core.Path.{_≡_, refl, sym, ap, _∙_}
 use mathlib.Core.Logic.{_⊎_, inl, inr}
 use mathlib.Core.Bool.{Bool, true, false}
 use mathlib.Core.List.{List, [], _∷_, _++_}
@@ -17,12 +17,11 @@ use Rattle.block.specs.Block.{blockBytes}
 use Rattle.points.specs.Bad.{badPoint}
 use Rattle.closure.specs.Limits.{CONTOURS, PAIRS}
 use Rattle.fields.specs.Limits.{perContourLimit, candidateLimit, passLimit, vertexLimit}
-use Rattle.fields.specs.Layout.{blocksOf, contoursOf, pairsOf, perContourOf, passesOf, homePlace, exteriorOf, interiorOf, idOf, tagOf, vertexCountOf, typeOf, vertexPlace, beforeIdOf, beforeTagOf, afterIdOf, afterTagOf}
+use Rattle.fields.specs.Layout.{blocksOf, contoursOf, pairsOf, perContourOf, passesOf, homePlace, exteriorOf, interiorOf, idOf, vertexCountOf, typeOf, vertexPlace, beforeIdOf, beforeTagOf, afterIdOf, afterTagOf}
 use Rattle.fields.specs.Values.{pointAt}
 use Rattle.card.specs.Stages.{blocksDue, beforeOf, afterOf}
-use Rattle.card.specs.Names.{seatsOf}
 use Rattle.card.specs.Verdict.{checkOf}
-use Rattle.card_laws.specs.Table.{No, Row1, Row4, Row5, Row6, Row8, Row9, Row10, Row11, Row12, BadField, contours, pairs, candidates, passes, exterior, interior, all-candidates, BadContour, few-vertices, many-vertices, no-type, FarCoordinate, at-home, at-vertex, Has, OtherTag, Sound, Exactly}
+use Rattle.card_laws.specs.Table.{No, Row1, Row4, Row5, Row6, Row8, Row9, Row10, Row11, Row12, BadField, contours, pairs, candidates, passes, exterior, interior, all-candidates, BadContour, few-vertices, many-vertices, no-type, FarCoordinate, at-home, at-vertex, OtherTag, Sound}
 use Rattle.card_laws.specs.Card.{Contour, Pair, each, contourOf, pairOf, cardOf, Names, Accepted}
 use Rattle.card_laws.proofs.ExactLaws.{false-unless}
 use Rattle.card_laws.proofs.RowLaws.{no-bad-field, no-bad-contour}

@@ -1,19 +1,17 @@
 -- Row 8 of the table: the test on the bits is the rule on numbers. Assumes nothing.
 use mathlib.Core.Path.{_≡_, refl, sym, ap, _∙_}
-use mathlib.Core.Logic.{_⊎_, inl, inr}
-use mathlib.Core.Bool.{Bool, true, false, _||_}
+use mathlib.Core.Bool.{Bool, true, false}
 use mathlib.Core.List.{List}
 use Prim.Native.Nat.{ℕ, zero, suc, _+_, _<_}
-use lib.Ieee.{binary64, ofBits}
 use Rattle.answer.specs.declared.Found.{Found}
 use Rattle.answer.specs.declared.Found.the-variants.{At, Absent}
 use Rattle.answer.specs.Lowest.{lowest}
-use Rattle.answer.proofs.LowestLaws.{LowestAt, is-at, is-absent}
+use Rattle.answer.proofs.LowestLaws.{is-at, is-absent}
 use Rattle.block.specs.Field.{u64At, f64At}
-use Rattle.points.specs.Bad.{badNumber, badPoint}
+use Rattle.points.specs.Bad.{badPoint}
 use Rattle.fields.specs.Layout.{homePlace, contoursOf, vertexCountOf, vertexPlace}
 use Rattle.fields.specs.Values.{pointAt}
-use Rattle.card.specs.Stages.{isAt, tooFar, farPoint, farVertex, farPlace, farFault}
+use Rattle.card.specs.Stages.{isAt, farPoint, farVertex, farPlace, farFault}
 use Rattle.card_laws.specs.Table.{Lowest, FarCoordinate, at-home, at-vertex, Row8, No}
 use Rattle.card_laws.proofs.ExactLaws.{Exact, never, lowest-exact, nowhere}
 use Rattle.card_laws.proofs.FarNumber.{far-is}

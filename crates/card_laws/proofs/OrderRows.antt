@@ -11,7 +11,7 @@ use lib.ListN.{length}
 use borrow.Author.Tests.{lt-ltb, eq-eqb, eqb-true}
 use Rattle.answer.specs.declared.Found.{Found}
 use Rattle.answer.specs.declared.Found.the-variants.{At, Absent}
-use Rattle.answer.specs.declared.Check.the-variants.{Fine, Refused}
+use Rattle.answer.specs.declared.Check.the-variants.{Fine}
 use Rattle.answer.specs.Lowest.{lowest}
 use Rattle.block.proofs.Readings.{and-first, and-second, and-both}
 use Rattle.closure.specs.Cycle.{linked, onCycle, Acyclic}
@@ -24,7 +24,7 @@ use Rattle.fields.specs.Layout.{contoursOf, pairsOf}
 use Rattle.card.specs.Stages.{beforeOf, afterOf}
 use Rattle.card.specs.Names.{seatsOf}
 use Rattle.card.specs.Verdict.{checkOf}
-use Rattle.card_laws.specs.Table.{Past11, Row12, OnCycle, twelve, Exactly}
+use Rattle.card_laws.specs.Table.{Past11, Row12, OnCycle, twelve}
 use Rattle.card_laws.specs.Card.{Accepted}
 use Rattle.card_laws.specs.Orders.{LegalOrder, SentBack12, Twelve, Before, Links}
 use Rattle.card_laws.proofs.ExactLaws.{never, either-of, first-of, second-of, lowest-exact}

@@ -1,9 +1,9 @@
 -- Rows 7, 10, 11 and 12 of the table. Assumes nothing.
 use mathlib.Core.Path.{_≡_, refl, sym, ap, _∙_, subst}
-use mathlib.Core.Logic.{_⊎_, inl, inr, ⊎-elim}
-use mathlib.Core.Bool.{Bool, true, false, not, _||_}
+use mathlib.Core.Logic.{_⊎_, inl, inr}
+use mathlib.Core.Bool.{Bool, true, false, not}
 use mathlib.Core.List.{List}
-use Prim.Native.Nat.{ℕ, zero, suc, _+_, _*_, _-_, _≤_, _<_, min}
+use Prim.Native.Nat.{ℕ, zero, _+_, _-_, _≤_, _<_, min}
 use native.Mathlib.Nat.{add-assoc}
 use native.Mathlib.Omega.{arith}
 use lib.Dec.{eqb, ltb}
@@ -11,7 +11,7 @@ use borrow.Author.Tests.{eqb-true, eq-eqb, not-false, ltb-true, ltb-false}
 use Rattle.answer.specs.declared.Found.{Found}
 use Rattle.answer.specs.declared.Found.the-variants.{At, Absent}
 use Rattle.answer.specs.Lowest.{lowest}
-use Rattle.answer.proofs.LowestLaws.{LowestAt, is-at, is-absent}
+use Rattle.answer.proofs.LowestLaws.{is-at, is-absent}
 use Rattle.block.specs.Field.{byteAt}
 use Rattle.block.specs.Block.{zerosAt}
 use Rattle.block.proofs.Readings.{zeros-each, each-zeros}
@@ -23,9 +23,9 @@ use Rattle.fields.specs.Layout.{blocksOf, payload, contoursOf, pairsOf, idOf, t
 use Rattle.card.specs.Stages.{isAt, usedIn, badSpare, spareFault, seekOf, positionOf, unnamed, nameFault, seat, beforeOf, afterOf, otherTag, tagFault}
 use Rattle.card.specs.Names.{seatsOf}
 use Rattle.card.specs.Verdict.{cycleFault}
-use Rattle.card_laws.specs.Table.{Lowest, SpareByte, Row7, Repeated, Row9, Has, Unnamed, Row10, OtherTag, Row11, OnCycle, Row12, No}
+use Rattle.card_laws.specs.Table.{Lowest, SpareByte, Row7, Row9, Has, Unnamed, Row10, OtherTag, Row11, OnCycle, Row12, No}
 use Rattle.card_laws.proofs.RowLaws.{no-repeat}
-use Rattle.card_laws.proofs.ExactLaws.{Exact, never, either-of, first-of, second-of, not-so, so-not, false-unless, lowest-exact, nowhere}
+use Rattle.card_laws.proofs.ExactLaws.{Exact, never, either-of, first-of, second-of, not-so, so-not, lowest-exact, nowhere}
 
 -- one is below the other, or they are the same
 order : (j k : ℕ) → (j < k) ⊎ ((j ≡ k) ⊎ (k < j))

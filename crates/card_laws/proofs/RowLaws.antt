@@ -1,26 +1,24 @@
 -- Each stage's search tells exactly what its row of the table says. Assumes nothing.
-use mathlib.Core.Path.{_≡_, refl, sym, ap, _∙_, subst}
-use mathlib.Core.Logic.{_⊎_, inl, inr, ⊎-elim}
+use mathlib.Core.Path.{_≡_, refl, sym, ap, _∙_}
+use mathlib.Core.Logic.{_⊎_, inl, inr}
 use mathlib.Core.Bool.{Bool, true, false, not, _||_}
 use mathlib.Core.List.{List}
-use Prim.Native.Nat.{ℕ, zero, suc, _+_, _*_, _-_, _%_, _≤_, _<_, min}
-use native.Mathlib.Omega.{arith}
+use Prim.Native.Nat.{ℕ, zero, suc, _+_, _*_, _-_, _%_, _<_, min}
 use lib.Dec.{eqb, ltb}
 use lib.ListN.{length, getD}
-use borrow.Author.Tests.{ltb-true, lt-ltb, eqb-true, eq-eqb, ne-eqb, eqb-false}
+use borrow.Author.Tests.{ltb-true, lt-ltb, eqb-true, eq-eqb}
 use Rattle.answer.specs.declared.Found.{Found}
 use Rattle.answer.specs.declared.Found.the-variants.{At, Absent}
 use Rattle.answer.specs.Lowest.{lowest}
-use Rattle.answer.proofs.LowestLaws.{Nowhere, LowestAt, at-is, is-at, is-absent, absent-is}
-use Rattle.block.specs.Field.{byteAt, u32At}
-use Rattle.block.specs.Block.{blockBytes, checkPlace, checkAt, checked, starts, Due, zerosAt}
-use Rattle.block.proofs.Readings.{due-is, is-due, zeros-each, each-zeros}
-use Rattle.closure.specs.Limits.{CONTOURS, PAIRS}
-use Rattle.fields.specs.Limits.{cardBytes, perContourLimit, candidateLimit, passLimit, vertexLimit, payloadBytes}
-use Rattle.fields.specs.Layout.{blocksOf, payload, contoursOf, pairsOf, perContourOf, passesOf, exteriorOf, interiorOf, idOf, vertexCountOf, typeOf, fillerOf}
-use Rattle.card.specs.Stages.{outside, badLength, lengthFault, checkFault, kindDue, startFault, headFaults, headFault, blocksDue, countFault, badContour, contourFault, usedIn, badSpare, spareFault, seekOf, repeats, repeatFault, isAt}
-use Rattle.card_laws.specs.Table.{Lowest, Row1, CheckDiffers, Row2, StartsOtherwise, Row3, BadField, contours, pairs, candidates, passes, exterior, interior, all-candidates, Row4, Row5, BadContour, few-vertices, many-vertices, no-type, byte-eleven, Row6, SpareByte, Row7, Repeated, Row9, No}
-use Rattle.card_laws.proofs.ExactLaws.{Exact, never, false-unless, either-of, first-of, second-of, not-so, so-not, lowest-exact, if-exact, nowhere}
+use Rattle.answer.proofs.LowestLaws.{is-at, is-absent}
+use Rattle.block.specs.Field.{u32At}
+use Rattle.block.specs.Block.{blockBytes, checkPlace, checkAt, checked, starts, Due}
+use Rattle.block.proofs.Readings.{due-is, is-due}
+use Rattle.fields.specs.Limits.{cardBytes, perContourLimit, vertexLimit}
+use Rattle.fields.specs.Layout.{blocksOf, contoursOf, perContourOf, idOf, vertexCountOf, typeOf, fillerOf}
+use Rattle.card.specs.Stages.{outside, badLength, lengthFault, checkFault, kindDue, startFault, headFaults, headFault, blocksDue, countFault, badContour, contourFault, seekOf, repeats, repeatFault, isAt}
+use Rattle.card_laws.specs.Table.{Lowest, Row1, CheckDiffers, Row2, StartsOtherwise, Row3, BadField, contours, pairs, candidates, passes, exterior, interior, all-candidates, Row4, Row5, BadContour, few-vertices, many-vertices, no-type, byte-eleven, Row6, Repeated, Row9, No}
+use Rattle.card_laws.proofs.ExactLaws.{Exact, never, either-of, first-of, second-of, not-so, so-not, lowest-exact, if-exact, nowhere}
 
 -- ---- below the least or above the most
 

@@ -1,5 +1,5 @@
 -- The verdict is the table's: refused with a number and a place exactly when they are given, fine exactly when no row holds. Assumes nothing.
-use mathlib.Core.Path.{_≡_, refl, sym, _∙_}
+use mathlib.Core.Path.{_≡_, sym, _∙_}
 use mathlib.Core.List.{List, [], _∷_}
 use Prim.Native.Nat.{ℕ, _≤_}
 use lib.Dec.{lit<}
@@ -14,7 +14,7 @@ use Rattle.closure.specs.Limits.{CONTOURS}
 use Rattle.fields.specs.Layout.{blocksOf, contoursOf}
 use Rattle.card.specs.Stages.{lengthFault, checkFault, startFault, headFault, countFault, contourFault, spareFault, farFault, repeatFault, nameFault, tagFault}
 use Rattle.card.specs.Verdict.{cycleFault, checkOf}
-use Rattle.card_laws.specs.Table.{Row1, Row2, Row3, Row4, Row5, Row6, Row7, Row8, Row9, Row10, Row11, Row12, BadField, contours, No, Past1, Past2, PastStart, Past4, Past5, PastStarts, Past6, Past7, Past8, Past9, Past10, Past11, Sound, Given, one, two, three, four, five, three-later, six, seven, eight, nine, ten, eleven, twelve, Exactly}
+use Rattle.card_laws.specs.Table.{Row1, Row2, Row3, Row4, Row5, Row6, Row7, Row8, Row9, Row10, Row11, Row12, contours, Past1, Past2, PastStart, Past4, Past5, PastStarts, Past6, Past7, Past8, Past9, Past10, Past11, Sound, Given, one, two, three, four, five, three-later, six, seven, eight, nine, ten, eleven, twelve, Exactly}
 use Rattle.card_laws.proofs.ExactLaws.{Exact, false-unless, stop, on, in-turn, none-here}
 use Rattle.card_laws.proofs.RowLaws.{exact1, exact2, exact3, exact4, exact5, exact6, exact9, no-bad-field}
 use Rattle.card_laws.proofs.FarRow.{exact8}

@@ -1,6 +1,6 @@
 -- A card's bytes, from what it says: the other way round than reading, for examples. Assumes nothing.
 use mathlib.Core.List.{List, [], _∷_, _++_}
-use Prim.Native.Nat.{ℕ, zero, suc, _+_, _*_, _-_, _/_, _%_}
+use Prim.Native.Nat.{ℕ, zero, suc, _+_, _-_, _/_, _%_}
 use lib.ListN.{length, take, drop, replicate}
 use lib.Ieee.{Float, binary64, toBits}
 use Rattle.answer.specs.declared.Point.{Point}

@@ -12,12 +12,8 @@ use answer::Found;
 use answer::Point;
 use answer::Refusal;
 use points::Ends;
-
-// An edge whose squared length is below this has no direction.
-const TINY: f64 = 1e-12;
-
-// The largest finite number.
-const HUGE: f64 = 1.7976931348623157e308;
+use points::HUGE;
+use points::TINY;
 
 // The most pierces that are counted.
 pub const MOST_PIERCES: usize = 1000;

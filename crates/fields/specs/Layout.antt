@@ -2,7 +2,7 @@
 use mathlib.Core.List.{List}
 use Prim.Native.Nat.{ℕ, _+_, _*_, _/_, _%_}
 use lib.ListN.{length}
-use Rattle.block.specs.Field.{byteAt, u16At, u32At, u64At}
+use Rattle.block.specs.Field.{byteAt, u16At, u32At}
 use Rattle.block.specs.Block.{blockBytes}
 use Rattle.fields.specs.Limits.{pairsABlock}
 

@@ -3,8 +3,8 @@
 use closure::CONTOURS;
 ghost use mathlib.Core.Path.{_≡_};
 ghost use mathlib.Core.Bool.{false, _&&_};
-ghost use Prim.Native.Nat.{_+_, _-_, _*_, _≤_, _<_, _^_};
-ghost use lib.ListN.{length, getD, set};
+ghost use Prim.Native.Nat.{_+_, _-_, _≤_, _<_, _^_};
+ghost use lib.ListN.{length, set};
 ghost use Rattle.table.specs.Evaluate.{lengthOf};
 ghost use Rattle.closure.specs.Limits.{CONTOURS};
 ghost use Rattle.keep.specs.Keep.{keepsPairs};

@@ -1,5 +1,5 @@
 -- Each promise leaves one answer: both equal the definition. Assumes nothing.
-use mathlib.Core.Path.{_≡_, sym, _∙_}
+use mathlib.Core.Path.{sym, _∙_}
 use Rattle.list.specs.Unique.{Unique}
 
 pub unique : Unique

@@ -1,6 +1,5 @@
 // A card's list as a text: the stops of its tour, one to a line, or the one line of a refusal; and that text on standard output.
 ghost use mathlib.Core.Path.{_≡_};
-ghost use mathlib.Core.List.{_++_};
 ghost use Prim.Native.Nat.{_-_, _≤_, min};
 ghost use lib.ListN.{length, take};
 ghost use Rattle.answer.specs.declared.Check.the-variants.{Fine};

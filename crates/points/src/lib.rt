@@ -12,6 +12,12 @@ use answer::Point;
 // The largest size of a coordinate, in millimetres.
 pub const LARGEST: f64 = 1048576.0;
 
+// The largest finite number.
+pub const HUGE: f64 = 1.7976931348623157e308;
+
+// 1e-12: what is shorter has no direction.
+pub const TINY: f64 = 1e-12;
+
 // Where something begins and where it ends: an edge of a polygon, or a leg of a sequence.
 pub struct Ends {
     pub start: Point,

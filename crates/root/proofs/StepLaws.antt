@@ -14,7 +14,7 @@ use lib.Ieee.Exact.{HasValue}
 use lib.Ieee.Order.{le-of-values, transfer}
 use lib.Ieee.Scale.{finite, overflow}
 use Rattle.root.specs.Root.{negative}
-use Rattle.root.specs.Steps.{stepsIn, stepsOf, signOf, hasRoot}
+use Rattle.root.specs.Steps.{stepsIn, signOf, hasRoot}
 
 -- ---- what `fits` says of a finite value
 

@@ -7,7 +7,8 @@ use native.Mathlib.Omega.{arith}
 use lib.Ieee.{Float, lt}
 use lib.ListN.{getD}
 use Rattle.table.proofs.EachLaws.{each-keeps, each-hits}
-use Rattle.start.specs.Nearest.{huge, nothingYet, closer, offer, offered, isOpen, considered, chosen}
+use Rattle.points.specs.Numbers.{huge}
+use Rattle.start.specs.Nearest.{nothingYet, closer, offer, offered, isOpen, considered, chosen}
 use Rattle.start.specs.declared.Choice.{Choice}
 
 -- candidate a is one of contour k

@@ -22,7 +22,8 @@ use Rattle.hierarchy.specs.Sort.{both}
 use Rattle.hierarchy.specs.Legal.{Legal}
 use Rattle.table.specs.Each.{each}
 use Rattle.table.specs.Evaluate.{homeAt, distanceAt}
-use Rattle.start.specs.Nearest.{Ground, Way, reachOf, huge, lastOf, isOpen, chosen, visit, step, flagCount, setOut, walked, nearest}
+use Rattle.points.specs.Numbers.{huge}
+use Rattle.start.specs.Nearest.{Ground, Way, reachOf, lastOf, isOpen, chosen, visit, step, flagCount, setOut, walked, nearest}
 use Rattle.start.specs.declared.Choice.{Choice}
 use Rattle.start.proofs.ChoiceLaws.{InContour, Fair, chosen-fair, chosen-found}
 use Rattle.start.proofs.FreeLaws.{left, left-all, some-left, one-less}

@@ -3,10 +3,11 @@ use mathlib.Core.Bool.{Bool, true, false, cond, _&&_}
 use mathlib.Core.List.{List, [], _∷_, _++_}
 use Prim.Native.Nat.{ℕ, suc, _-_}
 use lib.Dec.{eqb, leb}
-use lib.Ieee.{Float, binary64, ofBits, lt}
+use lib.Ieee.{Float, lt}
 use lib.ListN.{length, getD, set, replicate}
 use Rattle.closure.specs.Limits.{CONTOURS}
 use Rattle.keep.specs.Keep.{readyIn}
+use Rattle.points.specs.Numbers.{huge}
 use Rattle.table.specs.Each.{each}
 use Rattle.table.specs.Evaluate.{homeAt, distanceAt}
 use Rattle.start.specs.declared.Choice.{Choice}
@@ -25,10 +26,6 @@ pub record Ground : Type 0 where
 -- how far a candidate is from where the tour has come to: from home while it is empty, else from its last candidate
 unfoldable pub reachOf : List Float → List Float → ℕ → ℕ → ℕ → ℕ → Float
 reachOf home table t made last a = cond (eqb made 0) (homeAt home a) (distanceAt table t last a)
-
--- the largest finite number
-abbrev pub huge : Float
-huge = ofBits binary64 0x7fef_ffff_ffff_ffff
 
 -- nothing is chosen yet, and only what is nearer than the largest number will be
 abbrev pub nothingYet : Choice

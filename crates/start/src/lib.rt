@@ -1,9 +1,9 @@
 // Where a search begins: step by step to the nearest candidate of a contour that is ready.
 use closure::CONTOURS;
+use points::HUGE;
 ghost use mathlib.Core.Path.{_≡_};
 ghost use mathlib.Core.List.{[]};
-ghost use Prim.Native.Nat.{_≤_, _-_};
-ghost use lib.ListN.{length};
+ghost use Prim.Native.Nat.{_-_};
 ghost use Rattle.closure.specs.Limits.{CONTOURS};
 ghost use Rattle.table.specs.Each.{each};
 ghost use Rattle.start.specs.Nearest.{reachOf, closer, offer, offered, isOpen, chosen, nearest};
@@ -11,9 +11,6 @@ ghost use Rattle.start.specs.Code.{groundOf, Written};
 
 // A flag for each number that a contour can have.
 const FLAGS: usize = 256;
-
-// The largest finite number.
-const HUGE: f64 = 1.7976931348623157e308;
 
 // The nearest candidate so far, the contour that it belongs to, and how far it is.
 struct Choice {

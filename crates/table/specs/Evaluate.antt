@@ -3,7 +3,7 @@ use mathlib.Core.List.{List}
 use Prim.Native.Nat.{ℕ, _+_, _*_}
 use lib.ListN.{getD}
 use lib.Ieee.{Float, nan, binary64, add, ofBits}
-use Rattle.table.specs.Walk.{walk, legs}
+use Rattle.table.specs.Walk.{walk}
 
 -- how far a candidate is from home; not a number where there is no such candidate
 abbrev pub homeAt : List Float → ℕ → Float

@@ -2,6 +2,7 @@
 use answer::Point;
 use candidates::Candidate;
 use fields::CANDIDATES;
+use points::HUGE;
 ghost use mathlib.Core.Path.{_≡_};
 ghost use mathlib.Core.List.{_++_};
 ghost use Prim.Native.Nat.{_≤_, _<_};
@@ -13,9 +14,6 @@ ghost use Rattle.table.specs.Distances.{legOf, rowOf, homed, tabled};
 
 // The most entries that the distances of a card take.
 pub const ENTRIES: usize = CANDIDATES * CANDIDATES;
-
-// The largest float: what stands between candidates of one contour.
-const HUGE: f64 = 1.7976931348623157e308;
 
 // The float at a place, and not a number past the end.
 pub fn float_at(s: &[f64], i: usize) -> f64
