@@ -74,12 +74,12 @@ paired-more (x ∷ []) k b a e = absurd (omega arith)
 paired-more (x ∷ (y ∷ more)) k b a e =
     ap (λ (z : List Pair). record { before = x; after = y } ∷ z) (paired-more more (k - 1) b a (omega arith))
 
-seats-paired : (s : List ℕ) (m : ℕ) → paired (seatsOf s (suc m)) ≡ paired (seatsOf s m) ++ (record { before = beforeOf s m; after = afterOf s m } ∷ [])
+pub seats-paired : (s : List ℕ) (m : ℕ) → paired (seatsOf s (suc m)) ≡ paired (seatsOf s m) ++ (record { before = beforeOf s m; after = afterOf s m } ∷ [])
 unfolding seatsOf
 seats-paired s m = paired-more (seatsOf s m) m (beforeOf s m) (afterOf s m) (seats-length s m)
 
 module _ (test : Pair → Bool) where
-  some-split : (l : List Pair) (p : Pair) → someOf test (l ++ (p ∷ [])) ≡ true → (someOf test l ≡ true) ⊎ (test p ≡ true)
+  pub some-split : (l : List Pair) (p : Pair) → someOf test (l ++ (p ∷ [])) ≡ true → (someOf test l ≡ true) ⊎ (test p ≡ true)
   unfolding someOf
   some-split [] p e = go (either-of (test p) false e)
     where
@@ -97,7 +97,7 @@ module _ (test : Pair → Bool) where
           wider (inl u) = inl (second-of (test x) (someOf test l) u)
           wider (inr u) = inr u
 
-  some-earlier : (l : List Pair) (p : Pair) → someOf test l ≡ true → someOf test (l ++ (p ∷ [])) ≡ true
+  pub some-earlier : (l : List Pair) (p : Pair) → someOf test l ≡ true → someOf test (l ++ (p ∷ [])) ≡ true
   unfolding someOf
   some-earlier [] p e = absurd (never false e refl)
   some-earlier (x ∷ l) p e = go (either-of (test x) (someOf test l) e) (some-earlier l p)
@@ -106,7 +106,7 @@ module _ (test : Pair → Bool) where
       go (inl t) later = first-of (test x) _ t
       go (inr t) later = second-of (test x) _ (later t)
 
-  some-last : (l : List Pair) (p : Pair) → test p ≡ true → someOf test (l ++ (p ∷ [])) ≡ true
+  pub some-last : (l : List Pair) (p : Pair) → test p ≡ true → someOf test (l ++ (p ∷ [])) ≡ true
   unfolding someOf
   some-last [] p e = first-of (test p) false e
   some-last (x ∷ l) p e = second-of (test x) _ (some-last l p e)
