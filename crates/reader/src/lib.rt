@@ -10,10 +10,8 @@ ghost use Rattle.reader.specs.Fields.{fieldAt};
 ghost use Rattle.reader.specs.Walk.{walk, eights};
 ghost use Rattle.reader.specs.OnCard.{filled, headOf, contourHead, contourOf};
 use block::BLOCK;
+use fields::PAYLOAD_AT;
 use fields::VERTICES;
-
-// Where a block's payload begins in it.
-const PAYLOAD_AT: usize = 8;
 
 // The coordinates of the most vertices.
 const COORDINATES: usize = 2 * VERTICES;
