@@ -101,8 +101,8 @@ fn ask(r: &Random, memory: &mut [Guarded; 4], bytes: &[u8]) -> Result<bool, Stri
         same(what, (&*tour, told(first), told(second)), (&*room, UNTOUCHED, UNTOUCHED))?;
     } else {
         same(what, &tour[n..], &room[n..])?;
-        answered(due.as_ref().unwrap(), &tour[..n], told(first), told(second))?;
     }
+    let tour = (code == 0).then(|| (tour[..n].to_vec(), told(first), told(second)));
     same(|| "the card".to_string(), &*card, bytes)?;
 
     first.copy_from_slice(&number());
@@ -113,34 +113,34 @@ fn ask(r: &Random, memory: &mut [Guarded; 4], bytes: &[u8]) -> Result<bool, Stri
     let place = (ours, told(first), told(second));
     match &due {
         Err(_) => same(what, place, (fault, UNTOUCHED, UNTOUCHED))?,
-        Ok(card) => placed(card, candidate, place)?,
+        Ok(card) => answered(card, tour, candidate, place)?,
     };
     same(|| "the card".to_string(), &*card, bytes)?;
     Ok(due.is_ok())
 }
 
+/// A tour with its trials and its length's bits.
+type Tour = (Vec<u8>, u64, u64);
+
 #[cfg(not(feature = "original"))]
-fn answered(_: &crate::card::Card, _: &[u8], _: u64, _: u64) -> Result<u64, String> {
+fn answered(_: &crate::card::Card, _: Option<Tour>, _: u64, _: (u64, u64, u64)) -> Result<u64, String> {
     Ok(1)
 }
 
-/// An accepted card gets the original's tour.
+/// An accepted card gets the original's tour, where there was room for it, and a candidate is where the original has it.
 #[cfg(feature = "original")]
-fn answered(card: &crate::card::Card, tour: &[u8], moves: u64, length: u64) -> Result<u64, String> {
-    let found = crate::answer::Problem::of(card).search(card.limit);
-    let theirs: Vec<u8> = found.tour.iter().map(|&g| g as u8).collect();
-    same(|| format!("{card:?}"), (tour, moves, length), (&theirs, found.moves, found.length))
-}
-
-#[cfg(not(feature = "original"))]
-fn placed(_: &crate::card::Card, _: u64, _: (u64, u64, u64)) -> Result<u64, String> {
-    Ok(1)
-}
-
-/// A candidate of an accepted card is where the original has it.
-#[cfg(feature = "original")]
-fn placed(card: &crate::card::Card, candidate: u64, place: (u64, u64, u64)) -> Result<u64, String> {
+fn answered(
+    card: &crate::card::Card,
+    tour: Option<Tour>,
+    candidate: u64,
+    place: (u64, u64, u64),
+) -> Result<u64, String> {
     let problem = crate::answer::Problem::of(card);
+    if let Some(ours) = tour {
+        let found = problem.search(card.limit);
+        let theirs = found.tour.iter().map(|&g| g as u8).collect();
+        same(|| format!("{card:?}"), ours, (theirs, found.moves, found.length))?;
+    }
     same(|| format!("{card:?}"), place, crate::tour::place_due(&problem, candidate))
 }
 
