@@ -24,7 +24,8 @@ use Rattle.table.proofs.DistanceLaws.{same-contour, other-contour}
 use Rattle.improve.specs.Search.{Sheet, State, lengthIn, swap, flip, judged, atLimit, begun, worthwhile, searched}
 use Rattle.improve.proofs.Keeps.{Carries, search-carries, Keeps, search-keeps}
 use Rattle.improve.proofs.TourLaws.{moves-at-most}
-use Rattle.improve.proofs.PrefixLaws.{Level, After, here, swapped, flipped, after-counts, Twin, search-twin, cut-at-limit, one-more, limit-idle}
+use Rattle.improve.specs.After.{Level, After, here, swapped, flipped}
+use Rattle.improve.proofs.PrefixLaws.{after-counts, Twin, search-twin, cut-at-limit, one-more, limit-idle}
 use Rattle.instance.specs.Gather.{verticesOf, wayOf, offersOf, gathered}
 use Rattle.instance.proofs.FineLaws.{outline-whole}
 use Rattle.instance.proofs.OwnerLaws.{first-at, gathered-grows, owner-at}

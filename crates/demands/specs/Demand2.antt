@@ -21,7 +21,7 @@ use Rattle.table.specs.Distances.{absent, pierced, left}
 use Rattle.table.specs.Each.{each}
 use Rattle.start.specs.Nearest.{Way, reachOf, lastOf, isOpen, step, setOut}
 use Rattle.improve.specs.Search.{State, contours, lengthIn, legal, shorter, swap, reversed, flip, begun, searched}
-use Rattle.improve.proofs.PrefixLaws.{After}
+use Rattle.improve.specs.After.{After}
 use Rattle.solve.specs.declared.Outcome.{Outcome}
 use Rattle.solve.specs.Solve.{groundIn}
 use Rattle.tour.specs.declared.Toured.the-variants.{Done}

@@ -6,7 +6,7 @@ use lib.Ieee.{Float, binary64, ofBits}
 use lib.ListN.{getD}
 use Rattle.answer.specs.declared.CutDirection.{CutDirection}
 use Rattle.answer.specs.declared.CutDirection.the-variants.{Ccw, Cw}
-use Rattle.answer.specs.declared.Check.the-variants.{Refused}
+use Rattle.answer.specs.declared.Check.the-variants.{Fine, Refused}
 use Rattle.root.specs.Root.{sqrtOf}
 use Rattle.cost.specs.declared.Closest.the-variants.{At}
 use Rattle.points.specs.Points.{point, points}
@@ -73,13 +73,15 @@ pub record Starred : Type 0 where
       → candidatesOf way (points square) 2 ≡ candidateAt way (spot (point zero64 zero64) 0) ∷ candidateAt way (spot (point four64 four64) 1) ∷ []
   pub second-of-four : (way : CutDirection) → getD (candidatesOf way (points square) 4) 1 blank ≡ candidateAt way (spot (point four64 zero64) 0)
   pub closest : closestOnPolygonOf square (point two64 two64) ≡ At (record { point = point two64 zero64; vertex = 0; t = half64 })
-  -- no contours and no pairs: an empty tour, no trial, length 0
+  -- no contours and no pairs: accepted, an empty tour, no trial, length 0
+  pub empty-fine : verdictOn (asJob41 [] []) ≡ Fine
   pub empty-list : listOf (asJob41 [] []) ≡ []
   pub empty-told : tells (asJob41 [] []) 0 0
   -- position 3 waits on itself; position 0 waits on a cycle of 1 and 2
   pub self-pair : verdictOn selfPair ≡ Refused (record { number = 12; place = 3 })
   pub waiting-only : verdictOn waiting ≡ Refused (record { number = 12; place = 1 })
   -- job 41
+  pub job-fine : verdictOn job41 ≡ Fine
   pub job : jobOf (written job41) ≡ 41
   pub list :
       listOf job41

@@ -136,7 +136,7 @@ unfolding upperEnd
 length-near n a b legs squares e l k =
     let h = route n a b legs squares e l k in
     let r = to-ends (3 * 2 ^ 53) (2 ^ a) step40 n b (length squares) (stepsOf (total legs)) (lowerEnd squares) (h .near) k (e .bound) in
-    record { lower = r .0; upper = r .1 }
+    record { real = plain-real (total legs) (h .plain); lower = r .0; upper = r .1 }
 
 pub length-plain : (n a b : ℕ) (legs : List Float) (squares : List ℕ) → Enough n a b → Legs legs squares → length squares ≤ n → Plain binary64 (total legs)
 length-plain n a b legs squares e l k = route n a b legs squares e l k .plain

@@ -10,22 +10,11 @@ use lib.Dec.{ltb, eqb}
 use lib.ListN.{length, getD}
 use Rattle.table.specs.Each.{each}
 use Rattle.improve.specs.Search.{Sheet, State, lengthIn, contourOf, legal, judged, atLimit, stopped, tried, swap, alternative, turn, flip, reversal, row, fresh, pass, repeated, begun, worthwhile, searched}
+use Rattle.improve.specs.After.{Level, After, here, swapped, flipped}
 use Rattle.improve.proofs.Keeps.{Offers, Carries, alternative-carries, turn-carries, reversal-carries, repeated-carries, Keeps, search-keeps}
 use Rattle.improve.proofs.PassLaws.{repeat-cut}
 use Rattle.improve.proofs.TourLaws.{moves-at-most}
 use Rattle.improve.proofs.TrialLaws.{alternative-idle, turn-idle, reversal-idle}
-
--- the same tour, length and count, whatever the two flags say
-pub record Level (s v : State) : Type 0 where
-  pub tour : s .tour ≡ v .tour
-  pub cost : s .cost ≡ v .cost
-  pub moves : s .moves ≡ v .moves
-
--- v is what s has come to after k trials
-pub data After (sheet : Sheet) (s : State) : ℕ → State → Type 0 where
-  here : {v : State} → Level s v → After sheet s 0 v
-  swapped : {k : ℕ} {u v : State} (p held a : ℕ) → After sheet s k u → Level (swap (lengthIn sheet) p held a u) v → After sheet s (suc k) v
-  flipped : {k : ℕ} {u v : State} (i j : ℕ) → After sheet s k u → Level (flip (lengthIn sheet) (legal sheet) i j u) v → After sheet s (suc k) v
 
 level-refl : (s : State) → Level s s
 level-refl s = record { tour = refl; cost = refl; moves = refl }
