@@ -5,7 +5,7 @@ use mathlib.Core.Bool.{true, false, true≢false, and-false}
 use mathlib.Core.List.{List, [], _∷_, _++_}
 use Prim.Native.Nat.{ℕ, zero, suc, _+_, _≤_, _<_}
 use native.Mathlib.Omega.{arith}
-use borrow.Author.Tests.{lt-leb}
+use borrow.Author.Tests.{lt-ltb, le-leb, lt-leb}
 use lib.Dec.{ltb}
 use lib.ListN.{length, getD, take, drop, length-append, List·getD-append}
 use lib.Seq.{take-at, getD-append-add}
@@ -13,15 +13,17 @@ use Rattle.answer.specs.declared.Point.{Point}
 use Rattle.answer.specs.declared.Check.the-variants.{Fine}
 use Rattle.candidates.specs.declared.Candidate.{Candidate}
 use Rattle.candidates.specs.Generate.{candidatesOf}
+use Rattle.closure.specs.Limits.{CONTOURS}
 use Rattle.closure.proofs.PairLaws.{lt-or, same-or}
 use Rattle.fields.specs.Layout.{contoursOf, perContourOf, passesOf, vertexCountOf, vertexPlace}
 use Rattle.fields.specs.Values.{pointAt}
 use Rattle.card_laws.specs.Card.{each}
 use Rattle.card.specs.Verdict.{checkOf}
+use Rattle.card_laws.proofs.Facts.{accepted}
 use Rattle.card_laws.proofs.Verdicts.{exactly}
 use Rattle.table.specs.Distances.{absent}
-use Rattle.table.proofs.DistanceLaws.{same-contour, other-contour}
-use Rattle.improve.specs.Search.{Sheet, State, lengthIn, swap, flip, judged, atLimit, begun, worthwhile, searched}
+use Rattle.table.proofs.DistanceLaws.{homes-at, same-contour, other-contour}
+use Rattle.improve.specs.Search.{Sheet, State, lengthIn, swap, alternative, turn, flip, reversal, row, pass, repeated, judged, atLimit, tried, begun, worthwhile, searched}
 use Rattle.improve.proofs.Keeps.{Carries, search-carries, Keeps, search-keeps}
 use Rattle.improve.proofs.TourLaws.{moves-at-most}
 use Rattle.improve.specs.After.{Level, After, here, swapped, flipped}
@@ -31,9 +33,9 @@ use Rattle.instance.proofs.FineLaws.{outline-whole}
 use Rattle.instance.proofs.OwnerLaws.{first-at, gathered-grows, owner-at}
 use Rattle.solve.specs.declared.Outcome.{Outcome}
 use Rattle.tour.specs.declared.Toured.the-variants.{Done}
-use Rattle.tour.specs.Search.{candidatesOn, countOn, ownersOn, sheetOn, startOn, endOn, tourOn, outcomeOn}
+use Rattle.tour.specs.Search.{homeOn, candidatesOn, countOn, ownersOn, sheetOn, startOn, endOn, tourOn, outcomeOn}
 use Rattle.tour.specs.Tour.{Left, tourOf}
-use Rattle.demands.specs.Demand2.{ownOn, Numbered, Apart, Trials, searchOn, begunOn, Cut, Claim}
+use Rattle.demands.specs.Demand2.{ownOn, Numbered, Apart, Trials, begunOn, searchOn, passesOn, Begins, Order, Cut, Claim}
 use Rattle.demands.proofs.AskedLaws.{toured-if, done-fine, fine-nothing}
 use Rattle.demands.proofs.NextLaws.{starts}
 use Rattle.demands.proofs.TourLaws.{start-long, tour-long, tour-legal}
@@ -103,6 +105,45 @@ trials s v = record {
   reversal-illegal = λ i j l. record { tour-is = rw (l, and-false _); cost-is = rw (l, and-false _); moves-is = refl };
 }
 
+-- ---- the order of the trials
+
+not-at-limit : (M m : ℕ) → (M ≡ 0) ⊎ (m < M) → atLimit M m ≡ false
+unfolding atLimit
+not-at-limit M m (inl e) = rw e
+not-at-limit M m (inr h) = rw (lt-leb M m h) (and-false (ltb 0 M))
+
+begins : (M : ℕ) (trial : State → State) (v : State) → Begins M trial v
+unfolding tried atLimit
+begins M trial v = record {
+  made = λ c w. rw (c, not-at-limit M (v .moves) w);
+  ended = λ c h l. rw (c, lt-ltb 0 M h, le-leb M (v .moves) l);
+  over = λ c. rw c;
+}
+
+no-other : (sheet : Sheet) (M n k : ℕ) (v : State) → (k ≡ 0) ⊎ ((v .better ≡ false) ⊎ (v .cut ≡ true)) → repeated sheet M n k v ≡ v
+unfolding repeated
+no-other sheet M n zero v w = refl
+no-other sheet M n (suc k) v (inl e) = absurd (omega arith)
+no-other sheet M n (suc k) v (inr (inl e)) = rw e
+no-other sheet M n (suc k) v (inr (inr e)) = rw (e, and-false (v .better))
+
+whole : (s : List ℕ) → checkOf s ≡ Fine → (M most : ℕ) → 3 ≤ contoursOf s → searched (sheetOn s) most M (startOn s) ≡ passesOn s M most (begunOn s)
+unfolding searched repeated
+whole s fine M zero h = refl
+whole s fine M (suc k) h = rw (start-long s fine, lt-ltb 0 (suc k) (omega arith), le-leb 3 (contoursOf s) h, le-leb (contoursOf s) CONTOURS (accepted s fine .few-contours))
+
+order : (s : List ℕ) → checkOf s ≡ Fine → (M : ℕ) → Order s M
+unfolding sheetOn turn alternative row reversal pass repeated
+order s fine M = record {
+  begins = begins M;
+  turns = λ p v. refl;
+  rows = λ i v. refl;
+  passes = λ v. refl;
+  another = λ k v b c. rw (b, c);
+  no-other = no-other (sheetOn s) M (contoursOf s);
+  search = whole s fine M (passesOf s);
+}
+
 -- ---- the limit
 
 no-limit : (moves : ℕ) → atLimit 0 moves ≡ false
@@ -110,10 +151,10 @@ unfolding atLimit
 no-limit moves = refl
 
 -- what a state has come to does not hang on its flags
-levelled : {sheet : Sheet} {b : State} {k : ℕ} {u v : State} → After sheet b k u → Level u v → After sheet b k v
+levelled : {sheet : Sheet} {n : ℕ} {b : State} {k : ℕ} {u v : State} → After sheet n b k u → Level u v → After sheet n b k v
 levelled (here l) m = here (record { tour = l .tour ∙ m .tour; cost = l .cost ∙ m .cost; moves = l .moves ∙ m .moves })
-levelled (swapped p held a w l) m = swapped p held a w (record { tour = l .tour ∙ m .tour; cost = l .cost ∙ m .cost; moves = l .moves ∙ m .moves })
-levelled (flipped i j w l) m = flipped i j w (record { tour = l .tour ∙ m .tour; cost = l .cost ∙ m .cost; moves = l .moves ∙ m .moves })
+levelled (swapped p held a h o w l) m = swapped p held a h o w (record { tour = l .tour ∙ m .tour; cost = l .cost ∙ m .cost; moves = l .moves ∙ m .moves })
+levelled (flipped i j h g w l) m = flipped i j h g w (record { tour = l .tour ∙ m .tour; cost = l .cost ∙ m .cost; moves = l .moves ∙ m .moves })
 
 module _ (s : List ℕ) where
   never-cut : searchOn s 0 .cut ≡ false
@@ -128,18 +169,18 @@ module _ (s : List ℕ) where
         flips = λ i j v h g m q. q;
       }
 
-  cut-short : (M : ℕ) → 0 < M → M < searchOn s 0 .moves → (searchOn s M .moves ≡ M) × ((k : ℕ) × After (sheetOn s) (searchOn s M) (suc k) (searchOn s 0))
+  cut-short : (M : ℕ) → 0 < M → M < searchOn s 0 .moves → (searchOn s M .moves ≡ M) × ((k : ℕ) × After (sheetOn s) (length (startOn s)) (searchOn s M) (suc k) (searchOn s 0))
   cut-short M h l = go (search-twin (sheetOn s) (passesOf s) M 0 (startOn s) (λ m e. absurd (true≢false (sym e ∙ no-limit m))))
     where
       most : searchOn s M .moves ≤ M
       most = moves-at-most (sheetOn s) (passesOf s) M (startOn s) h
 
-      go : Twin (sheetOn s) (searchOn s M) (searchOn s 0) → (searchOn s M .moves ≡ M) × ((k : ℕ) × After (sheetOn s) (searchOn s M) (suc k) (searchOn s 0))
+      go : Twin (sheetOn s) (length (startOn s)) (searchOn s M) (searchOn s 0) → (searchOn s M .moves ≡ M) × ((k : ℕ) × After (sheetOn s) (length (startOn s)) (searchOn s M) (suc k) (searchOn s 0))
       go (inl e) = let f : searchOn s M .moves ≡ searchOn s 0 .moves = ap (λ (v : State). v .moves) e in absurd (omega (arith, most))
       go (inr w) = let least = cut-at-limit (sheetOn s) (passesOf s) M (startOn s) (w .0) in (omega (arith, most), w .1)
 
   -- with one trial more allowed, one more is made: the two cannot be the same, since they count differently
-  one-further : (M : ℕ) → 0 < M → M < searchOn s 0 .moves → After (sheetOn s) (searchOn s M) 1 (searchOn s (suc M))
+  one-further : (M : ℕ) → 0 < M → M < searchOn s 0 .moves → After (sheetOn s) (length (startOn s)) (searchOn s M) 1 (searchOn s (suc M))
   one-further M h l = go (one-more (sheetOn s) (passesOf s) M (startOn s) h)
     where
       next : (suc M < searchOn s 0 .moves) ⊎ (searchOn s 0 .moves ≤ suc M) → searchOn s (suc M) .moves ≡ suc M
@@ -148,8 +189,8 @@ module _ (s : List ℕ) where
           let e : searchOn s (suc M) .moves ≡ searchOn s 0 .moves = ap (λ (v : State). v .moves) (limit-idle (sheetOn s) (passesOf s) (suc M) (startOn s) g) in
           omega arith
 
-      go : (searchOn s M ≡ searchOn s (suc M)) ⊎ ((searchOn s M .cut ≡ true) × After (sheetOn s) (searchOn s M) 1 (searchOn s (suc M)))
-          → After (sheetOn s) (searchOn s M) 1 (searchOn s (suc M))
+      go : (searchOn s M ≡ searchOn s (suc M)) ⊎ ((searchOn s M .cut ≡ true) × After (sheetOn s) (length (startOn s)) (searchOn s M) 1 (searchOn s (suc M)))
+          → After (sheetOn s) (length (startOn s)) (searchOn s M) 1 (searchOn s (suc M))
       go (inl e) =
           let f : searchOn s M .moves ≡ searchOn s (suc M) .moves = ap (λ (v : State). v .moves) e in
           let now = cut-short M h l .0 in
@@ -159,28 +200,28 @@ module _ (s : List ℕ) where
 
   -- every trial counted was made
   abbrev Reached : State → Type 0
-  Reached v = (k : ℕ) × After (sheetOn s) (begunOn s) k v
+  Reached v = (k : ℕ) × After (sheetOn s) (length (startOn s)) (begunOn s) k v
 
   same-level : (v : State) → Level v v
   same-level v = record { tour = refl; cost = refl; moves = refl }
 
-  trial-by-trial : (M n : ℕ) → Carries (sheetOn s) M n Reached (λ p held. Reached)
-  trial-by-trial M n = record {
+  trial-by-trial : (M : ℕ) → Carries (sheetOn s) M (length (startOn s)) Reached (λ p held. Reached)
+  trial-by-trial M = record {
     stops = λ v l q. (q .0, levelled (q .1) (record { tour = refl; cost = refl; moves = refl }));
     begins = λ v q. (q .0, levelled (q .1) (record { tour = refl; cost = refl; moves = refl }));
-    flips = λ i j v h g m q. (suc (q .0), flipped i j (q .1) (same-level _));
+    flips = λ i j v h g m q. (suc (q .0), flipped i j h g (q .1) (same-level _));
     enters = λ p v q. q;
     rests = λ p held v l q. (q .0, levelled (q .1) (record { tour = refl; cost = refl; moves = refl }));
-    swaps = λ p held a v h o m q. (suc (q .0), swapped p held a (q .1) (same-level _));
+    swaps = λ p held a v h o m q. (suc (q .0), swapped p held a h o (q .1) (same-level _));
     leaves = λ p held v q. q;
   }
 
-  all-made : (M : ℕ) → After (sheetOn s) (begunOn s) (searchOn s M .moves) (searchOn s M)
+  all-made : (M : ℕ) → After (sheetOn s) (length (startOn s)) (begunOn s) (searchOn s M .moves) (searchOn s M)
   all-made M =
-      let r = search-carries (sheetOn s) (passesOf s) M (startOn s) Reached (λ p held. Reached) (trial-by-trial M (length (startOn s))) (0, here (same-level _)) in
-      let e = after-counts (sheetOn s) (begunOn s) (r .1) in
+      let r = search-carries (sheetOn s) (passesOf s) M (startOn s) Reached (λ p held. Reached) (trial-by-trial M) (0, here (same-level _)) in
+      let e = after-counts (sheetOn s) (length (startOn s)) (begunOn s) (r .1) in
       let k : r .0 ≡ searchOn s M .moves = omega arith in
-      subst (λ (z : ℕ). After (sheetOn s) (begunOn s) z (searchOn s M)) k (r .1)
+      subst (λ (z : ℕ). After (sheetOn s) (length (startOn s)) (begunOn s) z (searchOn s M)) k (r .1)
 
   stays : (M : ℕ) → worthwhile (passesOf s) (length (startOn s)) ≡ false → searchOn s M ≡ begun (sheetOn s) (startOn s)
   unfolding searched
@@ -194,9 +235,10 @@ not-worthwhile most n (inr h) = rw (lt-leb 3 n h) (and-false (ltb 0 most))
 limit : (s : List ℕ) → checkOf s ≡ Fine → Cut s
 limit s fine = record {
   enough = λ M h. limit-idle (sheetOn s) (passesOf s) M (startOn s) h;
-  made = all-made s;
-  cut = cut-short s;
-  one-more = one-further s;
+  made = λ M. subst (λ (n : ℕ). After (sheetOn s) n (begunOn s) (searchOn s M .moves) (searchOn s M)) (start-long s fine) (all-made s M);
+  cut = λ M h l.
+      subst (λ (n : ℕ). (searchOn s M .moves ≡ M) × ((k : ℕ) × After (sheetOn s) n (searchOn s M) (suc k) (searchOn s 0))) (start-long s fine) (cut-short s M h l);
+  one-more = λ M h l. subst (λ (n : ℕ). After (sheetOn s) n (searchOn s M) 1 (searchOn s (suc M))) (start-long s fine) (one-further s M h l);
   unlimited = never-cut s;
   idle = λ M w. (
       let e = stays s M (not-worthwhile (passesOf s) (length (startOn s)) (rw (start-long s fine) w)) in
@@ -217,9 +259,11 @@ claim s room table told h =
     ap (λ (l : Left). take (contoursOf s) (l .room)) all ∙ take-at (tourOn s) (drop (length (tourOn s)) room) (contoursOf s) long in
     record {
       numbered = numbered s fine;
+      from-home = homes-at (candidatesOn s) (homeOn s);
       apart = apart s;
       starts = starts s fine;
       trials = trials s;
+      order = order s fine;
       limit = limit s fine;
       told-so = record {
         tour = ap (λ (l : Left). l .room) all ∙ ap (λ (k : ℕ). tourOn s ++ drop k room) long;

@@ -2,11 +2,11 @@
 -- defined; a move limit cuts that search after so many trials and changes nothing else; and the length told is evaluated from the tour
 -- handed out. Assumes nothing.
 use mathlib.Core.Path.{_≡_}
-use mathlib.Core.Bool.{true, false}
+use mathlib.Core.Bool.{true, false, cond}
 use mathlib.Core.Logic.{_⊎_}
 use mathlib.Core.List.{List, [], _∷_, _++_}
-use Prim.Native.Nat.{ℕ, suc, _+_, _*_, _≤_, _<_}
-use lib.Dec.{T}
+use Prim.Native.Nat.{ℕ, suc, _+_, _*_, _-_, _≤_, _<_}
+use lib.Dec.{T, eqb}
 use lib.Ieee.{Float, lt, le}
 use lib.ListN.{length, getD, set, take, drop}
 use Rattle.points.specs.Numbers.{huge}
@@ -16,16 +16,16 @@ use Rattle.candidates.specs.Direction.{directionOf}
 use Rattle.candidates.specs.Generate.{candidatesOf}
 use Rattle.fields.specs.Layout.{contoursOf, passesOf, moveLimitOf}
 use Rattle.card_laws.specs.Card.{cardOf, contourOf}
-use Rattle.table.specs.Evaluate.{distanceAt, lengthOf}
+use Rattle.table.specs.Evaluate.{homeAt, distanceAt, lengthOf}
 use Rattle.table.specs.Distances.{absent, pierced, left}
 use Rattle.table.specs.Each.{each}
 use Rattle.start.specs.Nearest.{Way, reachOf, lastOf, isOpen, step, setOut}
-use Rattle.improve.specs.Search.{State, contours, lengthIn, legal, shorter, swap, reversed, flip, begun, searched}
+use Rattle.improve.specs.Search.{State, contours, lengthIn, legal, shorter, stopped, tried, swap, turn, reversed, flip, row, fresh, pass, repeated, begun, searched}
 use Rattle.improve.specs.After.{After}
 use Rattle.solve.specs.declared.Outcome.{Outcome}
 use Rattle.solve.specs.Solve.{groundIn}
 use Rattle.tour.specs.declared.Toured.the-variants.{Done}
-use Rattle.tour.specs.Search.{candidatesOn, countOn, ownersOn, firstsOn, pairsOn, homesOn, tableOn, sheetOn, startOn}
+use Rattle.tour.specs.Search.{homeOn, candidatesOn, countOn, ownersOn, firstsOn, pairsOn, homesOn, tableOn, sheetOn, startOn}
 use Rattle.tour.specs.Tour.{tourOf}
 use Rattle.demands.specs.Demand1.{LegalOrder}
 
@@ -46,6 +46,10 @@ pub record Numbered (s : List ℕ) : Type 0 where
   pub own : (k j : ℕ) → k < contoursOf s → j < length (ownOn s k)
       → getD (candidatesOn s) (getD (firstsOn s) k 0 + j) absent ≡ getD (ownOn s k) j absent
   pub owner : (k j : ℕ) → k < contoursOf s → j < length (ownOn s k) → getD (ownersOn s) (getD (firstsOn s) k 0 + j) 0 ≡ k
+
+-- from home to candidate a's point
+abbrev pub FromHome : List ℕ → ℕ → Type 0
+FromHome s a = homeAt (homesOn s) a ≡ distanceOf (homeOn s) (pierced (getD (candidatesOn s) a absent))
 
 -- from candidate a's end point to candidate b's point; the largest float where both are of one contour
 pub record Apart (s : List ℕ) (a b : ℕ) : Type 0 where
@@ -117,25 +121,61 @@ pub record Trials (s : List ℕ) (v : State) : Type 0 where
       → Leaves (reversalOn s i j v) (v .tour) (v .cost) (suc (v .moves))
   pub reversal-illegal : (i j : ℕ) → legal (sheetOn s) (reversed i j (v .tour)) ≡ false → Leaves (reversalOn s i j v) (v .tour) (v .cost) (suc (v .moves))
 
--- ---- the limit
+-- ---- the order of the trials, with a limit of M; 0 is none
 
--- the search of the card with a limit; 0 is none
-abbrev pub searchOn : List ℕ → ℕ → State
-searchOn s limit = searched (sheetOn s) (passesOf s) limit (startOn s)
+-- the turn of position p, the reversals that begin after position i, a pass, and at most k passes
+abbrev pub turnOn : List ℕ → ℕ → ℕ → State → State
+turnOn s M p v = turn (longOn s) (ownersOn s) (firstsOn s) M p v
 
--- the state in which a search begins: the start, and its length
+abbrev pub rowOn : List ℕ → ℕ → ℕ → State → State
+rowOn s M i v = row (longOn s) (legal (sheetOn s)) M (contoursOf s) i v
+
+abbrev pub passOn : List ℕ → ℕ → State → State
+passOn s M v = pass (sheetOn s) M (contoursOf s) v
+
+abbrev pub passesOn : List ℕ → ℕ → ℕ → State → State
+passesOn s M k v = repeated (sheetOn s) M (contoursOf s) k v
+
+-- the state in which a search begins, the start and its length; and the one in which it ends
 abbrev pub begunOn : List ℕ → State
 begunOn s = begun (sheetOn s) (startOn s)
+
+abbrev pub searchOn : List ℕ → ℕ → State
+searchOn s M = searched (sheetOn s) (passesOf s) M (startOn s)
+
+-- a trial begins if the search has not ended and the limit allows one more; where it does not, the search ends
+pub record Begins (M : ℕ) (trial : State → State) (v : State) : Type 0 where
+  pub made : v .cut ≡ false → (M ≡ 0) ⊎ (v .moves < M) → tried M trial v ≡ trial v
+  pub ended : v .cut ≡ false → 0 < M → M ≤ v .moves → tried M trial v ≡ stopped v
+  pub over : v .cut ≡ true → tried M trial v ≡ v
+
+-- a turn tries the candidates of the contour that its position holds, one after the other, but for the one that it holds; a row reverses
+-- i+1..j for each j from i+2 on; a pass has every position's turn and then every row. Passes follow each other while the last accepted
+-- something, the limit has not ended the search, and one is left; with three contours or more that is the search
+pub record Order (s : List ℕ) (M : ℕ) : Type 0 where
+  pub begins : (trial : State → State) (v : State) → Begins M trial v
+  pub turns : (p : ℕ) (v : State)
+      → let held = getD (v .tour) p 0 in
+        let k = getD (ownersOn s) held 0 in
+        let from = getD (firstsOn s) k 0 in
+        turnOn s M p v ≡ each (λ a u. cond (eqb a held) u (tried M (otherOn s p held a) u)) (getD (firstsOn s) (suc k) 0 - from) from v
+  pub rows : (i : ℕ) (v : State) → rowOn s M i v ≡ each (λ j. tried M (reversalOn s i j)) (contoursOf s - (i + 2)) (i + 2) v
+  pub passes : (v : State) → passOn s M v ≡ each (rowOn s M) (contoursOf s - 1) 0 (each (turnOn s M) (contoursOf s) 0 (fresh v))
+  pub another : (k : ℕ) (v : State) → v .better ≡ true → v .cut ≡ false → passesOn s M (suc k) v ≡ passesOn s M k (passOn s M v)
+  pub no-other : (k : ℕ) (v : State) → (k ≡ 0) ⊎ ((v .better ≡ false) ⊎ (v .cut ≡ true)) → passesOn s M k v ≡ v
+  pub search : 3 ≤ contoursOf s → searchOn s M ≡ passesOn s M (passesOf s) (begunOn s)
+
+-- ---- the limit
 
 -- the trials counted were made, from the start on. A limit that the search does not need changes nothing; another cuts it after exactly so
 -- many trials, a limit higher by one lets it make one trial more, and without a limit it goes on from there and is never cut. Where no pass
 -- is allowed or there are fewer than three contours, it stays at the start and makes no trial
 pub record Cut (s : List ℕ) : Type 0 where
-  pub made : (M : ℕ) → After (sheetOn s) (begunOn s) (searchOn s M .moves) (searchOn s M)
+  pub made : (M : ℕ) → After (sheetOn s) (contoursOf s) (begunOn s) (searchOn s M .moves) (searchOn s M)
   pub enough : (M : ℕ) → searchOn s 0 .moves ≤ M → searchOn s M ≡ searchOn s 0
   pub cut : (M : ℕ) → 0 < M → M < searchOn s 0 .moves
-      → (searchOn s M .moves ≡ M) × ((k : ℕ) × After (sheetOn s) (searchOn s M) (suc k) (searchOn s 0))
-  pub one-more : (M : ℕ) → 0 < M → M < searchOn s 0 .moves → After (sheetOn s) (searchOn s M) 1 (searchOn s (suc M))
+      → (searchOn s M .moves ≡ M) × ((k : ℕ) × After (sheetOn s) (contoursOf s) (searchOn s M) (suc k) (searchOn s 0))
+  pub one-more : (M : ℕ) → 0 < M → M < searchOn s 0 .moves → After (sheetOn s) (contoursOf s) (searchOn s M) 1 (searchOn s (suc M))
   pub unlimited : searchOn s 0 .cut ≡ false
   pub idle : (M : ℕ) → (passesOf s ≡ 0) ⊎ (contoursOf s < 3) → (searchOn s M .tour ≡ startOn s) × (searchOn s M .moves ≡ 0)
 
@@ -152,9 +192,11 @@ pub record Told (s room : List ℕ) (table : List Float) (told : Outcome) : Type
 
 pub record Follows (s room : List ℕ) (table : List Float) (told : Outcome) : Type 0 where
   pub numbered : Numbered s
+  pub from-home : (a : ℕ) → a < countOn s → FromHome s a
   pub apart : (a b : ℕ) → a < countOn s → b < countOn s → Apart s a b
   pub starts : Starts s
   pub trials : (v : State) → Trials s v
+  pub order : (M : ℕ) → Order s M
   pub limit : Cut s
   pub told-so : Told s room table told
 

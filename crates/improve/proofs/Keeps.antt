@@ -10,17 +10,13 @@ use lib.Seq.{set-getD}
 use Rattle.table.proofs.EachLaws.{each-keeps}
 use Rattle.table.specs.Each.{each}
 use Rattle.improve.specs.Search.{Sheet, State, lengthIn, contourOf, legal, atLimit, stopped, tried, givenBack, swap, alternative, turn, flip, reversal, row, fresh, pass, repeated, begun, worthwhile, searched}
+use Rattle.improve.specs.After.{Offers}
 
 -- ---- what is asked of a property
 
 -- a search with another tour: the one that a rejected candidate gives back
 abbrev pub backed : ℕ → ℕ → State → State
 backed p held s = record { tour = givenBack p held (s .tour); cost = s .cost; better = s .better; moves = s .moves; cut = s .cut }
-
--- candidate a is one of the contour of the candidate held
-pub record Offers (owner first : List ℕ) (held a : ℕ) : Type 0 where
-  pub from : getD first (contourOf owner held) 0 ≤ a
-  pub to : a < getD first (suc (contourOf owner held)) 0
 
 -- a trial may begin
 pub record May (limit : ℕ) (s : State) : Type 0 where

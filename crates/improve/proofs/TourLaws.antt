@@ -13,7 +13,8 @@ use Rattle.bytes.proofs.Laws.{rev-append}
 use Rattle.bytes.specs.Bytes.{rev}
 use Rattle.keep.specs.Keep.{keepsPairs}
 use Rattle.improve.specs.Search.{Sheet, State, lengthIn, contourOf, contours, legal, shorter, judged, atLimit, swap, turned, reversed, flip, searched}
-use Rattle.improve.proofs.Keeps.{Offers, Keeps, search-keeps}
+use Rattle.improve.specs.After.{Offers}
+use Rattle.improve.proofs.Keeps.{Keeps, search-keeps}
 use Rattle.improve.proofs.ReversalLaws.{Parts, parts, turned-parts, length-turned}
 
 -- ---- properties of the tour alone
