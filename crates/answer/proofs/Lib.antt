@@ -1,2 +1,3 @@
 pub mod StageLaws
 pub mod LowestLaws
+pub mod CodeLaws

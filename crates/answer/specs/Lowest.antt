@@ -1,4 +1,4 @@
--- The lowest place at which a test holds. Assumes nothing.
+-- The lowest place at which a test holds, and what is refused there. Assumes nothing.
 use mathlib.Core.Bool.{Bool, true, false}
 use Prim.Native.Nat.{ℕ, zero, suc}
 use Rattle.answer.specs.declared.Found.{Found}
@@ -25,3 +25,8 @@ lowest test n = lowestFrom test 0 n
 abbrev pub refuseAt : ℕ → Found → Check
 refuseAt number (At k) = Refused (record { number = number; place = k })
 refuseAt number Absent = Fine
+
+-- refused with this number and place where the test holds
+abbrev pub refuseIf : Bool → ℕ → ℕ → Check
+refuseIf true number place = Refused (record { number = number; place = place })
+refuseIf false number place = Fine

@@ -47,7 +47,8 @@ pub enum CutDirectionPreference {
     Auto,
 }
 
-// A check as the one number that a host is handed: 0, or the refusal's number times 2^32 plus its place.
+// A check as the one number that a host is handed: 0, or the refusal's number times 2^32 plus its place, which is shown as
+// 2^32 - 1 where it is larger.
 pub fn code(c: Check) -> u64
     ensures { λ r. ⌜ r ≡ codeOf c ⌝ }
 {

@@ -9,10 +9,10 @@ use Rattle.answer.specs.declared.Check.{Check}
 use Rattle.answer.specs.declared.Check.the-variants.{Fine, Refused}
 use Rattle.answer.specs.declared.ContourType.{ContourType}
 use Rattle.answer.specs.declared.CutDirectionPreference.{CutDirectionPreference}
-use Rattle.answer.specs.Lowest.{refuseAt}
+use Rattle.answer.specs.Lowest.{refuseAt, refuseIf}
 use Rattle.answer.specs.Stage.{firstRefusal}
 use Rattle.points.specs.Points.{points}
-use Rattle.points.specs.Bad.{firstBad, refuseIf}
+use Rattle.points.specs.Bad.{firstBad}
 use Rattle.candidates.specs.declared.Candidates.{Candidates}
 use Rattle.candidates.specs.declared.Offered.{Offered}
 use Rattle.candidates.specs.Direction.{directionOf}

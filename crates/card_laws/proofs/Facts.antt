@@ -24,7 +24,7 @@ use Rattle.card.specs.Verdict.{checkOf}
 use Rattle.card_laws.specs.Table.{No, Row1, Row4, Row5, Row6, Row8, Row9, Row10, Row11, Row12, BadField, contours, pairs, candidates, passes, exterior, interior, all-candidates, BadContour, few-vertices, many-vertices, no-type, FarCoordinate, at-home, at-vertex, OtherTag, Sound}
 use Rattle.card_laws.specs.Card.{Contour, Pair, each, contourOf, pairOf, cardOf, Names, Accepted}
 use Rattle.card_laws.proofs.ExactLaws.{false-unless}
-use Rattle.card_laws.proofs.RowLaws.{no-bad-field, no-bad-contour}
+use Rattle.card_laws.proofs.RowLaws.{due-blocks, no-bad-field, no-bad-contour}
 use Rattle.card_laws.proofs.FarRow.{no-far}
 use Rattle.card_laws.proofs.PairRows.{same-contour, before-has, after-has, no-other-tag, no-cycle}
 use Rattle.card_laws.proofs.Verdicts.{exactly}
@@ -76,7 +76,7 @@ module _ (s : List ℕ) (sound : Sound s) where
 
   whole-length : length s ≡ blockBytes * blocksDue s
   whole-length =
-      let blocks : blocksOf s ≡ blocksDue s = must-be (blocksOf s) (blocksDue s) (λ d. row5 (blocksOf s) (record { differs = d; told = refl })) in
+      let blocks : blocksOf s ≡ blocksDue s = must-be (blocksOf s) (blocksDue s) (λ d. row5 (blocksOf s) (record { differs = λ p w e. d (due-blocks s p w e); told = refl })) in
       let rest : length s % blockBytes ≡ 0 = must-be (length s % blockBytes) 0 (λ d. row1 _ (record { cause = inr (inl d); told = refl })) in
       rw (← blocks) (omega arith)
 
@@ -128,7 +128,7 @@ module _ (s : List ℕ) (sound : Sound s) where
         ids-differ = λ j k hj hk e. same-contour s row9 (idOf s k) j k (record { is-contour = hj; same = e }) (record { is-contour = hk; same = refl });
         before-named = before-names;
         after-named = after-names;
-        acyclic = no-cycle s row12;
+        acyclic = no-cycle s row9 row10 row12;
       }
 
 pub accepted : (s : List ℕ) → checkOf s ≡ Fine → Accepted s

@@ -2,6 +2,7 @@ pub mod ExactLaws
 pub mod RowLaws
 pub mod FarNumber
 pub mod FarRow
+pub mod LinkLaws
 pub mod PairRows
 pub mod Verdicts
 pub mod Facts

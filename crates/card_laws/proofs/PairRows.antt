@@ -1,30 +1,34 @@
 -- Rows 7, 10, 11 and 12 of the table. Assumes nothing.
 use mathlib.Core.Path.{_≡_, refl, sym, ap, _∙_, subst}
 use mathlib.Core.Logic.{_⊎_, inl, inr}
-use mathlib.Core.Bool.{Bool, true, false, not}
+use mathlib.Core.Bool.{Bool, true, false, not, _&&_}
 use mathlib.Core.List.{List}
-use Prim.Native.Nat.{ℕ, zero, _+_, _-_, _≤_, _<_, min}
+use Prim.Native.Nat.{ℕ, zero, suc, _+_, _*_, _-_, _≤_, _<_, min}
 use native.Mathlib.Nat.{add-assoc}
 use native.Mathlib.Omega.{arith}
 use lib.Dec.{eqb, ltb}
-use borrow.Author.Tests.{eqb-true, eq-eqb, not-false, ltb-true, ltb-false}
+use borrow.Author.Tests.{eqb-true, eq-eqb, not-false, ltb-true, ltb-false, lt-ltb}
 use Rattle.answer.specs.declared.Found.{Found}
 use Rattle.answer.specs.declared.Found.the-variants.{At, Absent}
 use Rattle.answer.specs.Lowest.{lowest}
 use Rattle.answer.proofs.LowestLaws.{is-at, is-absent}
 use Rattle.block.specs.Field.{byteAt}
 use Rattle.block.specs.Block.{zerosAt}
-use Rattle.block.proofs.Readings.{zeros-each, each-zeros}
+use Rattle.block.proofs.Readings.{zeros-each, each-zeros, and-second, and-both}
 use Rattle.closure.specs.Limits.{CONTOURS}
-use Rattle.closure.specs.Cycle.{onCycle}
+use Rattle.closure.specs.Cycle.{linked, onCycle, Reaches, step, onward}
+use Rattle.closure.specs.Pairs.{paired, someOf, isPair}
+use Rattle.closure.proofs.PairLaws.{lt-or}
 use Rattle.closure.proofs.PathLaws.{cycle-exactly}
-use Rattle.fields.specs.Limits.{payloadBytes}
-use Rattle.fields.specs.Layout.{blocksOf, payload, contoursOf, pairsOf, idOf, tagOf, beforeIdOf, beforeTagOf, afterIdOf, afterTagOf}
-use Rattle.card.specs.Stages.{isAt, usedIn, badSpare, spareFault, seekOf, positionOf, unnamed, nameFault, seat, beforeOf, afterOf, otherTag, tagFault}
+use Rattle.fields.specs.Limits.{pairsABlock, payloadBytes}
+use Rattle.fields.specs.Layout.{blocksOf, payload, contoursOf, pairsOf, idOf, tagOf, vertexCountOf, beforeIdOf, beforeTagOf, afterIdOf, afterTagOf}
+use Rattle.card.specs.Stages.{isAt, pairsIn, usedIn, badSpare, spareFault, seekOf, positionOf, unnamed, nameFault, seat, beforeOf, afterOf, otherTag, tagFault}
 use Rattle.card.specs.Names.{seatsOf}
 use Rattle.card.specs.Verdict.{cycleFault}
-use Rattle.card_laws.specs.Table.{Lowest, SpareByte, Row7, Row9, Has, Unnamed, Row10, OtherTag, Row11, OnCycle, Row12, No}
+use Rattle.card.proofs.SpareLaws.{used-head, used-contour, used-pairs}
+use Rattle.card_laws.specs.Table.{Lowest, Spare, in-head, in-contour, past-last-pair, past-full-block, SpareByte, Row7, Row9, Has, Unnamed, Row10, OtherTag, Row11, Precedes, Leads, at-once, OnCycle, Row12, No}
 use Rattle.card_laws.proofs.RowLaws.{no-repeat}
+use Rattle.card_laws.proofs.LinkLaws.{found-pair, pair-found}
 use Rattle.card_laws.proofs.ExactLaws.{Exact, never, either-of, first-of, second-of, not-so, so-not, lowest-exact, nowhere}
 
 -- one is below the other, or they are the same
@@ -38,6 +42,40 @@ order j k = go (ltb j k) (ltb k j) refl refl
 
 module _ (s : List ℕ) where
   -- ---- 7
+
+  -- a byte is spare exactly if it is behind the bytes in use
+  behind-used : (b offset : ℕ) → usedIn s b ≤ offset → Spare s b offset
+  behind-used b offset h = go (lt-or 0 b) (lt-or (contoursOf s) b)
+    where
+      pairs-part : (i : ℕ) → b ≡ suc (contoursOf s + i) → 16 * min pairsABlock (pairsOf s - pairsABlock * i) ≤ offset → Spare s b offset
+      pairs-part i e g = split (lt-or pairsABlock (pairsOf s - pairsABlock * i))
+        where
+          split : (pairsABlock < pairsOf s - pairsABlock * i) ⊎ (pairsOf s - pairsABlock * i ≤ pairsABlock) → Spare s b offset
+          split (inl l) = past-full-block i e (omega arith)
+          split (inr l) = past-last-pair i e (omega arith)
+
+      go : (0 < b) ⊎ (b ≤ 0) → (contoursOf s < b) ⊎ (b ≤ contoursOf s) → Spare s b offset
+      go (inl z) (inl l) =
+          let u : 16 * pairsIn s b ≡ usedIn s b = used-pairs s b (λ e. omega arith) _ l refl in
+          pairs-part (b - (contoursOf s + 1)) (omega arith) (omega arith)
+      go (inl z) (inr l) =
+          let u : 12 + 16 * vertexCountOf s (b - 1) ≡ usedIn s b = used-contour s b (λ e. omega arith) _ l refl in
+          in-contour (b - 1) (omega arith) (omega arith) (omega arith)
+      go (inr z) w = let e : b ≡ 0 = omega arith in let u = used-head s b e in in-head e (omega arith)
+
+  used-behind : (b offset : ℕ) → Spare s b offset → usedIn s b ≤ offset
+  used-behind b offset (in-head e h) = let u = used-head s b e in omega arith
+  used-behind b offset (in-contour k l e h) =
+      let v : vertexCountOf s k ≡ vertexCountOf s (b - 1) = ap (vertexCountOf s) (let i : k ≡ b - 1 = omega arith in i) in
+      let u : 12 + 16 * vertexCountOf s k ≡ usedIn s b = used-contour s b (λ z. omega arith) _ (omega arith) v in
+      omega arith
+  used-behind b offset (past-last-pair i e h) =
+      let k : b - (contoursOf s + 1) ≡ i = omega arith in
+      let u : 16 * pairsIn s b ≡ usedIn s b = used-pairs s b (λ z. omega arith) _ (omega arith) refl in
+      omega arith
+  used-behind b offset (past-full-block i e h) =
+      let u : 16 * pairsIn s b ≡ usedIn s b = used-pairs s b (λ z. omega arith) _ (omega arith) refl in
+      omega arith
 
   spare-byte : (b : ℕ) → badSpare s b ≡ true → SpareByte s b
   spare-byte b e = go (lowest some count) refl
@@ -53,7 +91,7 @@ module _ (s : List ℕ) where
           let w = is-at some count i h in
           record {
             offset = usedIn s b + i;
-            behind = omega arith;
+            behind = behind-used b (usedIn s b + i) (omega arith);
             inside = omega (arith, w .within);
             some = λ z. not-so (eqb (byteAt s (payload b + usedIn s b + i)) 0) (w .holds) (eq-eqb _ _ (ap (byteAt s) (add-assoc (payload b) (usedIn s b) i) ∙ z));
           }
@@ -65,9 +103,10 @@ module _ (s : List ℕ) where
   byte-spare : (b : ℕ) → SpareByte s b → badSpare s b ≡ true
   byte-spare b r =
       let u = usedIn s b in
+      let behind = used-behind b (r .offset) (r .behind) in
       so-not (zerosAt s (payload b + u) (payloadBytes - u)) (λ t.
-      let e : byteAt s (payload b + u + (r .offset - u)) ≡ 0 = zeros-each s (payload b + u) (payloadBytes - u) t (r .offset - u) (omega (arith, r .behind, r .inside)) in
-      let g : payload b + u + (r .offset - u) ≡ payload b + r .offset = omega (arith, r .behind) in
+      let e : byteAt s (payload b + u + (r .offset - u)) ≡ 0 = zeros-each s (payload b + u) (payloadBytes - u) t (r .offset - u) (omega (arith, behind, r .inside)) in
+      let g : payload b + u + (r .offset - u) ≡ payload b + r .offset = omega (arith, behind) in
       r .some (ap (byteAt s) (sym g) ∙ e))
 
   pub exact7 : Exact (spareFault s) (Row7 s)
@@ -180,15 +219,53 @@ module _ (s : List ℕ) where
     pub no-other-tag : No (Row11 s) → (q : ℕ) → q < pairsOf s → OtherTag s q → ⊥
     no-other-tag = nowhere (otherTag s) (pairsOf s) (OtherTag s) other-tag tag-other
 
-  -- ---- 12, once there are no more contours than the closure takes
+    -- ---- 12, once there are no more contours than the closure takes
 
-  pub exact12 : contoursOf s ≤ CONTOURS → Exact (cycleFault s) (Row12 s)
-  unfolding cycleFault
-  exact12 few =
-      let e : min (contoursOf s) CONTOURS ≡ contoursOf s = omega arith in
-      rw e (lowest-exact (onCycle (contoursOf s) (seatsOf s (pairsOf s))) (contoursOf s) (OnCycle s)
-      (λ k h. cycle-exactly (contoursOf s) (seatsOf s (pairsOf s)) k .0) (λ k h. cycle-exactly (contoursOf s) (seatsOf s (pairsOf s)) k .1))
+    link-precedes : (i j : ℕ) → linked (contoursOf s) (seatsOf s (pairsOf s)) i j ≡ true → Precedes s i j
+    unfolding linked
+    link-precedes i j e =
+        let some = someOf (isPair i j) (paired (seatsOf s (pairsOf s))) in
+        let b = found-pair s i j (pairsOf s) (and-second (ltb j (contoursOf s)) some (and-second (ltb i (contoursOf s)) (ltb j (contoursOf s) && some) e)) in
+        record {
+          pair = b .pair;
+          is-pair = b .is-pair;
+          first = subst (Has s (beforeIdOf s (b .pair))) (b .first) (before-has (b .pair) (b .is-pair));
+          second = subst (Has s (afterIdOf s (b .pair))) (b .second) (after-has (b .pair) (b .is-pair));
+        }
 
-  pub no-cycle : No (Row12 s) → (k : ℕ) → k < contoursOf s → OnCycle s k → ⊥
-  no-cycle = nowhere (onCycle (contoursOf s) (seatsOf s (pairsOf s))) (contoursOf s) (OnCycle s)
-      (λ k h. cycle-exactly (contoursOf s) (seatsOf s (pairsOf s)) k .0) (λ k h. cycle-exactly (contoursOf s) (seatsOf s (pairsOf s)) k .1)
+    precedes-link : (i j : ℕ) → Precedes s i j → linked (contoursOf s) (seatsOf s (pairsOf s)) i j ≡ true
+    unfolding linked
+    precedes-link i j b =
+        let q = b .pair in
+        and-both _ _ (lt-ltb i (contoursOf s) (b .first .is-contour))
+        (and-both _ _ (lt-ltb j (contoursOf s) (b .second .is-contour))
+        (pair-found s i j (pairsOf s)
+        (record {
+          pair = q;
+          is-pair = b .is-pair;
+          first = same-contour unique (beforeIdOf s q) (beforeOf s q) i (before-has q (b .is-pair)) (b .first);
+          second = same-contour unique (afterIdOf s q) (afterOf s q) j (after-has q (b .is-pair)) (b .second);
+        })))
+
+    reach-leads : {i j : ℕ} → Reaches (linked (contoursOf s) (seatsOf s (pairsOf s))) i j → Leads s i j
+    reach-leads (step e) = at-once (link-precedes _ _ e)
+    reach-leads (onward e r) = Leads.onward (link-precedes _ _ e) (reach-leads r)
+
+    pub leads-reach : {i j : ℕ} → Leads s i j → Reaches (linked (contoursOf s) (seatsOf s (pairsOf s))) i j
+    leads-reach (at-once b) = step (precedes-link _ _ b)
+    leads-reach (Leads.onward b l) = onward (precedes-link _ _ b) (leads-reach l)
+
+    pub cycle-row : (k : ℕ) → k < contoursOf s → onCycle (contoursOf s) (seatsOf s (pairsOf s)) k ≡ true → OnCycle s k
+    cycle-row k h e = reach-leads (cycle-exactly (contoursOf s) (seatsOf s (pairsOf s)) k .0 e)
+
+    pub row-cycle : (k : ℕ) → k < contoursOf s → OnCycle s k → onCycle (contoursOf s) (seatsOf s (pairsOf s)) k ≡ true
+    row-cycle k h l = cycle-exactly (contoursOf s) (seatsOf s (pairsOf s)) k .1 (leads-reach l)
+
+    pub exact12 : contoursOf s ≤ CONTOURS → Exact (cycleFault s) (Row12 s)
+    unfolding cycleFault
+    exact12 few =
+        let e : min (contoursOf s) CONTOURS ≡ contoursOf s = omega arith in
+        rw e (lowest-exact (onCycle (contoursOf s) (seatsOf s (pairsOf s))) (contoursOf s) (OnCycle s) cycle-row row-cycle)
+
+    pub no-cycle : No (Row12 s) → (k : ℕ) → k < contoursOf s → Reaches (linked (contoursOf s) (seatsOf s (pairsOf s))) k k → ⊥
+    no-cycle none k h r = nowhere (onCycle (contoursOf s) (seatsOf s (pairsOf s))) (contoursOf s) (OnCycle s) cycle-row row-cycle none k h (reach-leads r)

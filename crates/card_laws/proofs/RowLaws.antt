@@ -1,9 +1,10 @@
 -- Each stage's search tells exactly what its row of the table says. Assumes nothing.
-use mathlib.Core.Path.{_≡_, refl, sym, ap, _∙_}
+use mathlib.Core.Path.{_≡_, refl, sym, ap, _∙_, subst}
 use mathlib.Core.Logic.{_⊎_, inl, inr}
 use mathlib.Core.Bool.{Bool, true, false, not, _||_}
 use mathlib.Core.List.{List}
-use Prim.Native.Nat.{ℕ, zero, suc, _+_, _*_, _-_, _%_, _<_, min}
+use Prim.Native.Nat.{ℕ, zero, suc, _+_, _*_, _-_, _/_, _%_, _≤_, _<_, min}
+use native.Mathlib.Omega.{arith}
 use lib.Dec.{eqb, ltb}
 use lib.ListN.{length, getD}
 use borrow.Author.Tests.{ltb-true, lt-ltb, eqb-true, eq-eqb}
@@ -14,10 +15,12 @@ use Rattle.answer.proofs.LowestLaws.{is-at, is-absent}
 use Rattle.block.specs.Field.{u32At}
 use Rattle.block.specs.Block.{blockBytes, checkPlace, checkAt, checked, starts, Due}
 use Rattle.block.proofs.Readings.{due-is, is-due}
-use Rattle.fields.specs.Limits.{cardBytes, perContourLimit, vertexLimit}
-use Rattle.fields.specs.Layout.{blocksOf, contoursOf, perContourOf, idOf, vertexCountOf, typeOf, fillerOf}
+use Rattle.closure.proofs.PairLaws.{lt-or}
+use Rattle.fields.specs.Limits.{cardBytes, perContourLimit, vertexLimit, pairsABlock}
+use Rattle.fields.specs.Layout.{blocksOf, contoursOf, pairsOf, perContourOf, idOf, vertexCountOf, typeOf, fillerOf}
 use Rattle.card.specs.Stages.{outside, badLength, lengthFault, checkFault, kindDue, startFault, headFaults, headFault, blocksDue, countFault, badContour, contourFault, seekOf, repeats, repeatFault, isAt}
-use Rattle.card_laws.specs.Table.{Lowest, Row1, CheckDiffers, Row2, StartsOtherwise, Row3, BadField, contours, pairs, candidates, passes, exterior, interior, all-candidates, Row4, Row5, BadContour, few-vertices, many-vertices, no-type, byte-eleven, Row6, Repeated, Row9, No}
+use Rattle.card.proofs.FaultLaws.{kind-head, kind-contour, kind-pairs}
+use Rattle.card_laws.specs.Table.{Lowest, Row1, CheckDiffers, Row2, Kind, of-head, of-contour, of-pairs, StartsOtherwise, Row3, BadField, contours, pairs, candidates, passes, exterior, interior, all-candidates, Row4, PairBlocks, Row5, BadContour, few-vertices, many-vertices, no-type, byte-eleven, Row6, Repeated, Row9, No}
 use Rattle.card_laws.proofs.ExactLaws.{Exact, never, either-of, first-of, second-of, not-so, so-not, lowest-exact, if-exact, nowhere}
 
 -- ---- below the least or above the most
@@ -70,12 +73,28 @@ module _ (s : List ℕ) where
 
   -- ---- 3
 
+  -- the kind due is the block's kind, and there is no other
+  kind-is : (b kind : ℕ) → Kind s b kind → kind ≡ kindDue s b
+  kind-is b kind (of-head e) = kind-head s b e
+  kind-is b kind (of-contour z h) = kind-contour s b (λ e. omega arith) h
+  kind-is b kind (of-pairs h) = kind-pairs s b (λ e. omega arith) h
+
+  due-kind : (b : ℕ) → Kind s b (kindDue s b)
+  due-kind b = go (lt-or 0 b) (lt-or (contoursOf s) b)
+    where
+      go : (0 < b) ⊎ (b ≤ 0) → (contoursOf s < b) ⊎ (b ≤ contoursOf s) → Kind s b (kindDue s b)
+      go (inl z) (inl h) = subst (Kind s b) (kind-pairs s b (λ e. omega arith) h) (of-pairs h)
+      go (inl z) (inr h) = subst (Kind s b) (kind-contour s b (λ e. omega arith) h) (of-contour z h)
+      go (inr z) w = let e : b ≡ 0 = omega arith in subst (Kind s b) (kind-head s b e) (of-head e)
+
   pub exact3 : (count : ℕ) → Exact (startFault s count) (Row3 s count)
   unfolding startFault
   exact3 count =
       lowest-exact _ count (StartsOtherwise s)
-      (λ b h t d. not-so (starts s (blockBytes * b) (kindDue s b) 1 b) t (is-due s (blockBytes * b) (kindDue s b) 1 b d))
-      (λ b h d. so-not (starts s (blockBytes * b) (kindDue s b) 1 b) (λ t. d (due-is s (blockBytes * b) (kindDue s b) 1 b t)))
+      (λ b h t kind k d.
+      not-so (starts s (blockBytes * b) (kindDue s b) 1 b) t
+      (is-due s (blockBytes * b) (kindDue s b) 1 b (subst (λ (x : ℕ). Due s (blockBytes * b) x 1 b) (kind-is b kind k) d)))
+      (λ b h d. so-not (starts s (blockBytes * b) (kindDue s b) 1 b) (λ t. d (kindDue s b) (due-kind b) (due-is s (blockBytes * b) (kindDue s b) 1 b t)))
 
   -- ---- 4
 
@@ -105,12 +124,19 @@ module _ (s : List ℕ) where
 
   -- ---- 5
 
+  -- the blocks due hold the pairs, and no other number of blocks does
+  pub blocks-hold : PairBlocks s ((pairsOf s + (pairsABlock - 1)) / pairsABlock)
+  blocks-hold = record { enough = omega arith; no-more = omega arith }
+
+  pub due-blocks : (p : ℕ) → PairBlocks s p → blocksOf s ≡ 1 + contoursOf s + p → blocksOf s ≡ blocksDue s
+  due-blocks p w e = omega (arith, w .enough, w .no-more)
+
   pub exact5 : Exact (countFault s) (Row5 s)
   unfolding countFault
   exact5 =
       if-exact (not (eqb (blocksOf s) (blocksDue s))) (blocksOf s) (Row5 s)
-      (λ t. record { differs = λ e. not-so (eqb (blocksOf s) (blocksDue s)) t (eq-eqb _ _ e); told = refl })
-      (λ p r. (so-not (eqb (blocksOf s) (blocksDue s)) (λ t. r .differs (eqb-true _ _ t)), r .told))
+      (λ t. record { differs = λ p w e. not-so (eqb (blocksOf s) (blocksDue s)) t (eq-eqb _ _ (due-blocks p w e)); told = refl })
+      (λ p r. (so-not (eqb (blocksOf s) (blocksDue s)) (λ t. r .differs _ blocks-hold (eqb-true _ _ t)), r .told))
 
   -- ---- 6
 

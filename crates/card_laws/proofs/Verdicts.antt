@@ -70,6 +70,9 @@ module _ (s : List ℕ) where
   tags : Past10 s → Exact (tagFault s) (Row11 s)
   tags past = exact11 s (past .0 .1) (past .1)
 
+  cycles : Past11 s → Exact (cycleFault s) (Row12 s)
+  cycles past = exact12 s (past .0 .0 .1) (past .0 .1) (few-by-11 past)
+
   -- ---- past the rows up to one, the verdict is what the stages behind it say
 
   past1 : Past1 s → checkOf s ≡ firstRefusal from2
@@ -111,7 +114,7 @@ module _ (s : List ℕ) where
 
   sound-is-fine : Sound s → checkOf s ≡ Fine
   unfolding firstRefusal
-  sound-is-fine sound = past11 (sound .0) ∙ on 12 (cycleFault s) (Row12 s) (exact12 s (few-by-11 (sound .0))) [] (sound .1)
+  sound-is-fine sound = past11 (sound .0) ∙ on 12 (cycleFault s) (Row12 s) (cycles (sound .0)) [] (sound .1)
 
   -- ---- what is given is what the verdict tells
 
@@ -129,13 +132,13 @@ module _ (s : List ℕ) where
   given-is number place (nine past row) = past8 past ∙ stop 9 (repeatFault s) (Row9 s) (exact9 s) from10 place row
   given-is number place (ten past row) = past9 past ∙ stop 10 (nameFault s) (Row10 s) (exact10 s) from11 place row
   given-is number place (eleven past row) = past10 past ∙ stop 11 (tagFault s) (Row11 s) (tags past) from12 place row
-  given-is number place (twelve past row) = past11 past ∙ stop 12 (cycleFault s) (Row12 s) (exact12 s (few-by-11 past)) [] place row
+  given-is number place (twelve past row) = past11 past ∙ stop 12 (cycleFault s) (Row12 s) (cycles past) [] place row
 
   -- ---- what the verdict tells is given
 
   told-12 : Past11 s → (r : Refusal) → firstRefusal from12 ≡ Refused r → Given s (r .number) (r .place)
   unfolding firstRefusal
-  told-12 past = in-turn 12 (cycleFault s) (Row12 s) (exact12 s (few-by-11 past)) [] (Given s) (λ p row. twelve past row) (λ none r e. let z : _≡_ {A = ℕ} 0 1 = cc in absurd (omega arith))
+  told-12 past = in-turn 12 (cycleFault s) (Row12 s) (cycles past) [] (Given s) (λ p row. twelve past row) (λ none r e. let z : _≡_ {A = ℕ} 0 1 = cc in absurd (omega arith))
 
   told-11 : Past10 s → (r : Refusal) → firstRefusal from11 ≡ Refused r → Given s (r .number) (r .place)
   told-11 past = in-turn 11 (tagFault s) (Row11 s) (tags past) from12 (Given s) (λ p row. eleven past row) (λ none. told-12 (past, none))
@@ -214,7 +217,7 @@ module _ (s : List ℕ) where
   fine11 e = (fine10 e, none-here 11 (tagFault s) (Row11 s) (tags (fine10 e)) from12 (sym (past10 (fine10 e)) ∙ e))
 
   fine-sound : checkOf s ≡ Fine → Sound s
-  fine-sound e = (fine11 e, none-here 12 (cycleFault s) (Row12 s) (exact12 s (few-by-11 (fine11 e))) [] (sym (past11 (fine11 e)) ∙ e))
+  fine-sound e = (fine11 e, none-here 12 (cycleFault s) (Row12 s) (cycles (fine11 e)) [] (sym (past11 (fine11 e)) ∙ e))
 
 pub exactly : (s : List ℕ) → Exactly s
 exactly s =

@@ -1,10 +1,10 @@
--- When a card goes back, in the words of the table: a row holds at a place, and of several rows the first is given. Nothing here computes;
--- the verdict that does is said to be this one in `Exactly`. Assumes nothing.
+-- When a card goes back, in the words of the table: a row holds at a place, and of several rows the first is given. The rows name fields and
+-- numbers only and compute nothing; the verdict that does is said to be this one in `Exactly`. Assumes nothing.
 use mathlib.Core.Path.{_≡_}
 use mathlib.Core.Logic.{_⊎_}
 use mathlib.Core.Bool.{true}
 use mathlib.Core.List.{List}
-use Prim.Native.Nat.{ℕ, suc, _+_, _*_, _%_, _≤_, _<_, min}
+use Prim.Native.Nat.{ℕ, suc, _+_, _*_, _-_, _%_, _≤_, _<_, min}
 use lib.ListN.{length}
 use Rattle.answer.specs.declared.Refusal.{Refusal}
 use Rattle.answer.specs.declared.Check.the-variants.{Fine, Refused}
@@ -12,12 +12,9 @@ use Rattle.block.specs.Field.{byteAt, u32At}
 use Rattle.block.specs.Block.{blockBytes, checkPlace, checkAt, Due}
 use Rattle.points.specs.Bad.{badPoint}
 use Rattle.closure.specs.Limits.{CONTOURS, PAIRS}
-use Rattle.closure.specs.Cycle.{linked, Reaches}
-use Rattle.fields.specs.Limits.{cardBytes, perContourLimit, candidateLimit, passLimit, vertexLimit, payloadBytes}
+use Rattle.fields.specs.Limits.{cardBytes, perContourLimit, candidateLimit, passLimit, vertexLimit, pairsABlock, payloadBytes}
 use Rattle.fields.specs.Layout.{blocksOf, payload, contoursOf, pairsOf, perContourOf, passesOf, homePlace, exteriorOf, interiorOf, idOf, tagOf, vertexCountOf, typeOf, fillerOf, vertexPlace, beforeIdOf, beforeTagOf, afterIdOf, afterTagOf}
 use Rattle.fields.specs.Values.{pointAt}
-use Rattle.card.specs.Stages.{kindDue, blocksDue, usedIn}
-use Rattle.card.specs.Names.{seatsOf}
 use Rattle.card.specs.Verdict.{checkOf}
 
 -- the fault is at this place, which is below n, and at none before it
@@ -40,9 +37,15 @@ CheckDiffers s b = checkAt s (blockBytes * b) ≡ u32At s (blockBytes * b + chec
 abbrev pub Row2 : List ℕ → ℕ → Type 0
 Row2 s = Lowest (blocksOf s) (CheckDiffers s)
 
+-- the kind of block b: 1 for the head, 2 for a contour, 3 for pairs
+pub data Kind (s : List ℕ) (b : ℕ) : ℕ → Type 0 where
+  of-head : b ≡ 0 → Kind s b 1
+  of-contour : 0 < b → b ≤ contoursOf s → Kind s b 2
+  of-pairs : contoursOf s < b → Kind s b 3
+
 -- 3: bytes 0 to 7 are not as due; the lowest of the first count blocks
 abbrev pub StartsOtherwise : List ℕ → ℕ → Type 0
-StartsOtherwise s b = Due s (blockBytes * b) (kindDue s b) 1 b → ⊥
+StartsOtherwise s b = (kind : ℕ) → Kind s b kind → Due s (blockBytes * b) kind 1 b → ⊥
 
 abbrev pub Row3 : List ℕ → ℕ → ℕ → Type 0
 Row3 s count = Lowest count (StartsOtherwise s)
@@ -60,9 +63,14 @@ pub data BadField (s : List ℕ) : ℕ → Type 0 where
 abbrev pub Row4 : List ℕ → ℕ → Type 0
 Row4 s = Lowest 8 (BadField s)
 
+-- so many blocks hold the m pairs, 31 to a block, and one block less would not
+pub record PairBlocks (s : List ℕ) (p : ℕ) : Type 0 where
+  pub enough : pairsOf s ≤ pairsABlock * p
+  pub no-more : pairsABlock * p < pairsOf s + pairsABlock
+
 -- 5: the blocks differ from 1 + n + ceil(m / 31); the place is their count
 pub record Row5 (s : List ℕ) (place : ℕ) : Type 0 where
-  pub differs : blocksOf s ≡ blocksDue s → ⊥
+  pub differs : (p : ℕ) → PairBlocks s p → blocksOf s ≡ 1 + contoursOf s + p → ⊥
   pub told : place ≡ blocksOf s
 
 -- 6: v is not 1 to 30, the type above 1, or byte 11 not zero; the lowest contour position
@@ -75,10 +83,18 @@ pub data BadContour (s : List ℕ) (k : ℕ) : Type 0 where
 abbrev pub Row6 : List ℕ → ℕ → Type 0
 Row6 s = Lowest (contoursOf s) (BadContour s)
 
+-- no field stands at this byte of block b's payload: the head has 34 bytes of fields, contour k 12 and 16 a vertex, and block i of pairs 16 for
+-- each pair from 31 * i on, 31 at most
+pub data Spare (s : List ℕ) (b offset : ℕ) : Type 0 where
+  in-head : b ≡ 0 → 34 ≤ offset → Spare s b offset
+  in-contour : (k : ℕ) → k < contoursOf s → b ≡ suc k → 12 + 16 * vertexCountOf s k ≤ offset → Spare s b offset
+  past-last-pair : (i : ℕ) → b ≡ suc (contoursOf s + i) → 16 * (pairsOf s - pairsABlock * i) ≤ offset → Spare s b offset
+  past-full-block : (i : ℕ) → b ≡ suc (contoursOf s + i) → 16 * pairsABlock ≤ offset → Spare s b offset
+
 -- 7: a spare payload byte is not zero; the lowest block
 pub record SpareByte (s : List ℕ) (b : ℕ) : Type 0 where
   pub offset : ℕ
-  pub behind : usedIn s b ≤ offset
+  pub behind : Spare s b offset
   pub inside : offset < payloadBytes
   pub some : byteAt s (payload b + offset) ≡ 0 → ⊥
 
@@ -123,9 +139,21 @@ pub data OtherTag (s : List ℕ) (q : ℕ) : Type 0 where
 abbrev pub Row11 : List ℕ → ℕ → Type 0
 Row11 s = Lowest (pairsOf s) (OtherTag s)
 
+-- contour i goes before contour j: a pair has the id of the one first and that of the other second
+pub record Precedes (s : List ℕ) (i j : ℕ) : Type 0 where
+  pub pair : ℕ
+  pub is-pair : pair < pairsOf s
+  pub first : Has s (beforeIdOf s pair) i
+  pub second : Has s (afterIdOf s pair) j
+
+-- contour j can be reached from contour i by pairs, one or more
+pub data Leads (s : List ℕ) : ℕ → ℕ → Type 0 where
+  at-once : {i j : ℕ} → Precedes s i j → Leads s i j
+  onward : {i k j : ℕ} → Precedes s i k → Leads s k j → Leads s i j
+
 -- 12: a contour can be reached from itself by pairs; the lowest such position
 abbrev pub OnCycle : List ℕ → ℕ → Type 0
-OnCycle s k = Reaches (linked (contoursOf s) (seatsOf s (pairsOf s))) k k
+OnCycle s k = Leads s k k
 
 abbrev pub Row12 : List ℕ → ℕ → Type 0
 Row12 s = Lowest (contoursOf s) (OnCycle s)

@@ -7,7 +7,7 @@ use lib.Ieee.{Float, binary64, add, sub, mul, div, lt}
 use Rattle.answer.specs.declared.Point.{Point}
 use Rattle.answer.specs.declared.Check.{Check}
 use Rattle.answer.specs.declared.Check.the-variants.{Fine, Refused}
-use Rattle.answer.specs.Lowest.{refuseAt}
+use Rattle.answer.specs.Lowest.{refuseAt, refuseIf}
 use Rattle.answer.specs.Stage.{firstRefusal}
 use Rattle.points.specs.declared.Ends.{Ends}
 use Rattle.cost.specs.declared.Best.{Best}
@@ -15,7 +15,7 @@ use Rattle.cost.specs.declared.Closest.{Closest}
 use Rattle.cost.specs.declared.Closest.the-variants.{At, Nowhere, Refused as Unplaced}
 use Rattle.points.specs.Numbers.{zero64, one64, tiny, huge}
 use Rattle.points.specs.Points.{points, edges}
-use Rattle.points.specs.Bad.{badPoint, firstBad, refuseIf}
+use Rattle.points.specs.Bad.{badPoint, firstBad}
 use Rattle.points.specs.Distance.{distanceSqOf}
 use Rattle.points.specs.Along.{alongOf}
 

@@ -7,7 +7,8 @@ use Rattle.answer.specs.declared.Check.the-variants.{Fine, Refused}
 use Rattle.answer.specs.Stage.{firstRefusal}
 use Rattle.cost.specs.declared.Measured.{Measured}
 use Rattle.cost.specs.declared.Measured.the-variants.{Is, Refused as Unmeasured}
-use Rattle.points.specs.Bad.{badPoint, refuseIf}
+use Rattle.answer.specs.Lowest.{refuseIf}
+use Rattle.points.specs.Bad.{badPoint}
 use Rattle.points.specs.Distance.{distanceSqOf, distanceOf}
 
 -- a length, unless the check refuses

@@ -7,12 +7,12 @@ use Rattle.answer.specs.declared.Point.{Point}
 use Rattle.answer.specs.declared.Found.{Found}
 use Rattle.answer.specs.declared.Found.the-variants.{At, Absent}
 use Rattle.answer.specs.declared.Check.{Check}
-use Rattle.answer.specs.Lowest.{refuseAt}
+use Rattle.answer.specs.Lowest.{refuseAt, refuseIf}
 use Rattle.answer.specs.Stage.{firstRefusal}
 use Rattle.points.specs.declared.Ends.{Ends}
 use Rattle.cost.specs.declared.Measured.{Measured}
 use Rattle.points.specs.Points.{points, legs}
-use Rattle.points.specs.Bad.{badPoint, firstBad, refuseIf}
+use Rattle.points.specs.Bad.{badPoint, firstBad}
 use Rattle.points.specs.Distance.{distanceOf}
 use Rattle.cost.specs.Distance.{measured}
 

@@ -8,7 +8,7 @@ use lib.Ieee.{Float, nan, inf, fin, binary64, add, mul, ofInt}
 use Rattle.answer.specs.declared.Check.{Check}
 use Rattle.answer.specs.Stage.{firstRefusal}
 use Rattle.cost.specs.declared.Measured.{Measured}
-use Rattle.points.specs.Bad.{refuseIf}
+use Rattle.answer.specs.Lowest.{refuseIf}
 use Rattle.cost.specs.Distance.{measured}
 
 -- the most pierces that are counted

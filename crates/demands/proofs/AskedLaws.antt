@@ -12,7 +12,7 @@ use Rattle.answer.specs.declared.Refusal.{Refusal}
 use Rattle.answer.specs.declared.Check.{Check}
 use Rattle.answer.specs.declared.Check.the-variants as check
 use Rattle.answer.specs.Stage.{firstRefusal}
-use Rattle.points.specs.Bad.{refuseIf}
+use Rattle.answer.specs.Lowest.{refuseIf}
 use Rattle.fields.specs.Layout.{contoursOf}
 use Rattle.card.specs.Verdict.{checkOf}
 use Rattle.card_laws.proofs.Verdicts.{exactly}

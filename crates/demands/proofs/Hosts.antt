@@ -1,8 +1,8 @@
 -- The exports answer as the tour's question does. Assumes nothing.
-use mathlib.Core.Path.{_≡_, refl, _∙_}
+use mathlib.Core.Path.{_≡_, refl, sym, ap, _∙_}
 use mathlib.Core.Bool.{Bool, true, false, true≢false}
 use mathlib.Core.List.{List, [], _∷_}
-use Prim.Native.Nat.{ℕ, _*_}
+use Prim.Native.Nat.{ℕ, _*_, _<_}
 use native.Mathlib.Omega.{arith}
 use borrow.Author.Tests.{le-ltb}
 use lib.Dec.{ltb}
@@ -10,16 +10,21 @@ use lib.Ieee.{Float}
 use lib.ListN.{length}
 use Rattle.answer.specs.declared.Check.{Check}
 use Rattle.answer.specs.declared.Check.the-variants.{Fine, Refused}
+use Rattle.answer.specs.declared.Refusal.{Refusal}
+use Rattle.answer.specs.Code.{codeOf}
 use Rattle.answer.specs.Stage.{firstRefusal}
-use Rattle.points.specs.Bad.{refuseIf}
+use Rattle.answer.proofs.CodeLaws.{code-number, code-place}
+use Rattle.answer.specs.Lowest.{refuseIf}
 use Rattle.fields.specs.Layout.{contoursOf}
 use Rattle.card.specs.Verdict.{checkOf}
+use Rattle.card_laws.specs.Table.{Given, one, two, three, four, five, three-later, six, seven, eight, nine, ten, eleven, twelve}
+use Rattle.card_laws.proofs.Verdicts.{exactly}
 use Rattle.table.proofs.PlaceLaws.{square-small}
 use Rattle.instance.proofs.FineLaws.{few-candidates}
 use Rattle.tour.specs.Search.{countOn}
 use Rattle.tour.specs.Tour.{Left, roomCheck, tourCheck, toured, touredUnless, tourOf}
 use Rattle.tour.specs.Hosts.{Hosted, hostCheck, hostedUnless, hostTour}
-use Rattle.demands.specs.Hosts.{asTold, Claim}
+use Rattle.demands.specs.Hosts.{asTold, Coded, Toured-so, Claim}
 
 module _ (s room : List ℕ) (table : List Float) (moves bits : ℕ) where
   -- both by what the check says, and by whether each room is too small
@@ -45,9 +50,41 @@ module _ (s room : List ℕ) (table : List Float) (moves bits : ℕ) where
   unfolding whole tourOf tourCheck roomCheck
   tour-is = refl
 
-pub claim : Claim
-claim s room table moves bits large =
+-- ---- the one number
+
+-- no refusal of a card has number 0
+some-number : {s : List ℕ} {number place : ℕ} → Given s number place → 0 < number
+some-number (one row) = omega arith
+some-number (two past row) = omega arith
+some-number (three past row) = omega arith
+some-number (four past row) = omega arith
+some-number (five past row) = omega arith
+some-number (three-later past row) = omega arith
+some-number (six past row) = omega arith
+some-number (seven past row) = omega arith
+some-number (eight past row) = omega arith
+some-number (nine past row) = omega arith
+some-number (ten past row) = omega arith
+some-number (eleven past row) = omega arith
+some-number (twelve past row) = omega arith
+
+coded : (s : List ℕ) → Coded s
+coded s = record { good = (zero-fine (checkOf s) refl, λ e. ap codeOf e); number = code-number; place = code-place }
+  where
+    zero-fine : (c : Check) → checkOf s ≡ c → codeOf (checkOf s) ≡ 0 → checkOf s ≡ Fine
+    zero-fine Fine e z = e
+    zero-fine (Refused r) e z =
+        let code : codeOf (Refused r) ≡ 0 = sym (ap codeOf e) ∙ z in
+        let some = some-number (exactly s .refused-only r e) in
+        let n = code-number r in
+        absurd (omega arith)
+
+toured-so : (s : List ℕ) → Toured-so s
+toured-so s room table moves bits large =
     rw (tour-is s room table moves bits)
     (host-is s room table moves bits
     ∙ same s room table moves bits (checkOf s) (ltb (length room) (contoursOf s)) (ltb (length table) (countOn s * countOn s))
     (λ fine. le-ltb (length table) (countOn s * countOn s) (let few = square-small (countOn s) (few-candidates s fine) in omega arith)))
+
+pub claim : Claim
+claim s = (coded s, toured-so s)

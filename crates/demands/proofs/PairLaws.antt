@@ -12,7 +12,7 @@ use Rattle.closure.proofs.PairLaws.{is-pair, same-or}
 use Rattle.closure.proofs.PathLaws.{and-first, and-second}
 use Rattle.card.specs.Stages.{beforeOf, afterOf}
 use Rattle.card.specs.Names.{seatsOf}
-use Rattle.card_laws.proofs.OrderRows.{seats-paired, some-split, some-earlier, some-last}
+use Rattle.card_laws.proofs.LinkLaws.{seats-paired, some-split, some-earlier, some-last}
 
 -- the pair with number q among the first m puts this position before that one
 pub record PairAt (s : List ℕ) (m b a q : ℕ) : Type 0 where

@@ -63,6 +63,7 @@ of-candidates = record {
 of-pairs : OfPairs
 of-pairs = record {
   first-on-cycle = λ contours pairs. one _;
+  first-on-cycle-wide = λ contours pairs. one _;
   kept-at = λ b a. one _;
   keeps-pairs = λ order pairs. one _;
   is-ready = λ visited pairs k. one _;
@@ -126,6 +127,7 @@ of-search = record {
   fill-table = λ items t owner room. one _;
   fill-home = λ items t home room. one _;
   nn-constrained = λ g n room x y e f. pair (e .counted ∙ sym (f .counted)) (e .held ∙ sym (f .held));
+  solve-nn = λ home table t first n room x y e f. pair (e .counted ∙ sym (f .counted)) (e .held ∙ sym (f .held));
   improve = λ s x y e f. pair (e .counted ∙ sym (f .counted)) (e .held ∙ sym (f .held));
   solve-constrained = λ sheet s room x y e f. pair (e .told ∙ sym (f .told)) (e .held ∙ sym (f .held));
 }

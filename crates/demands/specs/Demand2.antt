@@ -1,6 +1,6 @@
 -- Demand 2: on an accepted card the candidates, the table, the tour, the number of trials and the length are those of the search as it is
 -- defined; a move limit cuts that search after so many trials and changes nothing else; and the length told is evaluated from the tour
--- handed out. Assumes nothing.
+-- handed out. tourOf is what `tour::tour` promises. Assumes nothing.
 use mathlib.Core.Path.{_≡_}
 use mathlib.Core.Bool.{true, false, cond}
 use mathlib.Core.Logic.{_⊎_}
@@ -156,9 +156,9 @@ pub record Order (s : List ℕ) (M : ℕ) : Type 0 where
   pub begins : (trial : State → State) (v : State) → Begins M trial v
   pub turns : (p : ℕ) (v : State)
       → let held = getD (v .tour) p 0 in
-        let k = getD (ownersOn s) held 0 in
-        let from = getD (firstsOn s) k 0 in
-        turnOn s M p v ≡ each (λ a u. cond (eqb a held) u (tried M (otherOn s p held a) u)) (getD (firstsOn s) (suc k) 0 - from) from v
+      let k = getD (ownersOn s) held 0 in
+      let from = getD (firstsOn s) k 0 in
+      turnOn s M p v ≡ each (λ a u. cond (eqb a held) u (tried M (otherOn s p held a) u)) (getD (firstsOn s) (suc k) 0 - from) from v
   pub rows : (i : ℕ) (v : State) → rowOn s M i v ≡ each (λ j. tried M (reversalOn s i j)) (contoursOf s - (i + 2)) (i + 2) v
   pub passes : (v : State) → passOn s M v ≡ each (rowOn s M) (contoursOf s - 1) 0 (each (turnOn s M) (contoursOf s) 0 (fresh v))
   pub another : (k : ℕ) (v : State) → v .better ≡ true → v .cut ≡ false → passesOn s M (suc k) v ≡ passesOn s M k (passOn s M v)

@@ -1,6 +1,6 @@
 -- Demand 3: where home and all candidates of a card lie on a grid, the tour that is handed out cuts each contour once and of each pair
 -- the first before the second; the length reported is within 2^-28 mm of the exact one; and the tour is at most 2^-27 mm longer than
--- the start, exactly. Assumes nothing.
+-- the start, exactly. tourOf is what `tour::tour` promises. Assumes nothing.
 use mathlib.Core.Path.{_≡_}
 use mathlib.Core.List.{List, map}
 use Prim.Native.Nat.{ℕ, _+_, _*_, _^_, _≤_, _<_}

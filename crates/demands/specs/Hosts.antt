@@ -1,12 +1,15 @@
--- What a C or Rust host is told is what the tour's question answers with a table as large as the library's own: so each demand holds of
--- the exports as well. Assumes nothing.
+-- What a C or Rust host is told. Its one number is 0 exactly for a good card and else holds the refusal's number and place; and its tour is
+-- what the tour's question answers with a table as large as the library's own: so each demand holds of the exports as well. Assumes nothing.
 use mathlib.Core.Path.{_≡_}
+use mathlib.Core.Logic.{_↔_}
 use mathlib.Core.List.{List}
-use Prim.Native.Nat.{ℕ, _≤_}
+use Prim.Native.Nat.{ℕ, _^_, _/_, _%_, _≤_, _<_}
 use lib.Ieee.{Float, binary64, toBits}
 use lib.ListN.{length}
+use Rattle.answer.specs.declared.Refusal.{Refusal}
 use Rattle.answer.specs.declared.Check.the-variants as check
 use Rattle.answer.specs.Code.{codeOf}
+use Rattle.card.specs.Verdict.{checkOf}
 use Rattle.table.specs.Distances.{entryLimit}
 use Rattle.tour.specs.declared.Toured.{Toured}
 use Rattle.tour.specs.declared.Toured.the-variants as answer
@@ -18,7 +21,17 @@ abbrev pub asTold : Toured → List ℕ → ℕ → ℕ → Hosted
 asTold (answer.Done o) room moves bits = hosted 0 room (o .moves) (toBits binary64 (o .length))
 asTold (answer.Refused r) room moves bits = hosted (codeOf (check.Refused r)) room moves bits
 
-abbrev pub Claim : Type 0
-Claim =
-    (s room : List ℕ) (table : List Float) (moves bits : ℕ) → entryLimit ≤ length table
+-- the number that stands for a check
+pub record Coded (s : List ℕ) : Type 0 where
+  pub good : (codeOf (checkOf s) ≡ 0) ↔ (checkOf s ≡ check.Fine)
+  pub number : (r : Refusal) → codeOf (check.Refused r) / 2 ^ 32 ≡ r .number
+  pub place : (r : Refusal) → r .place < 2 ^ 32 → codeOf (check.Refused r) % 2 ^ 32 ≡ r .place
+
+-- the tour that a host gets
+abbrev pub Toured-so : List ℕ → Type 0
+Toured-so s =
+    (room : List ℕ) (table : List Float) (moves bits : ℕ) → entryLimit ≤ length table
     → hostTour s room moves bits ≡ asTold (tourOf s room table .answer) (tourOf s room table .room) moves bits
+
+abbrev pub Claim : Type 0
+Claim = (s : List ℕ) → Coded s × Toured-so s

@@ -1,7 +1,7 @@
 -- For each callable function two answers that meet its promise are equal: what is answered, and every lent room afterwards. A promise is
 -- an equation with a definition, or a record of such equations; it speaks of every input, refused ones too. Assumes nothing.
 use mathlib.Core.Path.{_≡_}
-use mathlib.Core.List.{List}
+use mathlib.Core.List.{List, []}
 use Prim.Native.Nat.{ℕ, _+_, _-_, min}
 use denote.Ref.{now}
 use lib.Ieee.{Float, nan, binary64, toBits}
@@ -43,7 +43,7 @@ use Rattle.card.specs.Verdict.{checkOf}
 use Rattle.table.specs.Evaluate.{homeAt, distanceAt, lengthOf}
 use Rattle.table.specs.Distances.{tabled, homed}
 use Rattle.start.specs.Nearest.{Ground, nearest}
-use Rattle.start.specs.Code.{Written}
+use Rattle.start.specs.Code.{groundOf, Written}
 use Rattle.improve.specs.Search.{Sheet, State}
 use Rattle.improve.specs.Code.{Reached}
 use Rattle.instance.specs.declared.Instance.{Instance}
@@ -112,6 +112,7 @@ pub record OfCandidates : Type 0 where
 -- closure and hierarchy
 pub record OfPairs : Type 0 where
   pub first-on-cycle : (contours : ℕ) (pairs : List ℕ) → OneAnswer (Is (firstOnCycle contours pairs))
+  pub first-on-cycle-wide : (contours : ℕ) (pairs : List ℕ) → OneAnswer (Is (firstOnCycle contours pairs))
   pub kept-at : (b a : ℕ) → OneAnswer (Is (keptAt b a))
   pub keeps-pairs : (order pairs : List ℕ) → OneAnswer (Is (keepsPairs order pairs))
   pub is-ready : (visited pairs : List ℕ) (k : ℕ) → OneAnswer (Is (readyIn visited pairs k))
@@ -172,6 +173,8 @@ pub record OfSearch : Type 0 where
   pub fill-table : (items : List Candidate) (t : ℕ) (owner : List ℕ) (room : List Float) → OneAnswer (Is (tabled items t owner room))
   pub fill-home : (items : List Candidate) (t : ℕ) (home : Point) (room : List Float) → OneAnswer (Is (homed items t home room))
   pub nn-constrained : (g : Ground) (n : ℕ) (room : List ℕ) → OneAnswer {A = ℕ × List ℕ} (λ a. Written (nearest g n) room (a .0) (a .1))
+  pub solve-nn : (home table : List Float) (t : ℕ) (first : List ℕ) (n : ℕ) (room : List ℕ)
+      → OneAnswer {A = ℕ × List ℕ} (λ a. Written (nearest (groundOf home table t first []) n) room (a .0) (a .1))
   pub improve : (s : State) → OneAnswer {A = ℕ × List ℕ} (λ a. Reached (a .0) (a .1) s)
   pub solve-constrained : (sheet : Sheet) (s : State) (room : List ℕ) → OneAnswer {A = Outcome × List ℕ} (λ a. Solved sheet s room (a .0) (a .1))
 

@@ -6,7 +6,7 @@ use lib.Dec.{ltb, eqb}
 use lib.ListN.{length}
 use Rattle.answer.specs.declared.Check.{Check}
 use Rattle.answer.specs.Stage.{orElse, firstRefusal}
-use Rattle.answer.specs.Lowest.{refuseAt}
+use Rattle.answer.specs.Lowest.{refuseAt, refuseIf}
 use Rattle.closure.specs.Limits.{CONTOURS, PAIRS}
 use Rattle.closure.specs.Pairs.{Pair, paired, someOf, isPair}
 use Rattle.closure.specs.Cycle.{firstOnCycle}
@@ -20,11 +20,6 @@ use Rattle.keep.specs.Keep.{keepsPairs}
 use Rattle.hierarchy.specs.Sort.{sortedBy}
 
 -- ---- refusals
-
--- refused with this number at this place where the test holds
-abbrev pub refuseIf : Bool → ℕ → ℕ → Check
-refuseIf true number place = Check.Refused (record { number = number; place = place })
-refuseIf false number place = Check.Fine
 
 -- too many contours, then too many pairs, half a pair being one too, then half a pair at its own number
 unfoldable pub pairsCheck : ℕ → List ℕ → Check

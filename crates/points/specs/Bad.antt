@@ -7,8 +7,6 @@ use lib.ListN.{getD}
 use lib.Ieee.{Float, nan, inf, fin, up, down}
 use Rattle.answer.specs.declared.Point.{Point}
 use Rattle.answer.specs.declared.Found.{Found}
-use Rattle.answer.specs.declared.Check.{Check}
-use Rattle.answer.specs.declared.Check.the-variants.{Fine, Refused}
 use Rattle.answer.specs.Lowest.{lowest}
 use Rattle.points.specs.Points.{points, nowhere}
 
@@ -32,8 +30,3 @@ badAt numbers k = badPoint (getD (points numbers) k nowhere)
 -- the first bad one of the list's first `count` points
 unfoldable pub firstBad : List Float → ℕ → Found
 firstBad numbers count = lowest (badAt numbers) count
-
--- refused with this number and place where the test holds
-abbrev pub refuseIf : Bool → ℕ → ℕ → Check
-refuseIf true number place = Refused (record { number = number; place = place })
-refuseIf false number place = Fine

@@ -7,11 +7,10 @@ use lib.ListN.{length, getD}
 use Rattle.answer.specs.declared.Found.{Found}
 use Rattle.answer.specs.declared.Check.{Check}
 use Rattle.answer.specs.declared.Check.the-variants.{Fine, Refused}
-use Rattle.answer.specs.Lowest.{lowest, refuseAt}
+use Rattle.answer.specs.Lowest.{lowest, refuseAt, refuseIf}
 use Rattle.answer.specs.Stage.{firstRefusal}
 use Rattle.cost.specs.declared.Measured.{Measured}
 use Rattle.cost.specs.declared.Measured.the-variants as measured
-use Rattle.points.specs.Bad.{refuseIf}
 use Rattle.fields.specs.Layout.{contoursOf}
 use Rattle.card.specs.Stages.{isAt}
 use Rattle.card.specs.Verdict.{checkOf}

@@ -3,7 +3,7 @@
 ghost use mathlib.Core.Path.{_≡_};
 ghost use Rattle.answer.specs.declared.Check.the-variants.{Fine};
 ghost use Rattle.card.specs.Verdict.{checkOf};
-ghost use Rattle.points.specs.Bad.{refuseIf};
+ghost use Rattle.answer.specs.Lowest.{refuseIf};
 ghost use Rattle.candidates.specs.Generate.{blank};
 ghost use Rattle.instance.specs.Room.{instanceOf};
 ghost use Rattle.improve.specs.Search.{lengthIn};

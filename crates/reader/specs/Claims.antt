@@ -1,4 +1,4 @@
--- What is claimed of a walk: in file order it gives what `card` reads, on any bytes. Assumes nothing.
+-- What is claimed of a walk: in file order it gives what `fields` reads, on any bytes. Assumes nothing.
 use mathlib.Core.Path.{_≡_}
 use mathlib.Core.List.{List, _∷_}
 use Prim.Native.Nat.{ℕ, _+_}

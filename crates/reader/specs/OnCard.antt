@@ -1,4 +1,4 @@
--- A card's head and a contour, field by field as `card` reads them, and the widths of their fields in file order. Assumes nothing.
+-- A card's head and a contour, field by field as `fields` reads them, and the widths of their fields in file order. Assumes nothing.
 use mathlib.Core.List.{List, [], _∷_, _++_}
 use Prim.Native.Nat.{ℕ, zero, suc, _+_, _*_, _-_, min}
 use lib.ListN.{length, replicate}

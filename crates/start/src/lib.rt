@@ -131,7 +131,8 @@ fn choose(
 }
 
 // The nearest-neighbour start that respects the pairs, written to the front of a room for as many contours as
-// there are. Says how many entries it has: fewer than contours only where some can never be ready.
+// there are. Says how many entries it has: none for more contours than a card takes, and fewer than contours where
+// some are never ready or have no distance below the largest number.
 pub fn nn_constrained(
     home: &[f64],
     table: &[f64],

@@ -15,7 +15,7 @@ use Rattle.answer.specs.declared.Check.the-variants.{Fine, Refused}
 use Rattle.answer.specs.declared.Refusal.{Refusal}
 use Rattle.answer.specs.Code.{codeOf}
 use Rattle.answer.specs.Stage.{orElse, firstRefusal}
-use Rattle.points.specs.Bad.{refuseIf}
+use Rattle.answer.specs.Lowest.{refuseIf}
 use Rattle.fields.specs.Limits.{candidateLimit}
 use Rattle.fields.specs.Layout.{contoursOf}
 use Rattle.card.specs.Verdict.{checkOf}

@@ -8,7 +8,7 @@ use lib.ListN.{getD}
 use lib.Seq.{getD-take}
 use borrow.Author.Tests.{le-leb, lt-leb}
 use Rattle.answer.specs.declared.Check.the-variants.{Fine}
-use Rattle.points.specs.Bad.{refuseIf}
+use Rattle.answer.specs.Lowest.{refuseIf}
 use Rattle.closure.specs.Limits.{CONTOURS}
 use Rattle.fields.specs.Layout.{contoursOf}
 use Rattle.card.specs.Verdict.{checkOf}

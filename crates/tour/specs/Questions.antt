@@ -6,7 +6,7 @@ use lib.ListN.{getD}
 use Rattle.answer.specs.declared.Check.{Check}
 use Rattle.answer.specs.declared.Check.the-variants.{Fine, Refused}
 use Rattle.answer.specs.Stage.{firstRefusal}
-use Rattle.points.specs.Bad.{refuseIf}
+use Rattle.answer.specs.Lowest.{refuseIf}
 use Rattle.card.specs.Verdict.{checkOf}
 use Rattle.tour.specs.declared.Place.{Place}
 use Rattle.tour.specs.declared.Located.{Located}

@@ -7,7 +7,7 @@ use lib.Ieee.{Float}
 use Rattle.answer.specs.declared.Check.{Check}
 use Rattle.answer.specs.declared.Check.the-variants.{Fine, Refused}
 use Rattle.answer.specs.Stage.{firstRefusal}
-use Rattle.points.specs.Bad.{refuseIf}
+use Rattle.answer.specs.Lowest.{refuseIf}
 use Rattle.points.specs.Numbers.{zero64}
 use Rattle.fields.specs.Limits.{candidateLimit}
 use Rattle.fields.specs.Layout.{contoursOf}

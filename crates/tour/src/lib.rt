@@ -6,7 +6,7 @@ ghost use lib.Dec.{leb};
 ghost use lib.Ieee.{toBits, binary64};
 ghost use Rattle.answer.specs.declared.Check.the-variants.{Fine, Refused};
 ghost use Rattle.answer.specs.Code.{codeOf};
-ghost use Rattle.points.specs.Bad.{refuseIf};
+ghost use Rattle.answer.specs.Lowest.{refuseIf};
 ghost use Rattle.fields.specs.Layout.{contoursOf};
 ghost use Rattle.card.specs.Verdict.{checkOf};
 ghost use Rattle.instance.specs.Room.{instanceOf};
