@@ -112,14 +112,8 @@ halves-ge-even n a h = go (halved n)
     go (beyond r f l q) = omega (arith, square-lt a (r + 1) (omega arith))
 
 -- and the other way
-pub even-gt-halves : (n a : ℕ) → halves n < 2 * a → n < a * a
-even-gt-halves n a h = lt-of-not-le (λ (g : a * a ≤ n). not-le-of-lt h (halves-ge-even n a g))
-
 pub even-ge-halves : (n a : ℕ) → halves n ≤ 2 * a → n ≤ a * a
 even-ge-halves n a h = omega (arith, lt-of-not-le (λ (g : a * a + 1 ≤ n). not-le-of-lt (halves-gt-even n a (omega arith)) h))
-
-pub even-lt-halves : (n a : ℕ) → 2 * a < halves n → a * a < n
-even-lt-halves n a h = lt-of-not-le (λ (g : n ≤ a * a). not-le-of-lt h (halves-le-even n a g))
 
 pub even-le-halves : (n a : ℕ) → 2 * a ≤ halves n → a * a ≤ n
 even-le-halves n a h = omega (arith, lt-of-not-le (λ (g : n + 1 ≤ a * a). not-le-of-lt (halves-lt-even n a (omega arith)) h))
