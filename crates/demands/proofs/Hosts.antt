@@ -24,7 +24,7 @@ use Rattle.instance.proofs.FineLaws.{few-candidates}
 use Rattle.tour.specs.Search.{countOn}
 use Rattle.tour.specs.Tour.{Left, roomCheck, tourCheck, toured, touredUnless, tourOf}
 use Rattle.tour.specs.Hosts.{Hosted, hostCheck, hostedUnless, hostTour}
-use Rattle.demands.specs.Hosts.{asTold, Coded, Toured-so, Claim}
+use Rattle.demands.specs.Hosts.{asTold, Coded, TourTold, Claim}
 
 module _ (s room : List ℕ) (table : List Float) (moves bits : ℕ) where
   -- both by what the check says, and by whether each room is too small
@@ -79,7 +79,7 @@ coded s = record { good = (zero-fine (checkOf s) refl, λ e. ap codeOf e); numbe
         let n = code-number r in
         absurd (omega arith)
 
-toured-so : (s : List ℕ) → Toured-so s
+toured-so : (s : List ℕ) → TourTold s
 toured-so s room table moves bits large =
     rw (tour-is s room table moves bits)
     (host-is s room table moves bits

@@ -28,10 +28,10 @@ pub record Coded (s : List ℕ) : Type 0 where
   pub place : (r : Refusal) → r .place < 2 ^ 32 → codeOf (check.Refused r) % 2 ^ 32 ≡ r .place
 
 -- the tour that a host gets
-abbrev pub Toured-so : List ℕ → Type 0
-Toured-so s =
+abbrev pub TourTold : List ℕ → Type 0
+TourTold s =
     (room : List ℕ) (table : List Float) (moves bits : ℕ) → entryLimit ≤ length table
     → hostTour s room moves bits ≡ asTold (tourOf s room table .answer) (tourOf s room table .room) moves bits
 
 abbrev pub Claim : Type 0
-Claim = (s : List ℕ) → Coded s × Toured-so s
+Claim = (s : List ℕ) → Coded s × TourTold s
