@@ -1,5 +1,6 @@
 // Test doors: inner functions under plain names for C and Rust, for comparisons and speed runs only. A door forwards, and
-// promises what the function behind it promises: it answers 0 and writes, or answers the refusal as one number and keeps all it is lent.
+// promises what the function behind it promises. One that can refuse answers 0 and writes, or answers the refusal as one
+// number and keeps all it is lent.
 ghost use mathlib.Core.Path.{_≡_};
 ghost use Rattle.probe.specs.Told.{rootCode, rootOr, lengthCode, lengthOr, closestCode, nearestOr, countCode, countOr, verdictCode, kindOf, preferenceOf, wayOf, askedOf, nthOf, placeOf, fineOr};
 ghost use Rattle.root.specs.Root.{sqrtOf, rootOf};
