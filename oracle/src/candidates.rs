@@ -1,7 +1,7 @@
 //! The candidates of one contour against the original's; the refusals against the paper.
 
 use crate::card::Contour;
-use crate::doors::refused;
+use crate::doors::{Back, KEPT, refused};
 use crate::generate::outline;
 use crate::random::{KINDS, REACH, Random};
 use crate::run::{Wanted, cases, same};
@@ -38,10 +38,10 @@ struct Asked {
 /// A candidate: point and end point as bits, vertex, whether clockwise.
 type Told = ([u64; 4], usize, u64);
 
-fn ours(q: &Asked) -> Result<Vec<Told>, u64> {
-    let mut all = Vec::new();
+fn ours(q: &Asked) -> Result<Vec<Told>, Back> {
+    let (lent, mut all) = (([KEPT; 4], usize::MAX, u64::MAX, usize::MAX), Vec::new());
     loop {
-        let (mut place, mut vertex, mut way, mut count) = ([0.0; 4], 0, 0, 0);
+        let (mut place, mut vertex, mut way, mut count) = lent;
         let (at, length) = (q.numbers.as_ptr(), q.numbers.len());
         let [exterior, interior] = q.preferences;
         let k = all.len();
@@ -52,7 +52,7 @@ fn ours(q: &Asked) -> Result<Vec<Told>, u64> {
         match code {
             0 if k < count => all.push((place.map(f64::to_bits), vertex, way)),
             0 => return Ok(all),
-            _ => return Err(code),
+            _ => return Err((code, (place, vertex, way, count) == lent)),
         }
     }
 }
@@ -102,7 +102,7 @@ fn one(r: &Random) -> Result<u64, String> {
     }
     let c = r.pick(&[1, 2, 3, 4, 8, r.from(1, 8), r.from(0, 9)]) as usize;
     let q = Asked { numbers, c, interior: r.one_in(2), preferences: [0; 2].map(|_| r.below(3) as u8) };
-    same(|| format!("{q:?}"), ours(&q), theirs(&q))
+    same(|| format!("{q:?}"), ours(&q), theirs(&q).map_err(|code| (code, true)))
 }
 
 pub fn compare(wanted: Wanted) -> bool {

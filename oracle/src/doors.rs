@@ -1,11 +1,15 @@
-//! How the test doors of the crate `probe` answer. A door answers 0 and writes through what it is lent, or
-//! answers a refusal's number times 2^32 plus its place and writes nothing. Every door is total: it takes
-//! any numbers and any slices, and keeps none of them. The doors of a part are declared where it is compared.
+//! How the test doors of the crate `probe` answer. A door that can refuse answers 0 and writes through what it is
+//! lent, or answers a refusal's number times 2^32 plus its place and leaves all of that as it was; the comparisons
+//! look at both. Every door is total: it takes any numbers and any slices, and holds on to none of them. The doors
+//! of a part are declared where it is compared.
 
 /// What a door answers for a refusal: a place of more than 32 bits shows as the largest of 32.
 pub fn refused(number: u64, place: u64) -> u64 {
     (number << 32) + place.min(u64::from(u32::MAX))
 }
+
+/// What a door answers that refuses, and whether all that it was lent is as before.
+pub type Back = (u64, bool);
 
 /// What a lent number holds before a call, to see whether a refusal leaves it.
 pub const KEPT: f64 = 12345.6789;

@@ -1,6 +1,6 @@
 //! The questions on a list of pairs against the original's hierarchy.rs; the refusals against the paper.
 
-use crate::doors::refused;
+use crate::doors::{Back, refused};
 use crate::random::Random;
 use crate::run::{Wanted, cases, same};
 use original::hierarchy::CuttingDag;
@@ -51,14 +51,14 @@ unsafe extern "C" {
     ) -> u64;
 }
 
-/// A list that is handed back by value: the first `count` entries.
-type List = Result<Vec<u32>, u64>;
+/// A list that is written to a lent array: the first `count` entries.
+type List = Result<Vec<u32>, Back>;
 
 fn list<const N: usize>(ask: impl FnOnce(&mut [u32; N], &mut usize) -> u64) -> List {
     let (mut ids, mut count) = ([u32::MAX; N], usize::MAX);
     match ask(&mut ids, &mut count) {
         0 => Ok(ids[..count].to_vec()),
-        code => Err(code),
+        code => Err((code, (ids, count) == ([u32::MAX; N], usize::MAX))),
     }
 }
 
@@ -109,7 +109,7 @@ fn one(q: &Asked) -> Result<u64, String> {
     let (at, length, refuses) = (q.pairs.as_ptr(), q.pairs.len(), refusal(q.contours, q.pairs));
     let pairs = q.pairs.chunks_exact(2).map(|p| (p[0] as usize, p[1] as usize)).collect();
     let dag = CuttingDag::from_pairs(q.contours, pairs);
-    let due = |theirs: Vec<u32>| refuses.map_or(Ok(theirs), Err);
+    let due = |theirs: Vec<u32>| refuses.map_or(Ok(theirs), |code| Err((code, true)));
     let word = |yes: bool| refuses.unwrap_or(u64::from(yes));
 
     let mut count = usize::MAX;
@@ -143,9 +143,9 @@ fn order(q: &Asked, dag: &CuttingDag) -> Result<u64, String> {
     let (at, length) = (q.pairs.as_ptr(), q.pairs.len());
     let ours = list(|ids, count| unsafe { probe_topological_sort(q.contours, at, length, ids, count) });
     let theirs = match (refusal(q.contours, q.pairs), dag.topological_sort()) {
-        (Some(code), _) => Err(code),
+        (Some(code), _) => Err((code, true)),
         (None, Some(order)) => Ok(narrow(&order)),
-        (None, None) => Err(refused(12, on_cycle(q.contours, q.pairs).expect("the original met a cycle"))),
+        (None, None) => Err((refused(12, on_cycle(q.contours, q.pairs).expect("the original met a cycle")), true)),
     };
     same(|| format!("order of {} by {:?}", q.contours, q.pairs), ours, theirs)
 }

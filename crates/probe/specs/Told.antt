@@ -5,7 +5,8 @@ use lib.ListN.{getD}
 use mathlib.Core.List.{List, [], _∷_}
 use Prim.Native.Nat.{ℕ}
 use lib.Ieee.{Float, nan}
-use Rattle.answer.specs.declared.Check.the-variants.{Refused}
+use Rattle.answer.specs.declared.Check.{Check}
+use Rattle.answer.specs.declared.Check.the-variants.{Fine, Refused}
 use Rattle.answer.specs.Code.{codeOf}
 use Rattle.answer.specs.declared.ContourType.{ContourType}
 use Rattle.answer.specs.declared.ContourType.the-variants.{Exterior, Interior}
@@ -15,6 +16,8 @@ use Rattle.answer.specs.declared.CutDirectionPreference.{CutDirectionPreference
 use Rattle.answer.specs.declared.CutDirectionPreference.the-variants as asked
 use Rattle.candidates.specs.declared.Candidate.{Candidate}
 use Rattle.candidates.specs.declared.Candidates.{Candidates}
+use Rattle.candidates.specs.declared.Offered.{Offered}
+use Rattle.candidates.specs.Question.{offeredOf}
 use Rattle.root.specs.declared.Rooted.{Rooted}
 use Rattle.root.specs.declared.Rooted.the-variants.{Is as RootIs, Refused as RootRefused}
 use Rattle.cost.specs.declared.Measured.{Measured}
@@ -74,6 +77,11 @@ abbrev pub verdictCode : Verdict → ℕ
 verdictCode (VerdictIs b) = cond b 1 0
 verdictCode (VerdictRefused r) = codeOf (Refused r)
 
+-- what is lent beside a check, afterwards: written where the check is fine
+abbrev pub fineOr : {A : Type 0} → Check → A → A → A
+fineOr Fine told kept = told
+fineOr (Refused r) told kept = kept
+
 -- types, preferences and directions by their numbers on a card
 abbrev pub kindOf : ℕ → ContourType
 kindOf x = cond (eqb x 0) Exterior Interior
@@ -84,6 +92,10 @@ preferenceOf x = cond (eqb x 0) asked.Ccw (cond (eqb x 1) asked.Cw asked.Auto)
 abbrev pub wayOf : CutDirection → ℕ
 wayOf cut.Ccw = 0
 wayOf cut.Cw = 1
+
+-- the candidates of a contour, asked by numbers as on a card
+abbrev pub askedOf : List Float → ℕ → ℕ → ℕ → ℕ → Offered
+askedOf numbers c kind exterior interior = offeredOf numbers c (kindOf kind) (preferenceOf exterior) (preferenceOf interior)
 
 -- never read: all eight places are there
 abbrev pub noCandidate : Candidate

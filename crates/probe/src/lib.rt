@@ -1,7 +1,8 @@
 // Test doors: inner functions under plain names for C and Rust, for comparisons and speed runs only. A door forwards, and
-// promises what the function behind it promises: it answers 0 and writes, or answers the refusal as one number and keeps all it is lent.
+// promises what the function behind it promises. One that can refuse answers 0 and writes, or answers the refusal as one
+// number and keeps all it is lent.
 ghost use mathlib.Core.Path.{_≡_};
-ghost use Rattle.probe.specs.Told.{rootCode, rootOr, lengthCode, lengthOr, closestCode, nearestOr, countCode, countOr, verdictCode, kindOf, preferenceOf, wayOf, nthOf, placeOf};
+ghost use Rattle.probe.specs.Told.{rootCode, rootOr, lengthCode, lengthOr, closestCode, nearestOr, countCode, countOr, verdictCode, kindOf, preferenceOf, wayOf, askedOf, nthOf, placeOf, fineOr};
 ghost use Rattle.root.specs.Root.{sqrtOf, rootOf};
 ghost use Rattle.points.specs.Points.{point};
 ghost use Rattle.points.specs.Distance.{distanceOf};
@@ -10,7 +11,6 @@ ghost use Rattle.cost.specs.Closest.{closestOnPolygonOf};
 ghost use Rattle.cost.specs.Rapid.{totalRapidOf};
 ghost use Rattle.cost.specs.Sequence.{sequenceCostOf};
 ghost use Rattle.answer.specs.Code.{codeOf};
-ghost use Rattle.candidates.specs.Question.{offeredOf};
 ghost use Rattle.hierarchy.specs.Questions.{numContours, precedencesOf, violatesOf, predecessorsOf, successorsOf, validSequence, topologicalSort};
 ghost use Rattle.card.specs.Verdict.{checkOf};
 ghost use Rattle.fields.specs.Layout.{homePlace};
@@ -235,15 +235,20 @@ pub extern "C" fn probe_precedences(
     count: &mut usize,
 ) -> u64
     ensures { λ r. ⌜ r ≡ codeOf (precedencesOf contours (now (pairs .entry)) .check) ⌝ }
-    ensures { λ _. ⌜ now (ids .exit) ≡ precedencesOf contours (now (pairs .entry)) .ids ⌝ }
-    ensures { λ _. ⌜ now (count .exit) ≡ precedencesOf contours (now (pairs .entry)) .count ⌝ }
+    ensures { λ _. ⌜ now (ids .exit) ≡ fineOr (precedencesOf contours (now (pairs .entry)) .check) (precedencesOf contours (now (pairs .entry)) .ids) (now (ids .entry)) ⌝ }
+    ensures { λ _. ⌜ now (count .exit) ≡ fineOr (precedencesOf contours (now (pairs .entry)) .check) (precedencesOf contours (now (pairs .entry)) .count) (now (count .entry)) ⌝ }
 {
     let a = hierarchy::precedences(contours, pairs);
-    let list = a.ids;
-    *ids = list;
-    *count = a.count;
     let check = a.check;
-    answer::code(check)
+    match check {
+        Check::Fine => {
+            let list = a.ids;
+            *ids = list;
+            *count = a.count;
+            0
+        }
+        Check::Refused(_) => answer::code(check),
+    }
 }
 
 #[no_mangle]
@@ -255,15 +260,20 @@ pub extern "C" fn probe_predecessors(
     count: &mut usize,
 ) -> u64
     ensures { λ r. ⌜ r ≡ codeOf (predecessorsOf contours (now (pairs .entry)) id .check) ⌝ }
-    ensures { λ _. ⌜ now (ids .exit) ≡ predecessorsOf contours (now (pairs .entry)) id .ids ⌝ }
-    ensures { λ _. ⌜ now (count .exit) ≡ predecessorsOf contours (now (pairs .entry)) id .count ⌝ }
+    ensures { λ _. ⌜ now (ids .exit) ≡ fineOr (predecessorsOf contours (now (pairs .entry)) id .check) (predecessorsOf contours (now (pairs .entry)) id .ids) (now (ids .entry)) ⌝ }
+    ensures { λ _. ⌜ now (count .exit) ≡ fineOr (predecessorsOf contours (now (pairs .entry)) id .check) (predecessorsOf contours (now (pairs .entry)) id .count) (now (count .entry)) ⌝ }
 {
     let a = hierarchy::predecessors(contours, pairs, id);
-    let list = a.ids;
-    *ids = list;
-    *count = a.count;
     let check = a.check;
-    answer::code(check)
+    match check {
+        Check::Fine => {
+            let list = a.ids;
+            *ids = list;
+            *count = a.count;
+            0
+        }
+        Check::Refused(_) => answer::code(check),
+    }
 }
 
 #[no_mangle]
@@ -275,15 +285,20 @@ pub extern "C" fn probe_successors(
     count: &mut usize,
 ) -> u64
     ensures { λ r. ⌜ r ≡ codeOf (successorsOf contours (now (pairs .entry)) id .check) ⌝ }
-    ensures { λ _. ⌜ now (ids .exit) ≡ successorsOf contours (now (pairs .entry)) id .ids ⌝ }
-    ensures { λ _. ⌜ now (count .exit) ≡ successorsOf contours (now (pairs .entry)) id .count ⌝ }
+    ensures { λ _. ⌜ now (ids .exit) ≡ fineOr (successorsOf contours (now (pairs .entry)) id .check) (successorsOf contours (now (pairs .entry)) id .ids) (now (ids .entry)) ⌝ }
+    ensures { λ _. ⌜ now (count .exit) ≡ fineOr (successorsOf contours (now (pairs .entry)) id .check) (successorsOf contours (now (pairs .entry)) id .count) (now (count .entry)) ⌝ }
 {
     let a = hierarchy::successors(contours, pairs, id);
-    let list = a.ids;
-    *ids = list;
-    *count = a.count;
     let check = a.check;
-    answer::code(check)
+    match check {
+        Check::Fine => {
+            let list = a.ids;
+            *ids = list;
+            *count = a.count;
+            0
+        }
+        Check::Refused(_) => answer::code(check),
+    }
 }
 
 // The type of a contour by its number on a card.
@@ -332,7 +347,7 @@ fn nth(found: Candidates, k: usize) -> Candidate
 
 // The candidates of a contour, asked by numbers as on a card.
 fn offered(numbers: &[f64], c: usize, kind: u8, exterior: u8, interior: u8) -> Offered
-    ensures { λ r. ⌜ r ≡ offeredOf (now (numbers .entry)) c (kindOf kind) (preferenceOf exterior) (preferenceOf interior) ⌝ }
+    ensures { λ r. ⌜ r ≡ askedOf (now (numbers .entry)) c kind exterior interior ⌝ }
 {
     candidates::contour_candidates(
         numbers,
@@ -357,23 +372,28 @@ pub extern "C" fn probe_candidate(
     way: &mut u64,
     count: &mut usize,
 ) -> u64
-    ensures { λ r. ⌜ r ≡ codeOf (offeredOf (now (numbers .entry)) c (kindOf kind) (preferenceOf exterior) (preferenceOf interior) .check) ⌝ }
-    ensures { λ _. ⌜ now (place .exit) ≡ placeOf (nthOf (offeredOf (now (numbers .entry)) c (kindOf kind) (preferenceOf exterior) (preferenceOf interior) .found) k) ⌝ }
-    ensures { λ _. ⌜ now (vertex .exit) ≡ nthOf (offeredOf (now (numbers .entry)) c (kindOf kind) (preferenceOf exterior) (preferenceOf interior) .found) k .vertex ⌝ }
-    ensures { λ _. ⌜ now (way .exit) ≡ wayOf (nthOf (offeredOf (now (numbers .entry)) c (kindOf kind) (preferenceOf exterior) (preferenceOf interior) .found) k .direction) ⌝ }
-    ensures { λ _. ⌜ now (count .exit) ≡ offeredOf (now (numbers .entry)) c (kindOf kind) (preferenceOf exterior) (preferenceOf interior) .found .count ⌝ }
+    ensures { λ r. ⌜ r ≡ codeOf (askedOf (now (numbers .entry)) c kind exterior interior .check) ⌝ }
+    ensures { λ _. ⌜ now (place .exit) ≡ fineOr (askedOf (now (numbers .entry)) c kind exterior interior .check) (placeOf (nthOf (askedOf (now (numbers .entry)) c kind exterior interior .found) k)) (now (place .entry)) ⌝ }
+    ensures { λ _. ⌜ now (vertex .exit) ≡ fineOr (askedOf (now (numbers .entry)) c kind exterior interior .check) (nthOf (askedOf (now (numbers .entry)) c kind exterior interior .found) k .vertex) (now (vertex .entry)) ⌝ }
+    ensures { λ _. ⌜ now (way .exit) ≡ fineOr (askedOf (now (numbers .entry)) c kind exterior interior .check) (wayOf (nthOf (askedOf (now (numbers .entry)) c kind exterior interior .found) k .direction)) (now (way .entry)) ⌝ }
+    ensures { λ _. ⌜ now (count .exit) ≡ fineOr (askedOf (now (numbers .entry)) c kind exterior interior .check) (askedOf (now (numbers .entry)) c kind exterior interior .found .count) (now (count .entry)) ⌝ }
 {
     let a = offered(numbers, c, kind, exterior, interior);
-    let found = a.found;
-    *count = found.count;
-    let n = nth(found, k);
-    let four = [n.x, n.y, n.end_x, n.end_y];
-    *place = four;
-    *vertex = n.vertex;
-    let direction = n.direction;
-    *way = way_of(direction);
     let check = a.check;
-    answer::code(check)
+    match check {
+        Check::Fine => {
+            let found = a.found;
+            *count = found.count;
+            let n = nth(found, k);
+            let four = [n.x, n.y, n.end_x, n.end_y];
+            *place = four;
+            *vertex = n.vertex;
+            let direction = n.direction;
+            *way = way_of(direction);
+            0
+        }
+        Check::Refused(_) => answer::code(check),
+    }
 }
 
 #[no_mangle]
@@ -384,15 +404,20 @@ pub extern "C" fn probe_topological_sort(
     count: &mut usize,
 ) -> u64
     ensures { λ r. ⌜ r ≡ codeOf (topologicalSort contours (now (pairs .entry)) .check) ⌝ }
-    ensures { λ _. ⌜ now (positions .exit) ≡ topologicalSort contours (now (pairs .entry)) .positions ⌝ }
-    ensures { λ _. ⌜ now (count .exit) ≡ topologicalSort contours (now (pairs .entry)) .count ⌝ }
+    ensures { λ _. ⌜ now (positions .exit) ≡ fineOr (topologicalSort contours (now (pairs .entry)) .check) (topologicalSort contours (now (pairs .entry)) .positions) (now (positions .entry)) ⌝ }
+    ensures { λ _. ⌜ now (count .exit) ≡ fineOr (topologicalSort contours (now (pairs .entry)) .check) (topologicalSort contours (now (pairs .entry)) .count) (now (count .entry)) ⌝ }
 {
     let a = hierarchy::topological_sort(contours, pairs);
-    let list = a.positions;
-    *positions = list;
-    *count = a.count;
     let check = a.check;
-    answer::code(check)
+    match check {
+        Check::Fine => {
+            let list = a.positions;
+            *positions = list;
+            *count = a.count;
+            0
+        }
+        Check::Refused(_) => answer::code(check),
+    }
 }
 
 #[no_mangle]

@@ -1,7 +1,5 @@
--- `probe::probe_topological_sort` meets its contract: it forwards. Assumes nothing.
-use mathlib.Core.Path.{ap, _∙_}
-use Rattle.answer.specs.Code.{codeOf}
-use Rattle.hierarchy.specs.declared.Order.{Order}
+-- `probe::probe_topological_sort` meets its contract: by the check. Assumes nothing.
+use mathlib.Core.Path.{refl}
 use borrow.Author.Needs.{needs}
 use Rattle.probe.proofs.probe_topological_sort.Statement.{statement}
 use Rattle.probe.proofs.probe_topological_sort.Tie as tie
@@ -9,13 +7,20 @@ use Rattle.probe.proofs.probe_topological_sort.Tie as tie
 topological-sort-requires : tie.Need-topological-sort-requires
 topological-sort-requires c κs = search needs
 
+enum-told : tie.Need-enum-told
+enum-told c = search needs
+
+enum-told-2 : tie.Need-enum-told-2
+enum-told-2 c = search needs
+
 code-requires : tie.Need-code-requires
 code-requires c κs = search needs
 
 returns : tie.Need-returns
-returns c =
-    let told = c .before .before .topological-sort .ensures in
-    (c .code .ensures ∙ ap (λ (a : Order). codeOf (a .check)) told, (ap (λ (a : Order). a .positions) told, ap (λ (a : Order). a .count) told))
+returns c = rw (← (c .before .before .before .topological-sort .ensures), c .before .enum-told .given .1) (refl, (refl, refl))
+
+returns-2 : tie.Need-returns-2
+returns-2 c = rw (c .code .ensures, ← (c .before .before .before .topological-sort .ensures), c .before .enum-told2 .given .1) (refl, (refl, refl))
 
 pub probe-topological-sort-spec : {M : Type 1} → statement M
-probe-topological-sort-spec = tie.close (tie.spec topological-sort-requires code-requires returns)
+probe-topological-sort-spec = tie.close (tie.spec topological-sort-requires enum-told enum-told-2 code-requires returns returns-2)
