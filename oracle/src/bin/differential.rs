@@ -1,6 +1,6 @@
 //! `differential [--percent P] [--seed S] [--seconds T] [PART..]`: compares the parts, all where none is
-//! named, over P percent of the full number of cases, and fails where an answer differs or no part has a name. With a time it goes
-//! on from seed to seed until the time is over.
+//! named, over P percent of the full number of cases, and fails where an answer differs or a name is no part's. With a
+//! time it goes on from seed to seed until the time is over.
 
 use oracle::run::Wanted;
 use oracle::{candidates, check, cost, hierarchy, root, search, start, table, tour};
