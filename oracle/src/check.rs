@@ -1,5 +1,5 @@
-//! Damaged cards against the second reading: the refusal of the check, and of the tour and of a candidate's place, which is
-//! the same and leaves every lent byte alone.
+//! Damaged cards against the second reading: the refusal of the check, and of the tour and of a candidate's place, which
+//! is the same and leaves every lent byte alone.
 
 use crate::doors::refused;
 use crate::exports::{self, Left, UNTOUCHED};
@@ -26,8 +26,8 @@ fn one(bytes: &[u8], seen: &[AtomicU64; 13]) -> Result<u64, String> {
     exported(bytes, code)
 }
 
-/// The exports answer the same, and what is refused leaves everything as it was. A good card has no such candidate as the last of
-/// all numbers; a card's own refusal comes before a candidate's.
+/// The exports answer the same, and what is refused leaves everything as it was. A good card has no candidate of the
+/// largest number; a card's own refusal comes before a candidate's.
 fn exported(bytes: &[u8], code: u64) -> Result<u64, String> {
     const ENOUGH: usize = 40;
     let place = |candidate: u64, due: u64| {

@@ -139,7 +139,7 @@ fn answered(card: &crate::card::Card, tours: &[Tour], _: u64, _: (u64, u64, u64)
     tours.iter().map(|tour| same(|| format!("{card:?}"), tour, &tours[0])).sum()
 }
 
-/// An accepted card gets the original's tour, wherever there was room for it, and a candidate is where the original has it.
+/// An accepted card gets the original's tour wherever there was room, and a candidate is where the original has it.
 #[cfg(feature = "original")]
 fn answered(card: &crate::card::Card, tours: &[Tour], candidate: u64, place: (u64, u64, u64)) -> Result<u64, String> {
     let problem = crate::answer::Problem::of(card);

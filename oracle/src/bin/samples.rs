@@ -42,9 +42,9 @@ fn examples() {
     }
 }
 
-/// The cards that the program `replay` runs over, each after its length in four bytes, and what it must print: first the edges
-/// that the paper names, then cards from the generator, by turns good and damaged. Most are small, so that the file is; every
-/// twenty-fifth has any size up to one byte too many.
+/// The cards that the program `replay` runs over, each after its length in four bytes, and what it must print: first the
+/// edges that the paper names, then cards from the generator, by turns good and damaged. Most are small, so that the file
+/// is; every twenty-fifth has any size up to one byte too many.
 fn replay(crate_folder: &Path) {
     let (mut cards, mut lists) = (Vec::new(), String::new());
     let kept = |case: &u64, bytes: &[u8]| bytes.len() <= if case % 25 == 0 { 23_041 } else { 6 * BLOCK };
