@@ -1,4 +1,5 @@
-//! The cards at the edges that the paper names ("Both sides of each edge"), with what it says of each.
+//! The cards at the edges that the paper names ("Both sides of each edge") and at further limits of its table, with what
+//! it says of each.
 
 use crate::card::{Card, Contour, Pair};
 use crate::generate::sheet;
