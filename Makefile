@@ -14,7 +14,9 @@ export U_NESTING_SRC
 CARD ?= examples/job-41.card
 SEED ?= 1
 SECONDS ?= 600
-# The part of the full comparisons that `make test` runs.
+# `make test` compares these parts in full size, and so many percent of the others.
+QUICK = root cost hierarchy candidates check
+SLOW = table start search tour
 PERCENT ?= 5
 
 CARGO = cargo
@@ -44,7 +46,8 @@ hosts: archives
 	$(TEST) --package oracle $(ORIGINAL)
 	$(TEST) --package jambolive
 	hosts/c/test.sh
-	$(ORACLE) differential -- --seed $(SEED) --percent $(PERCENT)
+	$(ORACLE) differential -- --seed $(SEED) $(QUICK)
+	$(ORACLE) differential -- --seed $(SEED) --percent $(PERCENT) $(SLOW)
 
 no-cargo:
 	@echo 'the tests from Rust and C are left out: cargo is not on this machine'
@@ -72,7 +75,11 @@ fuzz:
 		-- $(SEED) $(SECONDS) target/fuzz.card
 
 examples:
+ifeq ($(ORIGINAL),)
+	@echo 'no example is written: the original is not at hand (U_NESTING_SRC)'
+else
 	$(ORACLE) samples $(if $(wildcard crates/replay),-- crates/replay)
+endif
 
 fmt:
 	rt fmt

@@ -1,8 +1,8 @@
 /* In which order to cut a sheet: the calls of the proved library, target/staticlib/libtour.a (and -lm).
  *
  * A card is any `bytes` bytes at `card`. Every call answers one number: 0, or why it refuses, as the refusal's
- * number times 2^32 plus its place. Nothing that is lent is kept, and what a comment does not name stays as it
- * was; after a refusal that is everything. The lent parts may not overlap. */
+ * number times 2^32 plus its place; docs/CARD.md says what each number and place means. Nothing that is lent is kept,
+ * and what a comment does not name stays as it was; after a refusal that is everything. The lent parts may not overlap. */
 #ifndef JAMBOLIVE_H
 #define JAMBOLIVE_H
 
@@ -16,16 +16,17 @@ extern "C" {
 /* A tour never has more entries. */
 enum { JL_CONTOURS = 40 };
 
-/* 0 exactly where the card is good; else refusal 1 to 12. */
+/* 0 exactly where the card is good; else refusal 1 to 12 (docs/CARD.md, "When a card goes back"). */
 uint64_t jl_check(const uint8_t *card, size_t bytes);
 
 /* Writes a good card's tour, a candidate of each contour in the order of cutting, to the first entries of `tour`, the
- * number of trials to `moves` and the length's f64 bits to `length`. Refusal 13, with the entries needed as its
- * place, where `room` entries are too few. */
+ * number of trials to `moves` and the length's f64 bits to `length`. A card that is not good gets its refusal 1 to 12
+ * first, whatever the room; then refusal 13, with the entries needed as its place, where `room` entries are too few. */
 uint64_t jl_tour(const uint8_t *card, size_t bytes, uint8_t *tour, size_t room, uint64_t *moves, uint64_t *length);
 
-/* Writes the position of the contour that a candidate belongs to, and its number within that contour. Refusal 15,
- * with the candidate as its place (2^32 - 1 for any above it), where the card has no such candidate. */
+/* Writes the position of the contour that a candidate belongs to, and its number within that contour. A card that is not
+ * good gets its refusal 1 to 12 first, whatever the candidate; then refusal 15, with the candidate as its place
+ * (2^32 - 1 for any above it), where the card has no such candidate. */
 uint64_t jl_place(const uint8_t *card, size_t bytes, uint64_t candidate, uint64_t *contour, uint64_t *within);
 
 #ifdef __cplusplus

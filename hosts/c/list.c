@@ -3,7 +3,7 @@
 #include <inttypes.h>
 #include <stdio.h>
 
-/* One byte more than the longest card: whatever is longer reads as this, and is refused. */
+/* One byte more than the longest card: whatever is longer is read to its end, kept as this much, and refused. */
 enum { LONGEST = 23041, BLOCK = 512 };
 
 static uint32_t word(const uint8_t *at) {
@@ -24,6 +24,7 @@ static int refused(uint64_t code) {
 int main(void) {
     static uint8_t card[LONGEST];
     size_t bytes = fread(card, 1, LONGEST, stdin);
+    while (getchar() != EOF) continue;
     uint8_t tour[JL_CONTOURS];
     uint64_t moves, length;
     uint64_t code = jl_tour(card, bytes, tour, sizeof tour, &moves, &length);

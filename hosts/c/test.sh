@@ -1,6 +1,6 @@
 #!/bin/sh
-# Builds list.c over the archive and holds what it prints for each example card against the card's list, and
-# against the program cutlist where it is built.
+# Builds list.c over the archive. What it prints, and what the program cutlist prints where it is built, is held against the
+# list of each example card, and against the refusal of no bytes and of more than any card has.
 set -eu
 
 cd "$(dirname "$0")/../.."
@@ -8,10 +8,24 @@ command -v cc >/dev/null || { echo 'C host: left out, no cc on this machine'; ex
 list=target/staticlib/list
 # -lm: the remainder of two floats is the C library's fmod
 cc -std=c11 -O2 -Wall -Wextra -Werror -pedantic -o "$list" hosts/c/list.c target/staticlib/libtour.a -lm
-cards=0
-for card in examples/*.card; do
-    "$list" <"$card" | cmp - "${card%.card}.list"
-    [ ! -x target/bin/cutlist ] || hosts/native/run.sh cutlist <"$card" | cmp - "${card%.card}.list"
-    cards=$((cards + 1))
-done
-echo "C host: $cards cards print their lists"
+
+prints() { # WORDS..: the program, run on every input
+    cards=0
+    for card in examples/*.card; do
+        "$@" <"$card" | cmp - "${card%.card}.list"
+        cards=$((cards + 1))
+    done
+    echo 'REFUSED 1 AT 0' >target/staticlib/due
+    "$@" </dev/null | cmp - target/staticlib/due
+    echo 'REFUSED 1 AT 23041' >target/staticlib/due
+    head -c 1000000 /dev/zero | "$@" | cmp - target/staticlib/due
+}
+
+prints "$list"
+echo "C host: $cards cards print their lists, no bytes and a million are refused"
+if [ -x target/bin/cutlist ]; then
+    prints hosts/native/run.sh cutlist
+    echo "cutlist: $cards cards print their lists, no bytes and a million are refused"
+else
+    echo 'cutlist: left out, target/bin/cutlist is not there (rt check cutlist builds it)'
+fi

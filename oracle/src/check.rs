@@ -1,8 +1,8 @@
-//! Damaged cards against the second reading: the refusal of the check, and of the tour, which is the same
-//! and leaves every lent byte alone.
+//! Damaged cards against the second reading: the refusal of the check, and of the tour and of a candidate's place, which
+//! is the same and leaves every lent byte alone.
 
 use crate::doors::refused;
-use crate::exports::{self, Left};
+use crate::exports::{self, Left, UNTOUCHED};
 use crate::generate::{damaged, mutated};
 use crate::random::Random;
 use crate::reading::refusal;
@@ -26,21 +26,32 @@ fn one(bytes: &[u8], seen: &[AtomicU64; 13]) -> Result<u64, String> {
     exported(bytes, code)
 }
 
-/// The exports answer the same, and a refused tour leaves everything as it was.
+/// The exports answer the same, and what is refused leaves everything as it was. A good card has no candidate of the
+/// largest number; a card's own refusal comes before a candidate's.
 fn exported(bytes: &[u8], code: u64) -> Result<u64, String> {
     const ENOUGH: usize = 40;
-    same(|| "jl_check".to_string(), exports::check(bytes), code)?;
-    if code != 0 {
-        same(|| "jl_tour".to_string(), exports::tour(bytes, ENOUGH)?, Left::refused(code, ENOUGH))?;
+    let place = |candidate: u64, due: u64| {
+        same(|| format!("jl_place of {candidate}"), exports::place(bytes, candidate)?, (due, UNTOUCHED, UNTOUCHED))
+    };
+    same(|| "jl_check".to_string(), exports::check(bytes)?, code)?;
+    if code == 0 {
+        return place(u64::MAX, refused(15, u64::MAX));
     }
-    Ok(1)
+    place(0, code)?;
+    place(u64::MAX, code)?;
+    same(|| "jl_tour".to_string(), exports::tour(bytes, ENOUGH)?, Left::refused(code, ENOUGH))
 }
 
+/// Compares, and fails too where a number was not met at all: even one percent meets each some hundred times.
 pub fn compare(wanted: Wanted) -> bool {
     let seen: [AtomicU64; 13] = Default::default();
     let agreed = cases(wanted, "damaged cards", 150_000, |r: &Random| one(&damaged(r), &seen))
         & cases(wanted, "cards with one byte changed", 150_000, |r: &Random| one(&mutated(r), &seen));
-    let counts: Vec<String> = (0..13).map(|k| format!("{k}: {}", seen[k].load(Ordering::Relaxed))).collect();
+    let seen = seen.map(AtomicU64::into_inner);
+    let counts: Vec<String> = seen.iter().enumerate().map(|(k, count)| format!("{k}: {count}")).collect();
     println!("refusals met, by number (0: a good card): {}", counts.join(", "));
-    agreed
+    if let Some(k) = seen.iter().position(|&count| count == 0) {
+        println!("damaged cards: no card was refused with {k}");
+    }
+    agreed & !seen.contains(&0)
 }

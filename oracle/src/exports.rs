@@ -1,15 +1,11 @@
 //! The exports of the crate `tour`, called as a host calls them, with a watch on every byte that they may
-//! not change.
+//! not change: the card, and what stands around the tour's room and the lent numbers.
 
 unsafe extern "C" {
     pub fn jl_check(card: *const u8, bytes: usize) -> u64;
     pub fn jl_tour(card: *const u8, bytes: usize, tour: *mut u8, room: usize, moves: *mut u64, length: *mut u64)
     -> u64;
     pub fn jl_place(card: *const u8, bytes: usize, candidate: u64, contour: *mut u64, within: *mut u64) -> u64;
-}
-
-pub fn check(card: &[u8]) -> u64 {
-    unsafe { jl_check(card.as_ptr(), card.len()) }
 }
 
 /// What a call of `jl_tour` leaves: its answer, the whole tour room, and the two lent numbers.
@@ -41,23 +37,70 @@ impl Left {
     }
 }
 
-/// Asks for a tour. Fails where the card, or a byte around the room, is not what it was.
-pub fn tour(card: &[u8], room: usize) -> Result<Left, String> {
-    let lent = card.to_vec();
-    let mut bytes = vec![UNTOUCHED as u8; AROUND + room + AROUND];
-    let (mut moves, mut length) = (UNTOUCHED, UNTOUCHED);
-    let at = bytes[AROUND..].as_mut_ptr();
-    let code = unsafe { jl_tour(lent.as_ptr(), lent.len(), at, room, &mut moves, &mut length) };
-    let outside = bytes[..AROUND].iter().chain(&bytes[AROUND + room..]);
-    if lent != card || outside.into_iter().any(|&byte| byte != UNTOUCHED as u8) {
-        return Err("a byte changed that was not lent to be written".to_string());
+/// What is lent to be written, between as much that is not.
+struct Padded<T>(Vec<T>);
+
+impl<T: Copy + PartialEq> Padded<T> {
+    fn of(size: usize, untouched: T) -> Padded<T> {
+        Padded(vec![untouched; AROUND + size + AROUND])
     }
-    Ok(Left { code, room: bytes[AROUND..AROUND + room].to_vec(), moves, length })
+
+    fn lent(&mut self) -> *mut T {
+        self.0[AROUND..].as_mut_ptr()
+    }
+
+    /// What was lent, as a call left it. Fails where something around it changed.
+    fn left(&self, untouched: T) -> Result<&[T], String> {
+        let inside = AROUND..self.0.len() - AROUND;
+        let around = self.0[..inside.start].iter().chain(&self.0[inside.end..]);
+        let kept = around.into_iter().all(|entry| *entry == untouched);
+        if kept { Ok(&self.0[inside]) } else { Err("something changed around what was lent".to_string()) }
+    }
+}
+
+/// A number that is lent to be written.
+fn number() -> Padded<u64> {
+    Padded::of(1, UNTOUCHED)
+}
+
+fn told(number: &Padded<u64>) -> Result<u64, String> {
+    Ok(number.left(UNTOUCHED)?[0])
+}
+
+/// Makes a call on a copy of the card. Fails where the copy is another afterwards.
+fn on(card: &[u8], call: impl FnOnce(*const u8, usize) -> u64) -> Result<u64, String> {
+    let lent = card.to_vec();
+    let code = call(lent.as_ptr(), lent.len());
+    if lent == card { Ok(code) } else { Err("the card changed".to_string()) }
+}
+
+/// Asks whether a card is good.
+pub fn check(card: &[u8]) -> Result<u64, String> {
+    on(card, |at, bytes| unsafe { jl_check(at, bytes) })
+}
+
+/// Asks for a tour.
+pub fn tour(card: &[u8], room: usize) -> Result<Left, String> {
+    let (mut tour, mut moves, mut length) = (Padded::of(room, UNTOUCHED as u8), number(), number());
+    let code = on(card, |at, bytes| unsafe { jl_tour(at, bytes, tour.lent(), room, moves.lent(), length.lent()) })?;
+    let room = tour.left(UNTOUCHED as u8)?.to_vec();
+    Ok(Left { code, room, moves: told(&moves)?, length: told(&length)? })
 }
 
 /// Asks where a candidate is: the answer, then the contour and the number within it.
-pub fn place(card: &[u8], candidate: u64) -> (u64, u64, u64) {
-    let (mut contour, mut within) = (UNTOUCHED, UNTOUCHED);
-    let code = unsafe { jl_place(card.as_ptr(), card.len(), candidate, &mut contour, &mut within) };
-    (code, contour, within)
+pub fn place(card: &[u8], candidate: u64) -> Result<(u64, u64, u64), String> {
+    let (mut contour, mut within) = (number(), number());
+    let code = on(card, |at, bytes| unsafe { jl_place(at, bytes, candidate, contour.lent(), within.lent()) })?;
+    Ok((code, told(&contour)?, told(&within)?))
+}
+
+/// A byte that changed around what was lent is seen.
+#[test]
+fn around_is_watched() {
+    for at in [0, AROUND - 1, AROUND, AROUND + 2, AROUND + 3, 2 * AROUND + 2] {
+        let mut room = Padded::of(3, 7u8);
+        room.0[at] = 8;
+        let inside = (AROUND..AROUND + 3).contains(&at);
+        assert_eq!(room.left(7).is_ok(), inside, "entry {at}");
+    }
 }

@@ -1,6 +1,6 @@
-//! Any bytes through the exports, every lent part at the edge of a guard page: for what no proof covers, the
-//! compiler's back end and the glue of the hosts. What reached code that nothing before it reached is kept, and
-//! mutated further: coverage.rs sees that where the archives count (feature `covered`).
+//! Any bytes through the exports and the safe calls of the crate `jambolive`, every lent part at the edge of a guard
+//! page: for what no proof covers, the compiler's back end and the glue of the hosts. What reached code that nothing
+//! before it reached is kept, and mutated further: coverage.rs sees that where the archives count (feature `covered`).
 
 use crate::card::{BLOCK, seal};
 use crate::coverage::Coverage;
@@ -78,7 +78,19 @@ fn told(bytes: &[u8]) -> u64 {
     u64::from_ne_bytes(bytes.try_into().unwrap())
 }
 
-/// Asks every export about these bytes. Says whether they are a card, or what differs.
+/// A tour with its trials and its length's bits.
+type Tour = (Vec<u8>, u64, u64);
+
+/// Asks the safe calls about a card: their refusal is the one that is due, or there is a tour.
+fn safe(card: &[u8], fault: u64) -> Result<Option<Tour>, String> {
+    let code = |r: jambolive::Refusal| refused(u64::from(r.number()), u64::from(r.place()));
+    same(|| "jambolive::check".to_string(), jambolive::check(card).map_or_else(code, |()| 0), fault)?;
+    let tour = jambolive::tour(card);
+    same(|| "jambolive::tour".to_string(), tour.as_ref().map_or_else(|&r| code(r), |_| 0), fault)?;
+    Ok(tour.ok().map(|t| (t.candidates, t.moves, t.length.to_bits())))
+}
+
+/// Asks every export, and the safe calls, about these bytes. Says whether they are a card, or what differs.
 fn ask(r: &Random, memory: &mut [Guarded; 4], bytes: &[u8]) -> Result<bool, String> {
     let due = reading::card(bytes);
     let what = || format!("{} bytes, due {:?}", bytes.len(), due.as_ref().err());
@@ -104,6 +116,8 @@ fn ask(r: &Random, memory: &mut [Guarded; 4], bytes: &[u8]) -> Result<bool, Stri
     }
     let tour = (code == 0).then(|| (tour[..n].to_vec(), told(first), told(second)));
     same(|| "the card".to_string(), &*card, bytes)?;
+    let tours: Vec<Tour> = tour.into_iter().chain(safe(card, fault)?).collect();
+    same(|| "the card".to_string(), &*card, bytes)?;
 
     first.copy_from_slice(&number());
     second.copy_from_slice(&number());
@@ -113,33 +127,26 @@ fn ask(r: &Random, memory: &mut [Guarded; 4], bytes: &[u8]) -> Result<bool, Stri
     let place = (ours, told(first), told(second));
     match &due {
         Err(_) => same(what, place, (fault, UNTOUCHED, UNTOUCHED))?,
-        Ok(card) => answered(card, tour, candidate, place)?,
+        Ok(card) => answered(card, &tours, candidate, place)?,
     };
     same(|| "the card".to_string(), &*card, bytes)?;
     Ok(due.is_ok())
 }
 
-/// A tour with its trials and its length's bits.
-type Tour = (Vec<u8>, u64, u64);
-
+/// Without the original the export and the safe call can only be held against each other.
 #[cfg(not(feature = "original"))]
-fn answered(_: &crate::card::Card, _: Option<Tour>, _: u64, _: (u64, u64, u64)) -> Result<u64, String> {
-    Ok(1)
+fn answered(card: &crate::card::Card, tours: &[Tour], _: u64, _: (u64, u64, u64)) -> Result<u64, String> {
+    tours.iter().map(|tour| same(|| format!("{card:?}"), tour, &tours[0])).sum()
 }
 
-/// An accepted card gets the original's tour, where there was room for it, and a candidate is where the original has it.
+/// An accepted card gets the original's tour wherever there was room, and a candidate is where the original has it.
 #[cfg(feature = "original")]
-fn answered(
-    card: &crate::card::Card,
-    tour: Option<Tour>,
-    candidate: u64,
-    place: (u64, u64, u64),
-) -> Result<u64, String> {
+fn answered(card: &crate::card::Card, tours: &[Tour], candidate: u64, place: (u64, u64, u64)) -> Result<u64, String> {
     let problem = crate::answer::Problem::of(card);
-    if let Some(ours) = tour {
-        let found = problem.search(card.limit);
-        let theirs = found.tour.iter().map(|&g| g as u8).collect();
-        same(|| format!("{card:?}"), ours, (theirs, found.moves, found.length))?;
+    let found = problem.search(card.limit);
+    let due = (crate::search::bytes(&found.tour), found.moves, found.length);
+    for tour in tours {
+        same(|| format!("{card:?}"), tour, &due)?;
     }
     same(|| format!("{card:?}"), place, crate::tour::place_due(&problem, candidate))
 }
@@ -151,6 +158,9 @@ pub fn run(seed: u64, seconds: u64, failed: &std::path::Path) -> bool {
     let (mut coverage, mut kept) = (Coverage::begin(), Vec::new());
     let (mut case, mut accepted) = (0u64, 0u64);
     println!("fuzz: seed {seed}, {seconds} s, {}", coverage.kind());
+    if cfg!(not(feature = "original")) {
+        println!("fuzz: the original is not at hand: tours are held only against each other, places against nothing");
+    }
     while began.elapsed().as_secs() < seconds {
         let r = Random::of(seed, "fuzz", case);
         let bytes = input(&r, &kept);

@@ -5,6 +5,7 @@ pub mod card;
 pub mod check;
 pub mod coverage;
 pub mod doors;
+pub mod edges;
 pub mod exports;
 pub mod fuzz;
 pub mod generate;

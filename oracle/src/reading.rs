@@ -158,25 +158,22 @@ fn far_place(file: &File) -> Option<usize> {
     (0..file.n).find(|&k| coordinates(k).any(far)).map(|k| k + 1)
 }
 
-/// Row 12: the lowest position from which a walk along pairs leads back to it.
+/// Row 12: the lowest position that pairs lead back to. A flag for each two positions: pairs lead from one to the other.
 fn on_cycle(file: &File) -> Option<usize> {
-    let edges: Vec<(usize, usize)> = (0..file.m)
-        .map(|q| file.pair(q))
-        .map(|p| (file.position(p[0]).unwrap(), file.position(p[2]).unwrap()))
-        .collect();
-    (0..file.n).find(|&from| {
-        let mut reached = vec![false; file.n];
-        let mut todo = vec![from];
-        while let Some(at) = todo.pop() {
-            for &(_, next) in edges.iter().filter(|e| e.0 == at) {
-                if !reached[next] {
-                    reached[next] = true;
-                    todo.push(next);
-                }
+    let mut leads = [[false; 40]; 40];
+    for q in 0..file.m {
+        let [before, _, after, _] = file.pair(q);
+        leads[file.position(before).unwrap()][file.position(after).unwrap()] = true;
+    }
+    for k in 0..file.n {
+        let further = leads[k];
+        for row in leads.iter_mut().filter(|row| row[k]) {
+            for (flag, by_way_of_k) in row.iter_mut().zip(further) {
+                *flag |= by_way_of_k;
             }
         }
-        reached[from]
-    })
+    }
+    (0..file.n).find(|&k| leads[k][k])
 }
 
 /// What a good file says.

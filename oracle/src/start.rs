@@ -35,7 +35,7 @@ unsafe extern "C" {
 }
 
 /// The start that respects the pairs: how many entries it has, and the tour.
-fn constrained(s: &Sheet, n: usize) -> (usize, Vec<u8>) {
+pub fn constrained(s: &Sheet, n: usize) -> (usize, Vec<u8>) {
     let mut tour = vec![u8::MAX; n];
     let count = unsafe {
         probe_start(

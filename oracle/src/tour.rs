@@ -24,7 +24,7 @@ fn one(r: &Random) -> Result<u64, String> {
     limit_near(r, &mut card, || problem.search(0).moves as u32);
     let bytes = card.bytes();
     let what = || format!("{card:?}");
-    same(what, check(&bytes), 0)?;
+    same(what, check(&bytes)?, 0)?;
     if n > 0 {
         let small = r.below(n as u64) as usize;
         same(what, tour(&bytes, small)?, Left::refused(refused(13, n as u64), small))?;
@@ -36,7 +36,7 @@ fn one(r: &Random) -> Result<u64, String> {
     let room = n + r.below(3) as usize;
     same(what, tour(&bytes, room)?, Left::accepted(&found.tour, found.moves, found.length, room))?;
     let candidate = r.pick(&[r.below(80), r.below(1 << 32), problem.instance.total_candidates as u64]);
-    same(what, place(&bytes, candidate), place_due(&problem, candidate))?;
+    same(what, place(&bytes, candidate)?, place_due(&problem, candidate))?;
     same(what, jambolive::list(&bytes), problem.list(&card, &found))
 }
 

@@ -80,7 +80,7 @@ impl Refusal {
             Refusal::Blocks { count } => (5, count),
             Refusal::Contour { position } => (6, position),
             Refusal::Spare { block } => (7, block),
-            Refusal::Coordinate { position } => (8, position.map_or(0, |k| k + 1)),
+            Refusal::Coordinate { position } => (8, position.map_or(0, |k| k.saturating_add(1))),
             Refusal::RepeatedId { position } => (9, position),
             Refusal::UnknownId { pair } => (10, pair),
             Refusal::OtherTag { pair } => (11, pair),
@@ -111,7 +111,10 @@ impl fmt::Display for Refusal {
             Refusal::Length { bytes } => write!(f, "a card has 1 to 45 whole blocks of 512 bytes, not {bytes} bytes"),
             Refusal::Check { block } => write!(f, "the check of block {block} does not fit its bytes"),
             Refusal::Start { block } => write!(f, "block {block} does not begin as it should"),
-            Refusal::Field { field } => f.write_str(FIELDS[field as usize - 1]),
+            Refusal::Field { field } => {
+                let due = FIELDS.get((field as usize).wrapping_sub(1));
+                f.write_str(due.unwrap_or(&"a field of the head is out of its limits"))
+            }
             Refusal::Blocks { count } => write!(f, "the head speaks of another number of blocks than {count}"),
             Refusal::Contour { position } => {
                 write!(f, "contour {position} has no 1 to 30 vertices, no known type, or a byte that should be zero")
@@ -135,15 +138,48 @@ impl fmt::Display for Refusal {
 
 impl std::error::Error for Refusal {}
 
-/// Every answer of the library comes back with its number and place, and every refusal is a sentence.
+/// Every answer of the library comes back with its number and place.
 #[test]
-fn codes_and_sentences() {
+fn codes() {
     assert_eq!(Refusal::of(0), Ok(()));
     for number in (1..=13).chain([15]) {
-        for place in 1..8 {
+        for place in (0..8).chain([u64::from(u32::MAX)]) {
             let refusal = Refusal::of((number << 32) + place).unwrap_err();
             assert_eq!((u64::from(refusal.number()), u64::from(refusal.place())), (number, place));
-            assert!(refusal.to_string().len() > 20);
         }
+    }
+}
+
+#[test]
+fn sentences() {
+    let said = [
+        (1, 0, "a card has 1 to 45 whole blocks of 512 bytes, not 0 bytes"),
+        (1, 23_039, "a card has 1 to 45 whole blocks of 512 bytes, not 23039 bytes"),
+        (1, 23_041, "a card has 1 to 45 whole blocks of 512 bytes, and this is longer"),
+        (2, 0, "the check of block 0 does not fit its bytes"),
+        (3, 44, "block 44 does not begin as it should"),
+        (4, 0, "a field of the head is out of its limits"),
+        (4, 1, "a card has at most 40 contours"),
+        (4, 2, "a card has at most 124 pairs"),
+        (4, 3, "a contour has 1 to 8 candidates"),
+        (4, 4, "a search makes at most 1000 passes"),
+        (4, 5, "the direction of outlines is 0, 1 or 2"),
+        (4, 6, "the direction of holes is 0, 1 or 2"),
+        (4, 7, "a card has at most 80 candidates in all"),
+        (5, 2, "the head speaks of another number of blocks than 2"),
+        (6, 0, "contour 0 has no 1 to 30 vertices, no known type, or a byte that should be zero"),
+        (7, 0, "block 0 has a byte that should be zero"),
+        (8, 0, "home has a coordinate that is too large or no number"),
+        (8, 1, "contour 0 has a coordinate that is too large or no number"),
+        (9, 4, "contour 4 has the id of an earlier contour"),
+        (10, 0, "pair 0 names an id that no contour has"),
+        (11, 123, "pair 123 names a contour by another tag than its own"),
+        (12, 3, "contour 3 would have to be cut before itself"),
+        (13, 40, "the room for the tour is too small: it needs 40 entries"),
+        (15, 80, "the card has no candidate 80"),
+    ];
+    for (number, place, sentence) in said {
+        let code: u64 = (number << 32) + place;
+        assert_eq!(Refusal::of(code).unwrap_err().to_string(), sentence, "{number} at {place}");
     }
 }

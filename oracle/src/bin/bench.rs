@@ -82,21 +82,25 @@ fn classes<A: FnMut(), B: FnMut()>(
     }
 }
 
-/// The search alone, on distances that are there: ours from the original's start on, the original with its start.
+/// The search alone, on distances that are there: the start and what is made of it.
 #[cfg(feature = "original")]
 fn search() {
-    use oracle::{answer::Problem, search};
+    use oracle::{answer::Problem, search, start};
+    use std::hint::black_box;
     classes(
         "search",
         |card| {
-            let problem = Problem::of(card);
-            let (sheet, start) = (search::Sheet::of(card, &problem), search::bytes(&problem.start()));
-            let passes = u32::from(card.passes);
-            move || _ = std::hint::black_box(sheet.improve(&mut start.clone(), passes, 0))
+            let sheet = search::Sheet::of(card, &Problem::of(card));
+            let (n, passes) = (card.contours.len(), u32::from(card.passes));
+            move || {
+                let (_, mut tour) = start::constrained(&sheet, n);
+                black_box(sheet.improve(&mut tour, passes, 0));
+                black_box(tour);
+            }
         },
         |card| {
             let problem = Problem::of(card);
-            move || _ = std::hint::black_box(problem.unlimited())
+            move || _ = black_box(problem.unlimited())
         },
     );
 }
@@ -104,16 +108,17 @@ fn search() {
 /// From a card's bytes, or for the original from its fields, to the tour.
 #[cfg(feature = "original")]
 fn tour() {
-    use oracle::{answer, exports};
+    use oracle::answer;
+    use std::hint::black_box;
     classes(
         "tour",
         |card| {
-            let (bytes, n) = (card.bytes(), card.contours.len());
-            move || _ = std::hint::black_box(exports::tour(&bytes, n).unwrap())
+            let bytes = card.bytes();
+            move || _ = black_box(jambolive::tour(&bytes).unwrap())
         },
         |card| {
             let card = card.clone();
-            move || _ = std::hint::black_box(answer::solved(&card))
+            move || _ = black_box(answer::solved(&card))
         },
     );
 }

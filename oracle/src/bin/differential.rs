@@ -1,6 +1,6 @@
 //! `differential [--percent P] [--seed S] [--seconds T] [PART..]`: compares the parts, all where none is
-//! named, over P percent of the full number of cases, and fails where an answer differs. With a time it goes
-//! on from seed to seed until the time is over.
+//! named, over P percent of the full number of cases, and fails where an answer differs or a name is no part's. With a
+//! time it goes on from seed to seed until the time is over.
 
 use oracle::run::Wanted;
 use oracle::{candidates, check, cost, hierarchy, root, search, start, table, tour};
@@ -30,7 +30,14 @@ fn main() {
             "--percent" => wanted.percent = number(),
             "--seed" => wanted.seed = number(),
             "--seconds" => seconds = number(),
-            _ => named.push(word),
+            _ if PARTS.iter().any(|part| part.0 == word) => named.push(word),
+            _ => {
+                eprintln!(
+                    "differential: no part is named {word}; the parts are {}",
+                    PARTS.map(|part| part.0).join(", ")
+                );
+                std::process::exit(2);
+            }
         }
     }
     let began = std::time::Instant::now();

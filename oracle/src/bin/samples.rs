@@ -3,6 +3,7 @@
 
 use oracle::answer::printed;
 use oracle::card::{BLOCK, Card};
+use oracle::edges::edges;
 use oracle::generate;
 use oracle::random::Random;
 use std::fs;
@@ -41,8 +42,9 @@ fn examples() {
     }
 }
 
-/// The cards that the program `replay` runs over, each after its length in four bytes, and what it must print. Most are
-/// small, so that the file is; every twenty-fifth has any size up to one byte too many.
+/// The cards that the program `replay` runs over, each after its length in four bytes, and what it must print: first the
+/// edges that the paper names, then cards from the generator, by turns good and damaged. Most are small, so that the file
+/// is; every twenty-fifth has any size up to one byte too many.
 fn replay(crate_folder: &Path) {
     let (mut cards, mut lists) = (Vec::new(), String::new());
     let kept = |case: &u64, bytes: &[u8]| bytes.len() <= if case % 25 == 0 { 23_041 } else { 6 * BLOCK };
@@ -50,7 +52,9 @@ fn replay(crate_folder: &Path) {
         let r = Random::of(2026, "replay", case);
         if case % 2 == 0 { generate::good(&r).bytes() } else { generate::damaged(&r) }
     };
-    for bytes in (0..2000).map(|case| (case, made(case))).filter(|(case, bytes)| kept(case, bytes)).map(|made| made.1) {
+    let edges = edges().into_iter().map(|(card, _)| card.bytes());
+    let random = (0..2000).map(|case| (case, made(case))).filter(|(case, bytes)| kept(case, bytes)).map(|made| made.1);
+    for bytes in edges.chain(random) {
         cards.extend((bytes.len() as u32).to_le_bytes());
         cards.extend(&bytes);
         lists += &printed(&bytes);
