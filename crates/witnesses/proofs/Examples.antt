@@ -1,5 +1,5 @@
 -- The examples, computed from their bytes. Assumes nothing.
-use mathlib.Core.Path.{_≡_, refl}
+use mathlib.Core.Path.{_≡_, refl, ap}
 use mathlib.Core.List.{List, [], _∷_, map}
 use Prim.Native.Nat.{ℕ, zero, suc, _<_}
 use native.Mathlib.Omega.{arith}
@@ -8,6 +8,7 @@ use lib.Dec.{T, lit<}
 use lib.Ieee.{add, sub, mul, div, rem, neg, lt, le, eq, ofInt, ofBits, ofFields, odd, size, span, climb, round, units, sum, toBits}
 use lib.Ieee.Fits.{and-l, and-r}
 use lib.ListN.{length, getD}
+use Rattle.answer.specs.declared.Check.{Check}
 use Rattle.answer.specs.Lowest.{lowest, lowestFrom}
 use Rattle.block.specs.Field.{u16At, u32At, u64At, f64At}
 use Rattle.block.specs.Block.{weigh, checkAt, checked, starts, allZero, zerosAt}
@@ -44,6 +45,9 @@ use Rattle.card_laws.proofs.Verdicts.{exactly}
 use Rattle.exact.specs.Grid.{gridPoint, gridPoints}
 use Rattle.tour.specs.Search.{candidatesOn, sheetOn, endOn, outcomeOn}
 use Rattle.tour.specs.Tour.{tourCheck, roomCheck, tourOf}
+use Rattle.text.specs.Text as text
+use Rattle.text.specs.Text.{decimalIn, decimalOf, hexOf}
+use Rattle.list.specs.Lines.{headLine, wayWord, nameWords, placeLine, stopLine, stopLines, outcomeLines, tourLines, refusalLine, listUnless, listOf}
 use Rattle.demands.specs.Demand2.{searchOn}
 use Rattle.demands.specs.Demand3.{OnGrid}
 use Rattle.witnesses.specs.Examples.{limited, Answered, Claim}
@@ -89,6 +93,16 @@ limited-cut = refl
 twelve-past : (s : List ℕ) (place : ℕ) → Given s 12 place → Past11 s
 twelve-past s place (twelve past row) = past
 
+-- ---- printed
+
+job41-printed : listOf (written job41) ≡ text.bytes "JOB 41 CONTOURS 3\n2 20 0 cw\n9 90 0 ccw\n7 70 0 ccw\nMOVES 1\nRAPID 4038000000000000\n"
+unfolding endOn sheetOn gathered owners firsts verticesOf outlineOf offersOf candidatesOf candidatesFrom asType asPreference pointAt nearest walked step visit chosen considered isOpen readyIn readyBy offered offer closer reachOf searched repeated pass turn alternative swap judged shorter tried atLimit row reversal flip turned rev slice contours keepsPairs keptIn latest every paired each lengthOf walk legs homesOf homeLeg distancesOf rowOf legAt legOf listed chained distanceOf distanceSqOf squares sqrtOf rootFinite halves wholeRoot digits seatsOf seekOf lowest lowestFrom u16At u32At u64At f64At bytes blockOf numberBytes pointBytes headBytes pointsBytes contourBytes contourBlocks pairBytes pairBlocks written weigh add sub mul neg lt ofBits ofFields odd size span climb round units sum trailingZeros toBits spaced target perimeterOf around reaches onEdge spotFrom lastSpot spotAt closing edges alongOf div rem le eq ofInt tourOf tourCheck roomCheck checkOf firstRefusal lengthFault checkFault startFault headFault countFault contourFault spareFault farVertex farFault repeatFault nameFault tagFault cycleFault checkAt checked starts allZero zerosAt someOf linked leads listOf tourLines refusalLine headLine stopLines stopLine placeLine nameWords wayWord outcomeLines decimalOf decimalIn hexOf
+job41-printed = refl
+
+waiting-printed : listOf (written waiting) ≡ text.bytes "REFUSED 12 AT 1\n"
+unfolding listOf refusalLine decimalOf decimalIn
+waiting-printed = ap (λ (c : Check). listUnless c (written waiting)) (examples .on-a-cycle)
+
 pub claim : Claim
 claim = record {
   job41-answered = job41-answered;
@@ -99,4 +113,6 @@ claim = record {
   limited-cut = limited-cut;
   waiting-past = twelve-past (written waiting) 1 (exactly (written waiting) .refused-only _ (examples .on-a-cycle));
   waiting-refused = (1, examples .on-a-cycle);
+  job41-printed = job41-printed;
+  waiting-printed = waiting-printed;
 }

@@ -1,4 +1,5 @@
--- Cards that meet what the demands ask for, so that none of them speaks of nothing: job 41, and one whose search is cut. Assumes nothing.
+-- Cards that meet what the demands ask for, so that none of them speaks of nothing: job 41, and one whose search is cut. And what is printed of
+-- them, byte for byte. Assumes nothing.
 use mathlib.Core.Path.{_≡_}
 use mathlib.Core.List.{[], _∷_}
 use Prim.Native.Nat.{ℕ, _*_, _<_}
@@ -14,6 +15,8 @@ use Rattle.card_laws.specs.Examples.{waits, job41, waiting}
 use Rattle.tour.specs.declared.Toured.the-variants.{Done}
 use Rattle.tour.specs.Search.{outcomeOn}
 use Rattle.tour.specs.Tour.{tourOf}
+use Rattle.text.specs.Text.{bytes}
+use Rattle.list.specs.Lines.{listOf}
 use Rattle.demands.specs.Demand1.{RefusedWith}
 use Rattle.demands.specs.Demand2.{searchOn}
 use Rattle.demands.specs.Demand3.{OnGrid}
@@ -60,6 +63,11 @@ pub record Examples : Type 0 where
   -- demand 1: no fault before 12, and 12
   pub waiting-past : Past11 (written waiting)
   pub waiting-refused : RefusedWith 12 (written waiting)
+  -- the lists, as `list::write_list` writes them
+  pub job41-printed :
+      listOf (written job41)
+      ≡ bytes "JOB 41 CONTOURS 3\n2 20 0 cw\n9 90 0 ccw\n7 70 0 ccw\nMOVES 1\nRAPID 4038000000000000\n"
+  pub waiting-printed : listOf (written waiting) ≡ bytes "REFUSED 12 AT 1\n"
 
 abbrev pub Claim : Type 0
 Claim = Examples
