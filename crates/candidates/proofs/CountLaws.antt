@@ -10,11 +10,12 @@ use lib.ListN.{length, getD, replicate, length-append, length-replicate, List·g
 use lib.Ieee.{Float, lt}
 use Rattle.answer.specs.declared.Point.{Point}
 use Rattle.answer.specs.declared.CutDirection.{CutDirection}
+use Rattle.fields.specs.Limits.{perContourLimit}
 use Rattle.points.specs.Numbers.{tiny}
 use Rattle.candidates.specs.declared.Candidate.{Candidate}
 use Rattle.candidates.specs.declared.Spot.{Spot}
 use Rattle.candidates.specs.Along.{perimeterOf, spot}
-use Rattle.candidates.specs.Generate.{mostCandidates, candidateAt, blank, spaced, candidatesFrom, candidatesOf, filled}
+use Rattle.candidates.specs.Generate.{candidateAt, blank, spaced, candidatesFrom, candidatesOf, filled}
 use Rattle.candidates.proofs.FillLaws.{spaced-length}
 
 -- ---- how many
@@ -34,13 +35,13 @@ from-count way v ps c h = go (eqb c 1) (lt (perimeterOf ps) tiny)
 pub count-some : (way : CutDirection) (ps : List Point) (c : ℕ) → 0 < length ps → 0 < c → 0 < length (candidatesOf way ps c)
 unfolding candidatesOf
 count-some way [] c h g = absurd (not-suc-le-zero h)
-count-some way (v ∷ more) c h g = from-count way v (v ∷ more) (min c mostCandidates) (omega arith) .0
+count-some way (v ∷ more) c h g = from-count way v (v ∷ more) (min c perContourLimit) (omega arith) .0
 
 -- and never more than are wanted
-pub count-within : (way : CutDirection) (ps : List Point) (c : ℕ) → 0 < c → length (candidatesOf way ps c) ≤ min c mostCandidates
+pub count-within : (way : CutDirection) (ps : List Point) (c : ℕ) → 0 < c → length (candidatesOf way ps c) ≤ min c perContourLimit
 unfolding candidatesOf
 count-within way [] c g = omega arith
-count-within way (v ∷ more) c g = from-count way v (v ∷ more) (min c mostCandidates) (omega arith) .1
+count-within way (v ∷ more) c g = from-count way v (v ∷ more) (min c perContourLimit) (omega arith) .1
 
 -- ---- what each keeps
 
@@ -67,19 +68,19 @@ spaced-closed way ps total c k (suc n) (suc j) h = spaced-closed way ps total c 
 pub each-closed : (way : CutDirection) (ps : List Point) (c k : ℕ) → k < length (candidatesOf way ps c) → Closed way (getD (candidatesOf way ps c) k blank)
 unfolding candidatesOf candidatesFrom AllClosed
 each-closed way [] c k h = absurd (not-suc-le-zero h)
-each-closed way (v ∷ more) c k h = go (eqb (min c mostCandidates) 1) (lt (perimeterOf (v ∷ more)) tiny) k h
+each-closed way (v ∷ more) c k h = go (eqb (min c perContourLimit) 1) (lt (perimeterOf (v ∷ more)) tiny) k h
   where
-    go : (p q : Bool) → AllClosed way (cond p (candidateAt way (spot v 0) ∷ []) (cond q (candidateAt way (spot v 0) ∷ []) (spaced way (v ∷ more) (perimeterOf (v ∷ more)) (min c mostCandidates) 0 (min c mostCandidates))))
+    go : (p q : Bool) → AllClosed way (cond p (candidateAt way (spot v 0) ∷ []) (cond q (candidateAt way (spot v 0) ∷ []) (spaced way (v ∷ more) (perimeterOf (v ∷ more)) (min c perContourLimit) 0 (min c perContourLimit))))
     go true q = one-closed way (spot v 0)
     go false true = one-closed way (spot v 0)
-    go false false = spaced-closed way (v ∷ more) (perimeterOf (v ∷ more)) (min c mostCandidates) 0 (min c mostCandidates)
+    go false false = spaced-closed way (v ∷ more) (perimeterOf (v ∷ more)) (min c perContourLimit) 0 (min c perContourLimit)
 
 -- ---- where they stand
 
 pub filled-item : (l : List Candidate) (k : ℕ) (d : Candidate) → k < length l → getD (filled l .items) k d ≡ getD l k d
 unfolding filled
-filled-item l k d h = List·getD-append l (replicate (mostCandidates - length l) blank) d k h
+filled-item l k d h = List·getD-append l (replicate (perContourLimit - length l) blank) d k h
 
-pub filled-length : (l : List Candidate) → length l ≤ mostCandidates → length (filled l .items) ≡ mostCandidates
+pub filled-length : (l : List Candidate) → length l ≤ perContourLimit → length (filled l .items) ≡ perContourLimit
 unfolding filled
 filled-length l h = simp (length-append, length-replicate) (omega arith)

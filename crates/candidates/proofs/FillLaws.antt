@@ -10,9 +10,10 @@ use lib.Seq.{set-at}
 use lib.Ieee.{Float}
 use Rattle.answer.specs.declared.Point.{Point}
 use Rattle.answer.specs.declared.CutDirection.{CutDirection}
+use Rattle.fields.specs.Limits.{perContourLimit}
 use Rattle.candidates.specs.declared.Candidate.{Candidate}
 use Rattle.candidates.specs.Along.{spotAt}
-use Rattle.candidates.specs.Generate.{mostCandidates, candidateAt, blank, target, spaced, filled}
+use Rattle.candidates.specs.Generate.{candidateAt, blank, target, spaced, filled}
 
 module _ (way : CutDirection) (ps : List Point) (total : Float) (c : ℕ) where
   pub spaced-length : (k n : ℕ) → length (spaced way ps total c k n) ≡ n
@@ -27,16 +28,16 @@ module _ (way : CutDirection) (ps : List Point) (total : Float) (c : ℕ) where
 
   -- the room with its first k places filled
   abbrev pub room : ℕ → List Candidate
-  room k = spaced way ps total c 0 k ++ replicate (mostCandidates - k) blank
+  room k = spaced way ps total c 0 k ++ replicate (perContourLimit - k) blank
 
   one-more : (k : ℕ) → spaced way ps total c 0 (k + 1) ≡ spaced way ps total c 0 k ++ (candidateAt way (spotAt ps (target total c k)) ∷ [])
   one-more k = rw add-one (spaced-more 0 k ∙ rw zero-add)
 
-  pub room-more : (k : ℕ) → k < mostCandidates → set (room k) k (candidateAt way (spotAt ps (target total c k))) ≡ room (k + 1)
+  pub room-more : (k : ℕ) → k < perContourLimit → set (room k) k (candidateAt way (spotAt ps (target total c k))) ≡ room (k + 1)
   room-more k h =
       let v = candidateAt way (spotAt ps (target total c k)) in
-      let rest = replicate (mostCandidates - (k + 1)) blank in
-      let e : mostCandidates - k ≡ suc (mostCandidates - (k + 1)) = omega arith in
+      let rest = replicate (perContourLimit - (k + 1)) blank in
+      let e : perContourLimit - k ≡ suc (perContourLimit - (k + 1)) = omega arith in
       rw (e, one-more)
       (set-at (spaced way ps total c 0 k) blank rest v k (spaced-length 0 k) ∙ sym (append-assoc (spaced way ps total c 0 k) (v ∷ []) rest))
 

@@ -16,6 +16,7 @@ use Rattle.answer.specs.declared.Point.{Point}
 use Rattle.answer.specs.declared.CutDirection.{CutDirection}
 use Rattle.answer.specs.declared.Found.the-variants.{Absent}
 use Rattle.answer.proofs.LowestLaws.{is-absent}
+use Rattle.fields.specs.Limits.{perContourLimit, vertexLimit}
 use Rattle.points.specs.declared.Ends.{Ends}
 use Rattle.points.specs.Points.{point, nowhere, points, closing, edges}
 use Rattle.points.specs.Bad.{badPoint, badAt, firstBad}
@@ -26,8 +27,7 @@ use Rattle.points.proofs.SizeLaws.{Under, Plus, Over, Near, under-more, plus-un
 use Rattle.candidates.specs.declared.Spot.{Spot}
 use Rattle.candidates.specs.declared.Candidate.{Candidate}
 use Rattle.candidates.specs.Along.{lengthOf, around, perimeterOf, spot, reaches, onEdge, spotFrom, lastSpot, spotAt}
-use Rattle.candidates.specs.Generate.{mostCandidates, candidateAt, blank, target, spaced, candidatesFrom, candidatesOf}
-use Rattle.candidates.specs.Question.{mostVertices}
+use Rattle.candidates.specs.Generate.{candidateAt, blank, target, spaced, candidatesFrom, candidatesOf}
 use Rattle.candidates.proofs.FillLaws.{spaced-length}
 
 -- ---- every vertex is good, so is every edge's end
@@ -76,7 +76,7 @@ zero-plus : Plus 25 zero64
 unfolding ofBits
 zero-plus = (refl, lit≤ tt)
 
-perimeter-plus : (ps : List Point) → AllGood ps → length ps ≤ mostVertices → Plus 85 (perimeterOf ps)
+perimeter-plus : (ps : List Point) → AllGood ps → length ps ≤ vertexLimit → Plus 85 (perimeterOf ps)
 unfolding perimeterOf
 perimeter-plus ps good few =
     let e = edges-length ps in
@@ -151,7 +151,7 @@ spot-near last d i before (e ∷ more) j l u n low high w =
 
 -- ---- the candidates
 
-module _ (ps : List Point) (good : AllGood ps) (few : length ps ≤ mostVertices) (some : 0 < length ps) where
+module _ (ps : List Point) (good : AllGood ps) (few : length ps ≤ vertexLimit) (some : 0 < length ps) where
   vertex-near : (j : ℕ) → j < length ps → Near 160 (getD ps j nowhere)
   vertex-near j h = near-more 20 160 (getD ps j nowhere) (lit≤ tt) (good-near (getD ps j nowhere) (good j h))
 
@@ -189,10 +189,10 @@ module _ (ps : List Point) (good : AllGood ps) (few : length ps ≤ mostVertices
           spaced-near way c 0 c e (omega arith) high (omega arith) j (omega arith)
 
 -- every candidate of a contour that was not refused lies within 2^160, so its distance to any other such point, home too, is finite (`distance-below`)
-pub each-near : (way : CutDirection) (ps : List Point) (c : ℕ) → AllGood ps → length ps ≤ mostVertices
+pub each-near : (way : CutDirection) (ps : List Point) (c : ℕ) → AllGood ps → length ps ≤ vertexLimit
     → (k : ℕ) → k < length (candidatesOf way ps c) → Near 160 (point (getD (candidatesOf way ps c) k blank .x) (getD (candidatesOf way ps c) k blank .y))
 unfolding candidatesOf
 each-near way [] c good few k h = absurd (not-suc-le-zero h)
 each-near way (v ∷ more) c good few k h =
     let some = zero-lt-suc (length more) in
-    from-near (v ∷ more) good few some way v (min c mostCandidates) (vertex-near (v ∷ more) good few some 0 some) (omega arith) k h
+    from-near (v ∷ more) good few some way v (min c perContourLimit) (vertex-near (v ∷ more) good few some 0 some) (omega arith) k h

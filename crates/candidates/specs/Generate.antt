@@ -9,16 +9,13 @@ use lib.Ieee.{Float, binary64, mul, div, rem, lt, ofInt}
 use Rattle.answer.specs.declared.Point.{Point}
 use Rattle.answer.specs.declared.CutDirection.{CutDirection}
 use Rattle.answer.specs.declared.CutDirection.the-variants.{Ccw}
+use Rattle.fields.specs.Limits.{perContourLimit}
 use Rattle.points.specs.Points.{point}
 use Rattle.points.specs.Numbers.{zero64, tiny}
 use Rattle.candidates.specs.declared.Spot.{Spot}
 use Rattle.candidates.specs.declared.Candidate.{Candidate}
 use Rattle.candidates.specs.declared.Candidates.{Candidates}
 use Rattle.candidates.specs.Along.{perimeterOf, spot, spotAt}
-
--- the most candidates of one contour
-abbrev pub mostCandidates : ℕ
-mostCandidates = 8
 
 -- pierced at a spot and cut once around: the end point is the point
 abbrev pub candidateAt : CutDirection → Spot → Candidate
@@ -43,7 +40,7 @@ candidatesFrom way v ps c =
 -- none without a vertex; more than can be held are not asked for
 unfoldable pub candidatesOf : CutDirection → List Point → ℕ → List Candidate
 candidatesOf way [] c = []
-candidatesOf way (v ∷ more) c = candidatesFrom way v (v ∷ more) (min c mostCandidates)
+candidatesOf way (v ∷ more) c = candidatesFrom way v (v ∷ more) (min c perContourLimit)
 
 -- what stands in the places that are not used
 abbrev pub blank : Candidate
@@ -51,4 +48,4 @@ blank = candidateAt Ccw (spot (point zero64 zero64) 0)
 
 -- a list of candidates as it is handed out
 unfoldable pub filled : List Candidate → Candidates
-filled l = record { items = l ++ replicate (mostCandidates - length l) blank; count = length l }
+filled l = record { items = l ++ replicate (perContourLimit - length l) blank; count = length l }

@@ -11,16 +11,13 @@ use Rattle.answer.specs.declared.ContourType.{ContourType}
 use Rattle.answer.specs.declared.CutDirectionPreference.{CutDirectionPreference}
 use Rattle.answer.specs.Lowest.{refuseAt, refuseIf}
 use Rattle.answer.specs.Stage.{firstRefusal}
+use Rattle.fields.specs.Limits.{perContourLimit, vertexLimit}
 use Rattle.points.specs.Points.{points}
 use Rattle.points.specs.Bad.{firstBad}
 use Rattle.candidates.specs.declared.Candidates.{Candidates}
 use Rattle.candidates.specs.declared.Offered.{Offered}
 use Rattle.candidates.specs.Direction.{directionOf}
-use Rattle.candidates.specs.Generate.{mostCandidates, candidatesOf, filled}
-
--- the most vertices of a contour
-abbrev pub mostVertices : ℕ
-mostVertices = 30
+use Rattle.candidates.specs.Generate.{candidatesOf, filled}
 
 -- not from 1 to the most
 abbrev pub outside : ℕ → ℕ → Bool
@@ -30,7 +27,7 @@ outside most n = ltb n 1 || ltb most n
 unfoldable pub oneContour : List Float → ℕ → Check
 oneContour numbers c =
     let v = (length numbers + 1) / 2 in
-    firstRefusal (refuseIf (outside mostCandidates c) 4 3 ∷ refuseIf (outside mostVertices v) 6 v ∷ refuseAt 8 (firstBad numbers v) ∷ [])
+    firstRefusal (refuseIf (outside perContourLimit c) 4 3 ∷ refuseIf (outside vertexLimit v) 6 v ∷ refuseAt 8 (firstBad numbers v) ∷ [])
 
 -- the candidates, unless the check refuses: then none
 abbrev pub offered : Check → Candidates → Offered

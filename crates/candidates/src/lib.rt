@@ -3,10 +3,11 @@ ghost use mathlib.Core.Path.{_≡_};
 ghost use mathlib.Core.List.{[], _∷_};
 ghost use Prim.Native.Nat.{_≤_, min};
 ghost use lib.ListN.{getD};
+ghost use Rattle.fields.specs.Limits.{perContourLimit};
 ghost use Rattle.points.specs.Points.{points, nowhere};
 ghost use Rattle.candidates.specs.Direction.{directionOf};
 ghost use Rattle.candidates.specs.Along.{lengthOf, perimeterOf, reaches, onEdge, spot, spotAt, lastSpot};
-ghost use Rattle.candidates.specs.Generate.{mostCandidates, candidateAt, blank, target, spaced, candidatesOf, filled};
+ghost use Rattle.candidates.specs.Generate.{candidateAt, blank, target, spaced, candidatesOf, filled};
 ghost use Rattle.candidates.specs.Question.{outside, oneContour, offeredOf};
 use answer::Check;
 use answer::ContourType;
@@ -15,14 +16,10 @@ use answer::CutDirectionPreference;
 use answer::Found;
 use answer::Point;
 use answer::Refusal;
+use fields::PER_CONTOUR;
+use fields::VERTICES;
 use points::Ends;
 use points::TINY;
-
-// The most candidates of one contour.
-pub const MOST_CANDIDATES: usize = 8;
-
-// The most vertices of one contour.
-pub const MOST_VERTICES: usize = 30;
 
 // A place where the beam may pierce: the point, where the beam stands after the cut, the vertex at which the point's edge
 // starts, and which way round the contour is cut.
@@ -37,7 +34,7 @@ pub struct Candidate {
 
 // A contour's candidates: the first `count` of the items.
 pub struct Candidates {
-    pub items: [Candidate; 8],
+    pub items: [Candidate; PER_CONTOUR],
     pub count: usize,
 }
 
@@ -224,7 +221,7 @@ fn target_of(total: f64, c: usize, k: usize) -> f64
 
 // c candidates, spaced evenly along the way.
 fn spaced(direction: CutDirection, numbers: &[f64], total: f64, c: usize) -> Candidates
-    requires { ⌜ c ≤ mostCandidates ⌝ }
+    requires { ⌜ c ≤ perContourLimit ⌝ }
     ensures { λ r. ⌜ r ≡ filled (spaced direction (points (now (numbers .entry))) total c 0 c) ⌝ }
 {
     let mut items = [blank(); 8];
@@ -239,12 +236,12 @@ fn spaced(direction: CutDirection, numbers: &[f64], total: f64, c: usize) -> Can
 
 // As many as are wanted, or as can be held.
 fn held(c: usize) -> usize
-    ensures { λ r. ⌜ r ≡ min c mostCandidates ⌝ }
+    ensures { λ r. ⌜ r ≡ min c perContourLimit ⌝ }
 {
-    if c < MOST_CANDIDATES {
+    if c < PER_CONTOUR {
         return c;
     }
-    MOST_CANDIDATES
+    PER_CONTOUR
 }
 
 // The candidates of a contour whose coordinates are known to be good; at most as many as can be held.
@@ -286,14 +283,14 @@ fn outside(most: usize, n: usize) -> bool
 fn one_contour(numbers: &[f64], c: usize) -> Check
     ensures { λ r. ⌜ r ≡ oneContour (now (numbers .entry)) c ⌝ }
 {
-    if outside(MOST_CANDIDATES, c) {
+    if outside(PER_CONTOUR, c) {
         return Check::Refused(Refusal {
             number: 4,
             place: 3,
         });
     }
     let v = (numbers.len() + 1) / 2;
-    if outside(MOST_VERTICES, v) {
+    if outside(VERTICES, v) {
         return Check::Refused(Refusal {
             number: 6,
             place: v,

@@ -13,13 +13,14 @@ use lib.Seq.{getD-at}
 use Rattle.answer.specs.declared.Point.{Point}
 use Rattle.answer.specs.declared.CutDirection.{CutDirection}
 use Rattle.answer.specs.declared.Check.the-variants.{Fine}
+use Rattle.fields.specs.Limits.{perContourLimit}
 use Rattle.points.specs.Points.{nowhere}
 use Rattle.points.specs.Bad.{badPoint}
 use Rattle.points.specs.Numbers.{tiny}
 use Rattle.points.proofs.SizeLaws.{Near}
 use Rattle.candidates.specs.declared.Candidate.{Candidate}
 use Rattle.candidates.specs.Along.{perimeterOf, spot}
-use Rattle.candidates.specs.Generate.{mostCandidates, candidateAt, blank, spaced, candidatesFrom, candidatesOf}
+use Rattle.candidates.specs.Generate.{candidateAt, blank, spaced, candidatesFrom, candidatesOf}
 use Rattle.candidates.proofs.SizeLaws.{AllGood, each-near}
 use Rattle.closure.proofs.PairLaws.{lt-or, same-or}
 use Rattle.fields.specs.Layout.{contoursOf, perContourOf, vertexCountOf, vertexPlace}
@@ -74,7 +75,7 @@ ends-from way v ps c = go (eqb c 1) (lt (perimeterOf ps) tiny)
 ends-of : (way : CutDirection) (ps : List Point) (c : ℕ) → EndsThere (candidatesOf way ps c)
 unfolding candidatesOf
 ends-of way [] c = ends-none
-ends-of way (v ∷ more) c = ends-from way v (v ∷ more) (min c mostCandidates)
+ends-of way (v ∷ more) c = ends-from way v (v ∷ more) (min c perContourLimit)
 
 pub ends-gathered : (s : List ℕ) (n : ℕ) → EndsThere (gathered s n)
 unfolding gathered offersOf

@@ -12,7 +12,7 @@ use lib.Ieee.{Float}
 use lib.Seq.{paste, paste-suc, take-all, take-append-seam}
 use borrow.Author.Tests.{lt-ltb, le-leb, lt-leb, le-ltb, ltb-true, leb-true}
 use Rattle.candidates.specs.declared.Candidate.{Candidate}
-use Rattle.candidates.specs.Generate.{blank, candidatesOf, filled, mostCandidates}
+use Rattle.candidates.specs.Generate.{blank, candidatesOf, filled}
 use Rattle.candidates.proofs.CountLaws.{count-within, filled-length}
 use Rattle.candidates.specs.declared.Candidates.{Candidates}
 use Rattle.instance.specs.declared.Instance.{Instance}
@@ -77,7 +77,7 @@ module _ (s : List ℕ) where
   unfolding offersOf
   offers-within k h = let e = count-within (wayOf s k) (outlineOf s k) (perContourOf s) h in omega arith
 
-  pub offers-few : (k : ℕ) → 0 < perContourOf s → length (offersOf s k) ≤ mostCandidates
+  pub offers-few : (k : ℕ) → 0 < perContourOf s → length (offersOf s k) ≤ perContourLimit
   unfolding offersOf
   offers-few k h = let e = count-within (wayOf s k) (outlineOf s k) (perContourOf s) h in omega arith
 
@@ -155,7 +155,7 @@ unfolding joined heldAt filled gathered owners firsts
 next s k h g =
     let l = offersOf s k in
     let n = length l in
-    let rest = replicate (mostCandidates - n) blank in
+    let rest = replicate (perContourLimit - n) blank in
     let seam : take n (l ++ rest) ≡ l = take-append-seam l rest in
     let items : paste (padded candidateLimit blank (gathered s k)) (length (gathered s k)) (l ++ rest) n ≡ padded candidateLimit blank (gathered s k ++ l) =
     padded-paste candidateLimit blank (gathered s k) (l ++ rest) (length (gathered s k)) n refl (rw length-append (omega arith)) g

@@ -8,9 +8,9 @@ use lib.Ieee.{Float}
 use Rattle.answer.specs.declared.Point.{Point}
 use Rattle.candidates.specs.declared.Candidates.{Candidates}
 use Rattle.points.specs.Numbers.{zero64}
-use Rattle.candidates.specs.Generate.{mostCandidates, blank}
+use Rattle.candidates.specs.Generate.{blank}
 use Rattle.closure.specs.Limits.{CONTOURS}
-use Rattle.fields.specs.Limits.{candidateLimit, vertexLimit}
+use Rattle.fields.specs.Limits.{candidateLimit, vertexLimit, perContourLimit}
 use Rattle.instance.specs.declared.Instance.{Instance}
 use Rattle.instance.specs.declared.Outline.{Outline}
 use Rattle.instance.specs.Gather.{gathered, owners, firsts, heldOf}
@@ -57,8 +57,8 @@ joined held found k = record {
 -- there is room for these candidates of contour k
 pub record Roomy (held : Instance) (found : Candidates) (k : ℕ) : Type 0 where
   pub below : k < CONTOURS
-  pub few : found .count ≤ mostCandidates
-  pub whole : length (found .items) ≡ mostCandidates
+  pub few : found .count ≤ perContourLimit
+  pub whole : length (found .items) ≡ perContourLimit
   pub room : held .count + found .count ≤ candidateLimit
   pub items-whole : length (held .items) ≡ candidateLimit
   pub owner-whole : length (held .owner) ≡ candidateLimit
