@@ -1,3 +1,4 @@
 pub mod StageLaws
 pub mod LowestLaws
 pub mod CodeLaws
+pub mod UniqueLaws

@@ -1,3 +1,4 @@
 pub mod Code
 pub mod Stage
 pub mod Lowest
+pub mod Unique

@@ -22,6 +22,7 @@ fn wide(x: u8) -> u64
     x as u64
 }
 
+// A byte as a number that the sum can take.
 fn weight(x: u8) -> u32
     ensures { λ r. ⌜ (r ≡ x) × (r < 256) ⌝ }
 {

@@ -6,7 +6,7 @@ use Prim.Native.Nat.{ℕ, zero, suc, _-_, _≤_, _<_, min}
 use native.Mathlib.Nat.{not-suc-le-zero, le-of-suc-le-suc}
 use native.Mathlib.Omega.{arith}
 use lib.Dec.{eqb}
-use lib.ListN.{length, getD, replicate, length-append, length-replicate, List·getD-append}
+use lib.ListN.{length, getD, length-append, length-replicate}
 use lib.Ieee.{Float, lt}
 use Rattle.answer.specs.declared.Point.{Point}
 use Rattle.answer.specs.declared.CutDirection.{CutDirection}
@@ -76,10 +76,6 @@ each-closed way (v ∷ more) c k h = go (eqb (min c perContourLimit) 1) (lt (per
     go false false = spaced-closed way (v ∷ more) (perimeterOf (v ∷ more)) (min c perContourLimit) 0 (min c perContourLimit)
 
 -- ---- where they stand
-
-pub filled-item : (l : List Candidate) (k : ℕ) (d : Candidate) → k < length l → getD (filled l .items) k d ≡ getD l k d
-unfolding filled
-filled-item l k d h = List·getD-append l (replicate (perContourLimit - length l) blank) d k h
 
 pub filled-length : (l : List Candidate) → length l ≤ perContourLimit → length (filled l .items) ≡ perContourLimit
 unfolding filled

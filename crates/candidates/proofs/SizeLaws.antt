@@ -14,12 +14,10 @@ use lib.Ieee.Exact.{HasValue}
 use lib.Ieee.Back.{round-whole}
 use Rattle.answer.specs.declared.Point.{Point}
 use Rattle.answer.specs.declared.CutDirection.{CutDirection}
-use Rattle.answer.specs.declared.Found.the-variants.{Absent}
-use Rattle.answer.proofs.LowestLaws.{is-absent}
 use Rattle.fields.specs.Limits.{perContourLimit, vertexLimit}
 use Rattle.points.specs.declared.Ends.{Ends}
-use Rattle.points.specs.Points.{point, nowhere, points, closing, edges}
-use Rattle.points.specs.Bad.{badPoint, badAt, firstBad}
+use Rattle.points.specs.Points.{point, nowhere, closing, edges}
+use Rattle.points.specs.Bad.{badPoint}
 use Rattle.points.specs.Numbers.{zero64, tiny}
 use Rattle.points.specs.Along.{alongOf}
 use Rattle.points.proofs.PointLaws.{edges-length}
@@ -34,10 +32,6 @@ use Rattle.candidates.proofs.FillLaws.{spaced-length}
 
 abbrev pub AllGood : List Point → Type 0
 AllGood ps = (j : ℕ) → j < length ps → badPoint (getD ps j nowhere) ≡ false
-
-pub all-good : (numbers : List Float) (count : ℕ) → firstBad numbers count ≡ Absent → length (points numbers) ≤ count → AllGood (points numbers)
-unfolding firstBad badAt
-all-good numbers count e h j l = is-absent (badAt numbers) count e j (omega arith)
 
 abbrev Ended : Ends → Type 0
 Ended e = Near 20 (e .start) × Near 20 (e .finish)

@@ -192,7 +192,7 @@ fn blank() -> Candidate
 fn none() -> Candidates
     ensures { λ r. ⌜ r ≡ filled [] ⌝ }
 {
-    let items = [blank(); 8];
+    let items = [blank(); PER_CONTOUR];
     Candidates { items, count: 0 }
 }
 
@@ -200,7 +200,7 @@ fn none() -> Candidates
 fn first_vertex(direction: CutDirection, numbers: &[f64]) -> Candidates
     ensures { λ r. ⌜ r ≡ filled (candidateAt direction (spot (getD (points (now (numbers .entry))) 0 nowhere) 0) ∷ []) ⌝ }
 {
-    let mut items = [blank(); 8];
+    let mut items = [blank(); PER_CONTOUR];
     items[0] = candidate_at(
         direction,
         Spot {
@@ -224,7 +224,7 @@ fn spaced(direction: CutDirection, numbers: &[f64], total: f64, c: usize) -> Can
     requires { ⌜ c ≤ perContourLimit ⌝ }
     ensures { λ r. ⌜ r ≡ filled (spaced direction (points (now (numbers .entry))) total c 0 c) ⌝ }
 {
-    let mut items = [blank(); 8];
+    let mut items = [blank(); PER_CONTOUR];
     let mut k = 0;
     while k < c {
         let s = spot_at(numbers, target_of(total, c, k));

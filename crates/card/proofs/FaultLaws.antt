@@ -5,7 +5,7 @@ use mathlib.Core.List.{List}
 use Prim.Native.Nat.{ℕ, _+_, _*_, _%_, _≤_, _<_, min}
 use native.Mathlib.Nat.{mul-le-mul}
 use native.Mathlib.Omega.{arith}
-use lib.Dec.{eqb, ltb}
+use lib.Dec.{eqb}
 use lib.ListN.{length, getD}
 use borrow.Author.Tests.{lt-ltb, le-ltb, le-leb, lt-leb, eq-eqb, ne-eqb}
 use Rattle.answer.specs.declared.Found.the-variants.{At, Absent}
@@ -17,10 +17,6 @@ use Rattle.card.specs.Stages.{lengthFault, kindDue, headFaults, blocksDu
 or-true : (a : Bool) → a || true ≡ true
 or-true true = refl
 or-true false = refl
-
-or-false : (a : Bool) → a || false ≡ a
-or-false true = refl
-or-false false = refl
 
 or-assoc : (a b c : Bool) → a || (b || c) ≡ (a || b) || c
 or-assoc true b c = refl

@@ -9,7 +9,7 @@ use native.Mathlib.Numerals.{add-one}
 use native.Mathlib.Omega.{arith}
 use lib.Dec.{eqb}
 use borrow.Author.Tests.{lt-ltb, le-ltb}
-use lib.ListN.{length, take, getD, set, replicate, length-append, length-replicate, List·getD-append}
+use lib.ListN.{length, take, getD, set, replicate, length-append, List·getD-append}
 use lib.Seq.{take-at, set-at, getD-at, getD-append-add}
 use Rattle.answer.specs.declared.Found.{Found}
 use Rattle.answer.specs.declared.Found.the-variants.{At, Absent}
@@ -19,7 +19,7 @@ use Rattle.answer.proofs.LowestLaws.{Nowhere, is-at}
 use Rattle.card.specs.declared.Named.{Named}
 use Rattle.closure.specs.Limits.{CONTOURS, PAIRS}
 use Rattle.fields.specs.Layout.{idOf, tagOf, contoursOf, pairsOf, beforeIdOf, beforeTagOf, afterIdOf, afterTagOf}
-use Rattle.card.specs.Stages.{isAt, seekOf, repeats, positionOf, unnamed, nameFault, seat, beforeOf, afterOf, otherTag}
+use Rattle.card.specs.Stages.{isAt, seekOf, repeats, positionOf, unnamed, nameFault, beforeOf, afterOf, otherTag}
 use Rattle.card.specs.Names.{seatsOf, padded, namedPairs, namedOf}
 use Rattle.card.proofs.LoopLaws.{found-here, none-found}
 
@@ -73,12 +73,6 @@ seats-length s (suc q) =
 pub padded-none : (s : List ℕ) → replicate (2 * PAIRS) 0 ≡ padded (seatsOf s 0)
 unfolding padded seatsOf
 padded-none s = refl
-
-pub padded-length : (s : List ℕ) (q : ℕ) → q ≤ PAIRS → length (padded (seatsOf s q)) ≡ 2 * PAIRS
-unfolding padded
-padded-length s q h =
-    let r = 2 * PAIRS - length (seatsOf s q) in
-    omega (arith, length-append (seatsOf s q) (replicate r 0), length-replicate {A = ℕ} r 0, seats-length s q)
 
 pub padded-front : (s : List ℕ) (q : ℕ) → take (2 * q) (padded (seatsOf s q)) ≡ seatsOf s q
 unfolding padded

@@ -6,7 +6,6 @@ use lib.Dec.{ltb}
 use lib.ListN.{length, replicate}
 use Rattle.answer.specs.declared.Found.{Found}
 use Rattle.answer.specs.declared.Found.the-variants.{At, Absent}
-use Rattle.answer.specs.declared.Check.{Check}
 use Rattle.answer.specs.declared.Check.the-variants.{Refused}
 use Rattle.answer.specs.Lowest.{refuseAt}
 use Rattle.card.specs.declared.Named.{Named}

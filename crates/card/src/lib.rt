@@ -1,13 +1,12 @@
 // When a card goes back: the first fault of any bytes, with its place; and which contours its pairs name. What a card's fields say
 // stands in the crate `fields`.
 ghost use mathlib.Core.Path.{_≡_};
-ghost use mathlib.Core.Bool.{false, not};
+ghost use mathlib.Core.Bool.{false};
 ghost use Prim.Native.Nat.{_+_, _*_, _<_, _≤_};
-ghost use lib.ListN.{length};
 ghost use Rattle.answer.specs.Lowest.{refuseAt};
 ghost use Rattle.answer.specs.Stage.{firstRefusal};
 ghost use Rattle.closure.specs.Limits.{CONTOURS, PAIRS};
-ghost use Rattle.fields.specs.Layout.{blocksOf, payload, contoursOf, pairsOf};
+ghost use Rattle.fields.specs.Layout.{blocksOf, contoursOf, pairsOf};
 ghost use Rattle.card.specs.Stages.{lengthFault, checkFault, kindDue, startFault, headFaults, headFault, countFault, badContour, contourFault, usedIn, badSpare, spareFault, tooFar, farPoint, farVertex, farFault, seekOf, repeatFault, positionOf, tagFault};
 ghost use Rattle.card.specs.Names.{seatsOf, namedPairs, namedOf};
 ghost use Rattle.card.specs.Verdict.{headStages, blockStages, contourStages, seatStages, pairStages, checkOf};

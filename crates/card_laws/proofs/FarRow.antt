@@ -12,7 +12,7 @@ use Rattle.points.specs.Bad.{badPoint}
 use Rattle.fields.specs.Layout.{homePlace, contoursOf, vertexCountOf, vertexPlace}
 use Rattle.fields.specs.Values.{pointAt}
 use Rattle.card.specs.Stages.{isAt, farPoint, farVertex, farPlace, farFault}
-use Rattle.card_laws.specs.Table.{Lowest, FarCoordinate, at-home, at-vertex, Row8, No}
+use Rattle.card_laws.specs.Table.{FarCoordinate, at-home, at-vertex, Row8, No}
 use Rattle.card_laws.proofs.ExactLaws.{Exact, never, lowest-exact, nowhere}
 use Rattle.card_laws.proofs.FarNumber.{far-is}
 

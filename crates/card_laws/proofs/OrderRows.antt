@@ -1,6 +1,6 @@
 -- 12 is given exactly when no legal order exists; and a fine card's links, pair by pair. Assumes nothing.
 use mathlib.Core.Path.{_≡_, refl, ap, _∙_, subst}
-use mathlib.Core.Bool.{Bool, true, _&&_}
+use mathlib.Core.Bool.{true, _&&_}
 use mathlib.Core.List.{List}
 use Prim.Native.Nat.{ℕ, zero, suc, _≤_, _<_}
 use native.Mathlib.Nat.{le-refl}
@@ -15,7 +15,6 @@ use Rattle.block.proofs.Readings.{and-second, and-both}
 use Rattle.closure.specs.Cycle.{linked, onCycle, Acyclic}
 use Rattle.closure.specs.Pairs.{paired, every, someOf, isPair}
 use Rattle.closure.proofs.PathLaws.{absent-exactly}
-use Rattle.hierarchy.specs.Legal.{Legal}
 use Rattle.hierarchy.specs.Sort.{both}
 use Rattle.hierarchy.proofs.SortedLaws.{legal-exactly}
 use Rattle.fields.specs.Layout.{contoursOf, pairsOf}

@@ -3,7 +3,7 @@ use mathlib.Core.Path.{_≡_, refl, sym, ap, _∙_, subst}
 use mathlib.Core.Logic.{_⊎_, inl, inr}
 use mathlib.Core.Bool.{Bool, true, false, not, _&&_}
 use mathlib.Core.List.{List}
-use Prim.Native.Nat.{ℕ, zero, suc, _+_, _*_, _-_, _≤_, _<_, min}
+use Prim.Native.Nat.{ℕ, suc, _+_, _*_, _-_, _≤_, _<_, min}
 use native.Mathlib.Nat.{add-assoc}
 use native.Mathlib.Omega.{arith}
 use lib.Dec.{eqb, ltb}
@@ -26,7 +26,7 @@ use Rattle.card.specs.Stages.{isAt, pairsIn, usedIn, badSpare, spareFault, seek
 use Rattle.card.specs.Names.{seatsOf}
 use Rattle.card.specs.Verdict.{cycleFault}
 use Rattle.card.proofs.SpareLaws.{used-head, used-contour, used-pairs}
-use Rattle.card_laws.specs.Table.{Lowest, Spare, in-head, in-contour, past-last-pair, past-full-block, SpareByte, Row7, Row9, Has, Unnamed, Row10, OtherTag, Row11, Precedes, Leads, at-once, OnCycle, Row12, No}
+use Rattle.card_laws.specs.Table.{Spare, in-head, in-contour, past-last-pair, past-full-block, SpareByte, Row7, Row9, Has, Unnamed, Row10, OtherTag, Row11, Precedes, Leads, at-once, OnCycle, Row12, No}
 use Rattle.card_laws.proofs.RowLaws.{no-repeat}
 use Rattle.card_laws.proofs.LinkLaws.{found-pair, pair-found}
 use Rattle.card_laws.proofs.ExactLaws.{Exact, never, either-of, first-of, second-of, not-so, so-not, lowest-exact, nowhere}
@@ -168,14 +168,6 @@ module _ (s : List ℕ) where
       go (inl h) = absurd (no-repeat s none k (hk .is-contour) (record { earlier = j; is-earlier = h; same = same }))
       go (inr (inl e)) = e
       go (inr (inr h)) = absurd (no-repeat s none j (hj .is-contour) (record { earlier = k; is-earlier = h; same = sym same }))
-
-  -- the contour that a lookup seats an id at has the id, where some contour does
-  seated : (id k : ℕ) → Has s id k → Has s id (seat (positionOf s id))
-  seated id k h = go (positionOf s id) refl
-    where
-      go : (f : Found) → positionOf s id ≡ f → Has s id (seat (positionOf s id))
-      go (At j) e = subst (λ (f : Found). Has s id (seat f)) (sym e) (looked-up id j e)
-      go Absent e = absurd (not-there id k e h)
 
   -- each id of a pair is some contour's
   known : (id : ℕ) → (((k : ℕ) → Has s id k → ⊥) → ⊥) → Has s id (seat (positionOf s id))

@@ -20,7 +20,7 @@ use Rattle.fields.specs.Limits.{cardBytes, perContourLimit, vertexLimit, pairsA
 use Rattle.fields.specs.Layout.{blocksOf, contoursOf, pairsOf, perContourOf, idOf, vertexCountOf, typeOf, fillerOf}
 use Rattle.card.specs.Stages.{outside, badLength, lengthFault, checkFault, kindDue, startFault, headFaults, headFault, blocksDue, countFault, badContour, contourFault, seekOf, repeats, repeatFault, isAt}
 use Rattle.card.proofs.FaultLaws.{kind-head, kind-contour, kind-pairs}
-use Rattle.card_laws.specs.Table.{Lowest, Row1, CheckDiffers, Row2, Kind, of-head, of-contour, of-pairs, StartsOtherwise, Row3, BadField, contours, pairs, candidates, passes, exterior, interior, all-candidates, Row4, PairBlocks, Row5, BadContour, few-vertices, many-vertices, no-type, byte-eleven, Row6, Repeated, Row9, No}
+use Rattle.card_laws.specs.Table.{Row1, CheckDiffers, Row2, Kind, of-head, of-contour, of-pairs, StartsOtherwise, Row3, BadField, contours, pairs, candidates, passes, exterior, interior, all-candidates, Row4, PairBlocks, Row5, BadContour, few-vertices, many-vertices, no-type, byte-eleven, Row6, Repeated, Row9, No}
 use Rattle.card_laws.proofs.ExactLaws.{Exact, never, either-of, first-of, second-of, not-so, so-not, lowest-exact, if-exact, nowhere}
 
 -- ---- below the least or above the most

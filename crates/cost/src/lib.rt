@@ -55,6 +55,7 @@ fn leg_at(numbers: &[f64], k: usize) -> Ends
     }
 }
 
+// 8 at the first of two points that is bad: 0 or 1.
 fn two_points(a: Point, b: Point) -> Check
     ensures { λ r. ⌜ r ≡ twoPoints a b ⌝ }
 {
@@ -164,6 +165,7 @@ pub fn closest_to(polygon: &[f64], p: Point) -> Closest
     Closest::At(nearest)
 }
 
+// 8 at the first bad vertex, a part of one counted, or else at the number after the last whole one for the point.
 fn polygon_and_point(polygon: &[f64], p: Point) -> Check
     ensures { λ r. ⌜ r ≡ polygonAndPoint (now (polygon .entry)) p ⌝ }
 {
@@ -220,6 +222,7 @@ pub fn rapid_distance(home: Point, numbers: &[f64]) -> f64
     total
 }
 
+// 8 at 0 for home, or else at one more than the first bad end of a leg, a leg that is begun counted.
 fn home_and_legs(home: Point, numbers: &[f64]) -> Check
     ensures { λ r. ⌜ r ≡ homeAndLegs home (now (numbers .entry)) ⌝ }
 {
@@ -259,6 +262,7 @@ fn no_amount(x: f64) -> bool
     true
 }
 
+// 14 at 1 for a bad total, at 2 for a bad weight, at 3 for too many pierces.
 fn amounts(total: f64, count: usize, weight: f64) -> Check
     ensures { λ r. ⌜ r ≡ amounts total count weight ⌝ }
 {

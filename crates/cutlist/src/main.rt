@@ -26,6 +26,7 @@ fn drop_rest() {
     }
 }
 
+// The list of the card on standard input.
 fn main() {
     let mut buffer = [0u8; ROOM];
     let n = io::read_full(0, &mut buffer);

@@ -10,7 +10,6 @@ use lib.Ieee.{Float}
 use lib.ListN.{length}
 use Rattle.answer.specs.declared.Check.{Check}
 use Rattle.answer.specs.declared.Check.the-variants.{Fine, Refused}
-use Rattle.answer.specs.declared.Refusal.{Refusal}
 use Rattle.answer.specs.Code.{codeOf}
 use Rattle.answer.specs.Stage.{firstRefusal}
 use Rattle.answer.proofs.CodeLaws.{code-number, code-place}

@@ -1,6 +1,5 @@
 -- For each callable function two answers that meet its promise are equal: what is answered, and every lent room afterwards. A promise is
 -- an equation with a definition, or a record of such equations; it speaks of every input, refused ones too. Assumes nothing.
-use mathlib.Core.Path.{_≡_}
 use mathlib.Core.List.{List, []}
 use Prim.Native.Nat.{ℕ, _+_, _-_, min}
 use denote.Ref.{now}
@@ -11,6 +10,7 @@ use Rattle.answer.specs.declared.Check.{Check}
 use Rattle.answer.specs.declared.ContourType.{ContourType}
 use Rattle.answer.specs.declared.CutDirectionPreference.{CutDirectionPreference}
 use Rattle.answer.specs.Code.{codeOf}
+use Rattle.answer.specs.Unique.{OneAnswer, Is}
 use Rattle.root.specs.Root.{sqrtOf, rootOf}
 use Rattle.block.specs.Field.{byteAt, u16At, u32At, u64At, f64At}
 use Rattle.block.specs.Block.{starts, checkAt, checked, zerosAt}
@@ -56,14 +56,6 @@ use Rattle.tour.specs.Hosts.{hostTour, hostPlace}
 use Rattle.questions.specs.Nearest.{nearestOf}
 use Rattle.questions.specs.Order.{evaluated}
 use Rattle.questions.specs.Index.{pickedOf, globalOf}
-
--- no two answers meet the promise
-abbrev pub OneAnswer : {A : Type 0} → (A → Type 0) → Type 0
-OneAnswer {A = A} Promise = (x y : A) → Promise x → Promise y → x ≡ y
-
--- the promise of a function whose answer is a definition's
-abbrev pub Is : {A : Type 0} → A → A → Type 0
-Is definition x = x ≡ definition
 
 -- answer, root
 pub record OfNumbers : Type 0 where

@@ -11,7 +11,7 @@ use lib.Pow.{pow-add, pow-mono}
 use lib.IntN.{pos}
 use lib.Ieee.{Float, fin, binary64, add, fits, le}
 use lib.Ieee.Scale.{overflow}
-use Rattle.root.proofs.WholeLaws.{whole-le, whole-lt, square-lt}
+use Rattle.root.proofs.WholeLaws.{whole-le, square-lt}
 use Rattle.root.specs.Steps.{stepsOf}
 use Rattle.root.proofs.StepLaws.{le→steps}
 use Rattle.root.proofs.GridRoot.{Within}
@@ -25,10 +25,6 @@ use Rattle.exact.proofs.GridLaws.{NearLeg, plain-real}
 pub leg-root-le : (S : ℕ) → legRoot S * legRoot S ≤ S * 2 ^ 60
 unfolding legRoot
 leg-root-le S = whole-le (S * 2 ^ 60)
-
-pub leg-root-lt : (S : ℕ) → S * 2 ^ 60 < (legRoot S + 1) * (legRoot S + 1)
-unfolding legRoot
-leg-root-lt S = whole-lt (S * 2 ^ 60)
 
 leg-root-small : (S : ℕ) → S ≤ 2 ^ 49 → legRoot S ≤ 3 * 2 ^ 53
 leg-root-small S h = le-of-lt (square-lt (legRoot S) (3 * 2 ^ 53) (lt-of-le-of-lt (le-trans (leg-root-le S) (mul-le-mul-right (2 ^ 60) h)) (lit< tt)))

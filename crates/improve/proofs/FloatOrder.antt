@@ -10,7 +10,6 @@ use lib.Ieee.Exact.{HasValue, round-exact}
 use lib.Ieee.Fits.{down-pos, and-i, and-l, and-r, round-is}
 use lib.Ieee.Order.{le-of-values, round-mono}
 use lib.Ieee.Positive.{through}
-use lib.Ieee.Scale.{finite}
 use lib.IntN.{ℤ}
 use Rattle.root.proofs.StepLaws.{Held, steps-held, steps-value}
 use Rattle.root.specs.Steps.{stepsIn}
@@ -27,10 +26,6 @@ AtMost true a true b = b ≤ a
 or-l : (p q : Bool) → T p → T (p || q)
 or-l true q t = tt
 or-l false q t = absurd t
-
-or-r : (p q : Bool) → T q → T (p || q)
-or-r true q t = tt
-or-r false q t = t
 
 either : (p q : Bool) (P : Type 0) → (T p → P) → (T q → P) → T (p || q) → P
 either true q P h k t = h tt

@@ -2,13 +2,12 @@
 use mathlib.Core.Bool.{Bool, true, false, not, cond, _&&_}
 use mathlib.Core.List.{List}
 use mathlib.Core.Path.{_≡_, refl, sym, subst}
-use Prim.Native.Nat.{ℕ, zero, suc, _+_, _-_, _≤_, _<_}
+use Prim.Native.Nat.{ℕ, zero, suc, _+_, _-_, _<_}
 use native.Mathlib.Omega.{arith}
 use lib.Dec.{eqb}
 use lib.ListN.{length, getD}
 use lib.Seq.{set-getD}
 use Rattle.table.proofs.EachLaws.{each-keeps}
-use Rattle.table.specs.Each.{each}
 use Rattle.improve.specs.Search.{Sheet, State, lengthIn, contourOf, legal, atLimit, stopped, tried, givenBack, swap, alternative, turn, flip, reversal, row, fresh, pass, repeated, begun, worthwhile, searched}
 use Rattle.improve.specs.After.{Offers}
 

@@ -3,7 +3,7 @@ use mathlib.Core.Path.{_≡_}
 use mathlib.Core.List.{List}
 use Prim.Native.Nat.{ℕ, min}
 use lib.ListN.{length}
-use Rattle.demands.specs.Unique.{OneAnswer}
+use Rattle.answer.specs.Unique.{OneAnswer}
 use Rattle.text.specs.Page.{paged, putByte, put, over}
 use Rattle.list.specs.Lines.{listOf}
 

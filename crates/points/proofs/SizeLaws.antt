@@ -1,6 +1,6 @@
 -- Numbers of bounded size give sums, products, quotients, roots and distances of bounded size: none overflows and none is a NaN. Assumes nothing.
 use mathlib.Core.Path.{_≡_, refl, sym, ap, subst}
-use mathlib.Core.Bool.{Bool, true, false, not, _&&_, _||_, Bool·beq, cond, true≢false}
+use mathlib.Core.Bool.{Bool, true, false, _&&_, _||_, Bool·beq, cond, true≢false}
 use Prim.Native.Nat.{ℕ, zero, suc, _+_, _-_, _*_, _/_, _%_, _^_, _≤_, _<_}
 use native.Mathlib.Nat.{le-trans, le-of-eq, lt-of-le-of-lt, mul-comm, mul-assoc, mul-left-comm, mul-one, mul-pos, mul-le-mul, mul-le-mul-right, le-of-mul-le-mul-right, mul-lt-mul-of-pos-right, div-lt-iff-lt-mul, div-le-of-le-mul, mod-le, pow-suc, zero-mul, zero-lt-suc, lt-irrefl}
 use native.Mathlib.Omega.{arith}

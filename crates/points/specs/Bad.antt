@@ -1,5 +1,5 @@
 -- Which numbers and points are refused as coordinates, and where the first bad point of a list is. Assumes nothing.
-use mathlib.Core.Bool.{Bool, true, false, _||_}
+use mathlib.Core.Bool.{Bool, true, _||_}
 use mathlib.Core.List.{List}
 use Prim.Native.Nat.{ℕ, _*_, _^_}
 use lib.Dec.{ltb}

@@ -1,10 +1,8 @@
 -- Each door's promise leaves one answer: every part of it equals its definition. Assumes nothing.
 use mathlib.Core.Path.{sym, _∙_}
-use Rattle.probe.specs.Unique.{OneAnswer, Is, And, OfNumbers, OfPairs, OfCards, Claim}
-
--- two that equal the same are equal
-one : {A : Type 0} (definition : A) → OneAnswer (Is definition)
-one definition x y e f = e ∙ sym f
+use Rattle.answer.specs.Unique.{OneAnswer}
+use Rattle.answer.proofs.UniqueLaws.{one}
+use Rattle.probe.specs.Unique.{And, OfNumbers, OfPairs, OfCards, Claim}
 
 -- each part by itself
 both : {A B : Type 0} {First : A → Type 0} {Rest : B → Type 0} → OneAnswer First → OneAnswer Rest → OneAnswer (And First Rest)

@@ -1,11 +1,11 @@
--- For each door two answers that meet its promise are equal: what it tells, and all that it is lent, afterwards. `OneAnswer` and `Is` are those
--- of `demands`, said again: this library must not reach `tour`, whose exports its static library would then hold. Assumes nothing.
-use mathlib.Core.Path.{_≡_}
+-- For each door two answers that meet its promise are equal: what it tells, and all that it is lent, afterwards. It stands here and not in `demands`:
+-- this library must not reach `tour`, whose exports its static library would then hold. Assumes nothing.
 use mathlib.Core.List.{List, []}
 use Prim.Native.Nat.{ℕ}
 use lib.Ieee.{Float}
 use lib.ListN.{length}
 use Rattle.answer.specs.Code.{codeOf}
+use Rattle.answer.specs.Unique.{OneAnswer, Is}
 use Rattle.root.specs.Root.{sqrtOf, rootOf}
 use Rattle.points.specs.Points.{point}
 use Rattle.points.specs.Distance.{distanceOf}
@@ -25,14 +25,6 @@ use Rattle.improve.specs.Search.{searched}
 use Rattle.improve.specs.Code.{Reached, sheetOf}
 use Rattle.instance.specs.Room.{instanceOf}
 use Rattle.probe.specs.Told.{rootCode, rootOr, lengthCode, lengthOr, closestCode, nearestOr, countCode, countOr, verdictCode, fineOr, askedOf, nthOf, placeOf, wayOf}
-
--- no two answers meet the promise
-abbrev pub OneAnswer : {A : Type 0} → (A → Type 0) → Type 0
-OneAnswer {A = A} Promise = (x y : A) → Promise x → Promise y → x ≡ y
-
--- the promise that an answer is a definition's
-abbrev pub Is : {A : Type 0} → A → A → Type 0
-Is definition x = x ≡ definition
 
 -- a promise on what is told or lent first, and one on the rest
 abbrev pub And : {A B : Type 0} → (A → Type 0) → (B → Type 0) → A × B → Type 0

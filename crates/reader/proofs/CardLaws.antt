@@ -9,7 +9,6 @@ use Rattle.block.specs.Field.{byteAt, u16At, u32At, u64At}
 use Rattle.block.proofs.Readings.{cut-byte, cut-u16, cut-u32}
 use Rattle.fields.specs.Limits.{vertexLimit}
 use Rattle.fields.specs.Layout.{payload, idOf, tagOf, vertexCountOf, typeOf, fillerOf, vertexPlace}
-use Rattle.reader.specs.declared.Width.{Width}
 use Rattle.reader.specs.declared.Width.the-variants.{One, Two, Four, Eight}
 use Rattle.reader.specs.declared.Field.{Field}
 use Rattle.reader.specs.declared.Head.{Head}

@@ -16,6 +16,7 @@ use fields::VERTICES;
 // The coordinates of the most vertices.
 const COORDINATES: usize = 2 * VERTICES;
 
+// A slice and the place in it where the next field begins.
 pub struct Reader<'a> {
     pub src: &'a [u8],
     pub at: usize,

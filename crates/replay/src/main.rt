@@ -33,6 +33,7 @@ fn next(file: i32) -> bool {
     true
 }
 
+// The list of each card of the file, in its order.
 fn main() {
     let path = b"cards";
     let file = os::open_read(path);

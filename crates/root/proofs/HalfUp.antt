@@ -8,7 +8,7 @@ use native.Mathlib.Omega.{arith}
 use lib.Dec.{T, isLe, isEq, le→leb, eqb→eq, eqb, lit<}
 use lib.Arith.{lt→nleb}
 use lib.Pow.{pow-pos, pow-mono, pow-add}
-use lib.Ieee.{binary64, size, nearest, round, units}
+use lib.Ieee.{binary64, size, round, units}
 use lib.Ieee.Digits.{size-lt, size-le}
 use lib.Ieee.Fits.{core, round-is}
 use lib.Ieee.Nearest.{closest, closest-same, div-same}

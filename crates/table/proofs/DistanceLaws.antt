@@ -1,29 +1,23 @@
 -- What the distances say of two candidates, and of a candidate and home. Assumes nothing.
 use mathlib.Core.List.{List}
 use mathlib.Core.Path.{_≡_, _∙_}
-use Prim.Native.Nat.{ℕ, _*_, _≤_, _<_}
+use Prim.Native.Nat.{ℕ, _*_, _<_}
 use native.Mathlib.Nat.{zero-add}
 use borrow.Author.Tests.{eq-eqb, ne-eqb}
 use lib.Ieee.{nan}
 use lib.ListN.{length, getD}
 use Rattle.answer.specs.declared.Point.{Point}
 use Rattle.candidates.specs.declared.Candidate.{Candidate}
-use Rattle.fields.specs.Limits.{candidateLimit}
 use Rattle.points.specs.Numbers.{huge}
 use Rattle.points.specs.Distance.{distanceOf}
 use Rattle.table.specs.Evaluate.{homeAt, distanceAt}
-use Rattle.table.specs.Distances.{entryLimit, absent, pierced, left, legOf, legAt, rowOf, distancesOf, homeLeg, homesOf}
+use Rattle.table.specs.Distances.{absent, pierced, left, legOf, legAt, rowOf, distancesOf, homeLeg, homesOf}
 use Rattle.table.proofs.FillLaws.{listed-length, listed-at, chained-length, chained-at}
-use Rattle.table.proofs.PlaceLaws.{square-small}
 use Rattle.table.proofs.RoomLaws.{row-length}
 
 pub distances-length : (cs : List Candidate) (owner : List ℕ) → length (distancesOf cs owner) ≡ length cs * length cs
 unfolding distancesOf
 distances-length cs owner = chained-length (rowOf cs owner (length cs)) (length cs) (row-length cs owner (length cs)) (length cs) 0
-
--- the distances of a card's candidates are no more than the limit
-pub distances-few : (cs : List Candidate) (owner : List ℕ) → length cs ≤ candidateLimit → length (distancesOf cs owner) ≤ entryLimit
-distances-few cs owner h = rw (distances-length cs owner) (square-small (length cs) h)
 
 module _ (cs : List Candidate) (owner : List ℕ) (a b : ℕ) (here : a < length cs) (there : b < length cs) where
   -- the entry for a and b is the way from a to b
