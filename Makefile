@@ -35,12 +35,12 @@ job:
 	hosts/native/run.sh cutlist <$(CARD)
 
 # The gate starts from nothing and leaves what it proved, so that the archives below need no second proof. Its last line
-# is said again at the end; whatever fails before ends the run.
+# is kept, once target/ is there again, and said again at the end; whatever fails before ends the run.
 test:
 	@log=$$(mktemp) && trap "rm -f $$log" EXIT && \
-	{ rt ci >$$log 2>&1 || { cat $$log; exit 1; }; } && cat $$log && \
-	$(MAKE) --no-print-directory $(if $(shell command -v $(CARGO)),hosts,no-cargo) && \
-	tail -n 1 $$log
+	{ rt ci >$$log 2>&1 || { cat $$log; exit 1; }; } && cat $$log && tail -n 1 $$log >target/gate
+	@$(MAKE) --no-print-directory $(if $(shell command -v $(CARGO)),hosts,no-cargo)
+	@cat target/gate
 
 hosts: archives
 	$(TEST) --package oracle $(ORIGINAL)
@@ -74,11 +74,11 @@ fuzz:
 	JAMBOLIVE_ARCHIVES=target/covered $(ORACLE) fuzz --features covered --target-dir target/fuzz \
 		-- $(SEED) $(SECONDS) target/fuzz.card
 
-examples:
+examples: $(if $(ORIGINAL),archives)
 ifeq ($(ORIGINAL),)
 	@echo 'no example is written: the original is not at hand (U_NESTING_SRC)'
 else
-	$(ORACLE) samples $(if $(wildcard crates/replay),-- crates/replay)
+	$(ORACLE) samples -- crates/replay
 endif
 
 fmt:

@@ -1,9 +1,10 @@
 //! The candidates of one contour against the original's; the refusals against the paper.
 
 use crate::card::Contour;
+use crate::cost::{first_bad, points};
 use crate::doors::{Back, KEPT, refused};
 use crate::generate::outline;
-use crate::random::{KINDS, REACH, Random};
+use crate::random::{KINDS, Random};
 use crate::run::{Wanted, cases, same};
 use original::config::CuttingConfig;
 use original::gtsp::{PierceCandidate, discretize_contours};
@@ -64,16 +65,15 @@ fn told(c: &PierceCandidate) -> Told {
 
 fn theirs(q: &Asked) -> Result<Vec<Told>, u64> {
     let v = q.numbers.len().div_ceil(2);
-    let vertices: Vec<(f64, f64)> = q.numbers.chunks_exact(2).map(|p| (p[0], p[1])).collect();
-    let far = |p: &(f64, f64)| !(p.0.abs() <= REACH && p.1.abs() <= REACH);
+    let vertices = points(&q.numbers);
     if !(1..=8).contains(&q.c) {
         return Err(refused(4, 3));
     }
     if !(1..=30).contains(&v) {
         return Err(refused(6, v as u64));
     }
-    if let Some(k) = vertices.iter().position(far) {
-        return Err(refused(8, k as u64));
+    if let Some(k) = first_bad(&vertices) {
+        return Err(refused(8, k));
     }
     if vertices.len() < v {
         return Err(refused(8, vertices.len() as u64));

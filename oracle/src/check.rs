@@ -7,6 +7,7 @@ use crate::generate::{damaged, mutated};
 use crate::random::Random;
 use crate::reading::refusal;
 use crate::run::{Wanted, cases, same};
+use jambolive::CONTOURS;
 use std::sync::atomic::{AtomicU64, Ordering};
 
 unsafe extern "C" {
@@ -29,7 +30,6 @@ fn one(bytes: &[u8], seen: &[AtomicU64; 13]) -> Result<u64, String> {
 /// The exports answer the same, and what is refused leaves everything as it was. A good card has no candidate of the
 /// largest number; a card's own refusal comes before a candidate's.
 fn exported(bytes: &[u8], code: u64) -> Result<u64, String> {
-    const ENOUGH: usize = 40;
     let place = |candidate: u64, due: u64| {
         same(|| format!("jl_place of {candidate}"), exports::place(bytes, candidate)?, (due, UNTOUCHED, UNTOUCHED))
     };
@@ -39,7 +39,7 @@ fn exported(bytes: &[u8], code: u64) -> Result<u64, String> {
     }
     place(0, code)?;
     place(u64::MAX, code)?;
-    same(|| "jl_tour".to_string(), exports::tour(bytes, ENOUGH)?, Left::refused(code, ENOUGH))
+    same(|| "jl_tour".to_string(), exports::tour(bytes, CONTOURS)?, Left::refused(code, CONTOURS))
 }
 
 /// Compares, and fails too where a number was not met at all: even one percent meets each some hundred times.

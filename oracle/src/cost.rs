@@ -44,8 +44,8 @@ fn bad(p: Point) -> bool {
     !(p.0.abs() <= REACH && p.1.abs() <= REACH)
 }
 
-/// Refusal 8 for the first bad point, if there is one.
-fn first_bad(points: &[Point]) -> Option<u64> {
+/// The place of refusal 8: the first bad point, if there is one.
+pub fn first_bad(points: &[Point]) -> Option<u64> {
     points.iter().position(|&p| bad(p)).map(|k| k as u64)
 }
 
@@ -61,7 +61,8 @@ fn numbers(r: &Random, kind: Kind, most: u64) -> Vec<f64> {
     (0..count).map(|_| if fine { r.coordinate(kind) } else { r.number(kind) }).collect()
 }
 
-fn points(numbers: &[f64]) -> Vec<Point> {
+/// The whole points among numbers, two each.
+pub fn points(numbers: &[f64]) -> Vec<Point> {
     numbers.chunks_exact(2).map(|p| (p[0], p[1])).collect()
 }
 

@@ -2,10 +2,11 @@
 
 use crate::doors::{Back, refused};
 use crate::random::Random;
+use crate::reading::led_back;
 use crate::run::{Wanted, cases, same};
+use jambolive::CONTOURS;
 use original::hierarchy::CuttingDag;
 
-const CONTOURS: usize = 40;
 const PAIRS: usize = 124;
 
 unsafe extern "C" {
@@ -81,18 +82,8 @@ fn refusal(contours: usize, pairs: &[u32]) -> Option<u64> {
 
 /// The lowest position that pairs of positions below the count lead back to.
 fn on_cycle(contours: usize, pairs: &[u32]) -> Option<u64> {
-    let mut leads = vec![vec![false; contours]; contours];
-    for pair in pairs.chunks_exact(2).filter(|p| p.iter().all(|&k| (k as usize) < contours)) {
-        leads[pair[0] as usize][pair[1] as usize] = true;
-    }
-    for k in 0..contours {
-        for i in 0..contours {
-            for j in 0..contours {
-                leads[i][j] |= leads[i][k] && leads[k][j];
-            }
-        }
-    }
-    (0..contours).find(|&k| leads[k][k]).map(|k| k as u64)
+    let pairs = pairs.chunks_exact(2).map(|p| (p[0] as usize, p[1] as usize));
+    led_back(contours, pairs.filter(|p| p.0 < contours && p.1 < contours)).map(|k| k as u64)
 }
 
 /// A list of pairs with the questions to ask of it.

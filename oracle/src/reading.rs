@@ -158,14 +158,20 @@ fn far_place(file: &File) -> Option<usize> {
     (0..file.n).find(|&k| coordinates(k).any(far)).map(|k| k + 1)
 }
 
-/// Row 12: the lowest position that pairs lead back to. A flag for each two positions: pairs lead from one to the other.
+/// Row 12: the lowest position that pairs lead back to.
 fn on_cycle(file: &File) -> Option<usize> {
+    let position = |id| file.position(id).unwrap();
+    led_back(file.n, (0..file.m).map(|q| file.pair(q)).map(|[before, _, after, _]| (position(before), position(after))))
+}
+
+/// The lowest of n positions that pairs of them lead back to. A flag for each two positions: pairs lead from one to the
+/// other.
+pub fn led_back(n: usize, pairs: impl Iterator<Item = (usize, usize)>) -> Option<usize> {
     let mut leads = [[false; 40]; 40];
-    for q in 0..file.m {
-        let [before, _, after, _] = file.pair(q);
-        leads[file.position(before).unwrap()][file.position(after).unwrap()] = true;
+    for (before, after) in pairs {
+        leads[before][after] = true;
     }
-    for k in 0..file.n {
+    for k in 0..n {
         let further = leads[k];
         for row in leads.iter_mut().filter(|row| row[k]) {
             for (flag, by_way_of_k) in row.iter_mut().zip(further) {
@@ -173,7 +179,7 @@ fn on_cycle(file: &File) -> Option<usize> {
             }
         }
     }
-    (0..file.n).find(|&k| leads[k][k])
+    (0..n).find(|&k| leads[k][k])
 }
 
 /// What a good file says.

@@ -24,12 +24,13 @@ fn due(x: f64) -> doors::Told {
     if x.is_finite() && x >= 0.0 { doors::is(x.sqrt()) } else { doors::back(14, 0) }
 }
 
-/// A number's bits; the proved code and the processor may have different bits for what is not a number.
-fn plain(x: f64) -> u64 {
-    if x.is_nan() { u64::MAX } else { x.to_bits() }
+/// A number's bits; the proved code and the processor may have different bits for what is not a number. (Were that told
+/// as some 64 bits that a NaN has too, the compiler could take the processor's own NaN for it.)
+fn plain(x: f64) -> Option<u64> {
+    (!x.is_nan()).then(|| x.to_bits())
 }
 
-const SPECIAL: [f64; 20] = [
+const SPECIAL: [f64; 21] = [
     0.0,
     -0.0,
     1.0,
@@ -44,6 +45,7 @@ const SPECIAL: [f64; 20] = [
     f64::MIN,
     f64::MIN_POSITIVE,
     -f64::MIN_POSITIVE,
+    f64::from_bits(1),
     f64::EPSILON,
     1.0 + f64::EPSILON,
     1.0 - f64::EPSILON / 2.0,
@@ -92,5 +94,6 @@ pub fn compare(wanted: Wanted) -> bool {
 fn the_special_values() {
     for x in SPECIAL {
         assert_eq!(root(x), due(x), "root of {x:e}");
+        assert_eq!(plain(sqrt(x)), plain(x.sqrt()), "sqrt of {x:e}");
     }
 }

@@ -7,34 +7,76 @@ use std::fmt;
 #[non_exhaustive]
 pub enum Refusal {
     /// No bytes, no whole blocks, or more than 45 of them. Lengths above 23,040 are told as 23,041.
-    Length { bytes: u32 },
+    Length {
+        /// How many there are.
+        bytes: u32,
+    },
     /// A block's check does not fit its bytes.
-    Check { block: u32 },
+    Check {
+        /// The first such block.
+        block: u32,
+    },
     /// A block does not begin as its place asks.
-    Start { block: u32 },
+    Start {
+        /// The first such block.
+        block: u32,
+    },
     /// A field of the head is out of its limits: contours 1, pairs 2, candidates 3, passes 4, directions 5
     /// and 6, candidates in all 7.
-    Field { field: u32 },
+    Field {
+        /// The first such field.
+        field: u32,
+    },
     /// The head speaks of another number of blocks.
-    Blocks { count: u32 },
+    Blocks {
+        /// How many there are.
+        count: u32,
+    },
     /// A contour's vertex count, type or zero byte.
-    Contour { position: u32 },
+    Contour {
+        /// The first such contour.
+        position: u32,
+    },
     /// A byte that no field uses is not zero.
-    Spare { block: u32 },
+    Spare {
+        /// The first such block.
+        block: u32,
+    },
     /// A coordinate is not finite or too large: home's (None) or a contour's.
-    Coordinate { position: Option<u32> },
+    Coordinate {
+        /// The first such contour; None for home, which is looked at first.
+        position: Option<u32>,
+    },
     /// A contour has the id of an earlier one.
-    RepeatedId { position: u32 },
+    RepeatedId {
+        /// The first such contour.
+        position: u32,
+    },
     /// A pair names an id that no contour has.
-    UnknownId { pair: u32 },
+    UnknownId {
+        /// The first such pair.
+        pair: u32,
+    },
     /// A pair's tag is not its contour's.
-    OtherTag { pair: u32 },
+    OtherTag {
+        /// The first such pair.
+        pair: u32,
+    },
     /// A contour would have to be cut before itself.
-    Cycle { position: u32 },
+    Cycle {
+        /// The first such contour.
+        position: u32,
+    },
     /// The room lent for the tour is too small.
-    Room { needed: u32 },
+    Room {
+        /// The entries that it needs.
+        needed: u32,
+    },
     /// The card has no such candidate.
-    Candidate { number: u32 },
+    Candidate {
+        /// The number that was asked about.
+        number: u32,
+    },
 }
 
 impl Refusal {

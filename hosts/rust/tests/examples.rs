@@ -1,6 +1,6 @@
 //! The example cards, and what every call promises about the memory it is lent.
 
-use jambolive::{Refusal, check, list, tour, tour_into};
+use jambolive::{Refusal, check, list, place, tour, tour_into};
 use std::fs;
 use std::path::PathBuf;
 
@@ -19,8 +19,19 @@ fn every_example_prints_its_list() {
 
 #[test]
 fn job_41() {
-    let found = tour(&example("job-41.card")).unwrap();
+    let card = example("job-41.card");
+    assert_eq!(check(&card), Ok(()));
+    let found = tour(&card).unwrap();
     assert_eq!((found.candidates.as_slice(), found.moves, found.length), ([2, 1, 0].as_slice(), 1, 24.0));
+}
+
+#[test]
+fn a_candidate_has_a_place_or_is_refused() {
+    let card = example("job-41.card");
+    assert_eq!(place(&card, 2), Ok((2, 0)));
+    for number in [3, u8::MAX] {
+        assert_eq!(place(&card, number), Err(Refusal::Candidate { number: u32::from(number) }));
+    }
 }
 
 #[test]
