@@ -14,9 +14,7 @@ export U_NESTING_SRC
 CARD ?= examples/job-41.card
 SEED ?= 1
 SECONDS ?= 600
-# `make test` compares these parts in full size, and so many percent of the others.
-QUICK = root cost hierarchy candidates check
-SLOW = table start search tour
+# `make test` compares the quick parts in full size, and so many percent of the others.
 PERCENT ?= 5
 
 CARGO = cargo
@@ -46,8 +44,7 @@ hosts: archives
 	$(TEST) --package oracle $(ORIGINAL)
 	$(TEST) --package jambolive
 	hosts/c/test.sh
-	$(ORACLE) differential -- --seed $(SEED) $(QUICK)
-	$(ORACLE) differential -- --seed $(SEED) --percent $(PERCENT) $(SLOW)
+	$(ORACLE) differential -- --seed $(SEED) --percent $(PERCENT) --quick-in-full
 
 no-cargo:
 	@echo 'the tests from Rust and C are left out: cargo is not on this machine'

@@ -1,33 +1,35 @@
-//! `differential [--percent P] [--seed S] [--seconds T] [PART..]`: compares the parts, all where none is
-//! named, over P percent of the full number of cases, and fails where an answer differs or a name is no part's. With a
-//! time it goes on from seed to seed until the time is over.
+//! `differential [--percent P] [--quick-in-full] [--seed S] [--seconds T] [PART..]`: compares the parts, all where none
+//! is named, over P percent of the full number of cases, the quick ones in full size where that is asked for, and fails
+//! where an answer differs or a name is no part's. With a time it goes on from seed to seed until the time is over.
 
 use oracle::run::Wanted;
 use oracle::{candidates, check, cost, hierarchy, root, search, start, table, tour};
 
-type Part = (&'static str, fn(Wanted) -> bool);
+/// A part's name, how it is compared, and whether that is quick: in full size a few seconds.
+type Part = (&'static str, fn(Wanted) -> bool, bool);
 
 const PARTS: [Part; 9] = [
-    ("root", root::compare),
-    ("cost", cost::compare),
-    ("hierarchy", hierarchy::compare),
-    ("candidates", candidates::compare),
-    ("table", table::compare),
-    ("start", start::compare),
-    ("search", search::compare),
-    ("check", check::compare),
-    ("tour", tour::compare),
+    ("root", root::compare, true),
+    ("cost", cost::compare, true),
+    ("hierarchy", hierarchy::compare, true),
+    ("candidates", candidates::compare, true),
+    ("table", table::compare, false),
+    ("start", start::compare, false),
+    ("search", search::compare, false),
+    ("check", check::compare, true),
+    ("tour", tour::compare, false),
 ];
 
 fn main() {
     let mut wanted = Wanted { seed: 1, percent: 100 };
-    let mut seconds = 0;
+    let (mut seconds, mut quick_in_full) = (0, false);
     let mut named = Vec::new();
     let mut words = std::env::args().skip(1);
     while let Some(word) = words.next() {
         let mut number = || words.next().and_then(|n| n.parse().ok()).expect("a number after the word");
         match word.as_str() {
             "--percent" => wanted.percent = number(),
+            "--quick-in-full" => quick_in_full = true,
             "--seed" => wanted.seed = number(),
             "--seconds" => seconds = number(),
             _ if PARTS.iter().any(|part| part.0 == word) => named.push(word),
@@ -42,9 +44,11 @@ fn main() {
     }
     let began = std::time::Instant::now();
     loop {
-        println!("differential: seed {}, {} percent", wanted.seed, wanted.percent);
+        let but = if quick_in_full { ", quick parts in full" } else { "" };
+        println!("differential: seed {}, {} percent{but}", wanted.seed, wanted.percent);
         let chosen = PARTS.iter().filter(|p| named.iter().any(|n| n == p.0) || named.is_empty());
-        if !chosen.fold(true, |agreed, part| (part.1)(wanted) & agreed) {
+        let size = |quick: bool| if quick && quick_in_full { Wanted { percent: 100, ..wanted } } else { wanted };
+        if !chosen.fold(true, |agreed, &(_, compare, quick)| compare(size(quick)) & agreed) {
             std::process::exit(1);
         }
         if began.elapsed().as_secs() >= seconds {
