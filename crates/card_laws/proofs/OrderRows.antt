@@ -1,19 +1,18 @@
 -- 12 is given exactly when no legal order exists; and a fine card's links, pair by pair. Assumes nothing.
-use mathlib.Core.Path.{_≡_, refl, ap, _∙_, subst}
-use mathlib.Core.Bool.{true, _&&_}
+use mathlib.Core.Path.{_≡_, refl, ap, _∙_}
+use mathlib.Core.Bool.{true}
 use mathlib.Core.List.{List}
-use Prim.Native.Nat.{ℕ, zero, suc, _≤_, _<_}
+use Prim.Native.Nat.{ℕ, zero, suc, _≤_}
 use native.Mathlib.Nat.{le-refl}
 use native.Mathlib.Omega.{arith}
-use lib.Dec.{ltb}
 use borrow.Author.Tests.{lt-ltb}
 use Rattle.answer.specs.declared.Found.{Found}
 use Rattle.answer.specs.declared.Found.the-variants.{At, Absent}
 use Rattle.answer.specs.declared.Check.the-variants.{Fine}
 use Rattle.answer.specs.Lowest.{lowest}
-use Rattle.block.proofs.Readings.{and-second, and-both}
-use Rattle.closure.specs.Cycle.{linked, onCycle, Acyclic}
-use Rattle.closure.specs.Pairs.{paired, every, someOf, isPair}
+use Rattle.block.proofs.Readings.{and-both}
+use Rattle.closure.specs.Cycle.{onCycle, Acyclic}
+use Rattle.closure.specs.Pairs.{paired, every}
 use Rattle.closure.proofs.PathLaws.{absent-exactly}
 use Rattle.hierarchy.specs.Sort.{both}
 use Rattle.hierarchy.proofs.SortedLaws.{legal-exactly}
@@ -21,12 +20,12 @@ use Rattle.fields.specs.Layout.{contoursOf, pairsOf}
 use Rattle.card.specs.Stages.{beforeOf, afterOf}
 use Rattle.card.specs.Names.{seatsOf}
 use Rattle.card.specs.Verdict.{checkOf}
-use Rattle.card_laws.specs.Table.{Past11, Row12, OnCycle, twelve}
+use Rattle.card_laws.specs.Table.{Past10, Past11, Row12, OnCycle, twelve}
 use Rattle.card_laws.specs.Card.{Accepted}
-use Rattle.card_laws.specs.Orders.{LegalOrder, SentBack12, Twelve, Before, Links}
+use Rattle.card_laws.specs.Orders.{LegalOrder, SentBack12, Twelve, Links}
 use Rattle.card_laws.proofs.ExactLaws.{lowest-exact}
-use Rattle.card_laws.proofs.LinkLaws.{seats-paired, every-last, found-pair, pair-found}
-use Rattle.card_laws.proofs.PairRows.{leads-reach, cycle-row, row-cycle}
+use Rattle.card_laws.proofs.LinkLaws.{seats-paired, every-last}
+use Rattle.card_laws.proofs.PairRows.{link-precedes, precedes-link, leads-reach, cycle-row, row-cycle}
 use Rattle.card_laws.proofs.Verdicts.{exactly, few-by-11}
 use Rattle.card_laws.proofs.Facts.{accepted}
 
@@ -66,22 +65,6 @@ twelve-exactly s = record { no-order = no-order-exists s; sent-back = goes-back 
 -- ---- links
 
 module _ (s : List ℕ) (facts : Accepted s) where
-  is-linked : (i j : ℕ) → Before s i j → linked (contoursOf s) (seatsOf s (pairsOf s)) i j ≡ true
-  unfolding linked
-  is-linked i j b =
-      let hi : i < contoursOf s = subst (λ (k : ℕ). k < contoursOf s) (b .first) (facts .before-named (b .pair) (b .is-pair) .is-contour) in
-      let hj : j < contoursOf s = subst (λ (k : ℕ). k < contoursOf s) (b .second) (facts .after-named (b .pair) (b .is-pair) .is-contour) in
-      and-both _ _ (lt-ltb i (contoursOf s) hi)
-      (and-both _ _ (lt-ltb j (contoursOf s) hj)
-      (pair-found s i j (pairsOf s) (record { pair = b .pair; is-pair = b .is-pair; first = b .first; second = b .second })))
-
-  linked-is : (i j : ℕ) → linked (contoursOf s) (seatsOf s (pairsOf s)) i j ≡ true → Before s i j
-  unfolding linked
-  linked-is i j e =
-      let some = someOf (isPair i j) (paired (seatsOf s (pairsOf s))) in
-      let b = found-pair s i j (pairsOf s) (and-second (ltb j (contoursOf s)) some (and-second (ltb i (contoursOf s)) (ltb j (contoursOf s) && some) e)) in
-      record { pair = b .pair; is-pair = b .is-pair; first = b .first; second = b .second }
-
   all-below : (m : ℕ) → m ≤ pairsOf s → every (both (contoursOf s)) (paired (seatsOf s m)) ≡ true
   unfolding every paired seatsOf
   all-below zero h = refl
@@ -93,4 +76,5 @@ module _ (s : List ℕ) (facts : Accepted s) where
 pub links : (s : List ℕ) → checkOf s ≡ Fine → Links s
 links s e =
     let facts = accepted s e in
-    record { linked-if = is-linked s facts; linked-only = linked-is s facts; all-contours = all-below s facts (pairsOf s) (le-refl (pairsOf s)) }
+    let past : Past10 s = exactly s .fine-only e .0 .0 in
+    record { linked-if = precedes-link s (past .0 .1) (past .1); linked-only = link-precedes s (past .0 .1) (past .1); all-contours = all-below s facts (pairsOf s) (le-refl (pairsOf s)) }

@@ -213,7 +213,7 @@ module _ (s : List ℕ) where
 
     -- ---- 12, once there are no more contours than the closure takes
 
-    link-precedes : (i j : ℕ) → linked (contoursOf s) (seatsOf s (pairsOf s)) i j ≡ true → Precedes s i j
+    pub link-precedes : (i j : ℕ) → linked (contoursOf s) (seatsOf s (pairsOf s)) i j ≡ true → Precedes s i j
     unfolding linked
     link-precedes i j e =
         let some = someOf (isPair i j) (paired (seatsOf s (pairsOf s))) in
@@ -225,7 +225,7 @@ module _ (s : List ℕ) where
           second = subst (Has s (afterIdOf s (b .pair))) (b .second) (after-has (b .pair) (b .is-pair));
         }
 
-    precedes-link : (i j : ℕ) → Precedes s i j → linked (contoursOf s) (seatsOf s (pairsOf s)) i j ≡ true
+    pub precedes-link : (i j : ℕ) → Precedes s i j → linked (contoursOf s) (seatsOf s (pairsOf s)) i j ≡ true
     unfolding linked
     precedes-link i j b =
         let q = b .pair in

@@ -3,17 +3,16 @@
 use mathlib.Core.Path.{_≡_}
 use mathlib.Core.Bool.{true}
 use mathlib.Core.List.{List}
-use Prim.Native.Nat.{ℕ, _<_}
+use Prim.Native.Nat.{ℕ}
 use Rattle.answer.specs.declared.Check.the-variants.{Fine, Refused}
 use Rattle.closure.specs.Cycle.{linked}
 use Rattle.closure.specs.Pairs.{paired, every}
 use Rattle.hierarchy.specs.Legal.{Legal}
 use Rattle.hierarchy.specs.Sort.{both}
 use Rattle.fields.specs.Layout.{contoursOf, pairsOf}
-use Rattle.card.specs.Stages.{beforeOf, afterOf}
 use Rattle.card.specs.Names.{seatsOf}
 use Rattle.card.specs.Verdict.{checkOf}
-use Rattle.card_laws.specs.Table.{Past11}
+use Rattle.card_laws.specs.Table.{Past11, Precedes}
 
 -- an order of the contours that every pair of the card allows
 abbrev pub LegalOrder : List ℕ → Type 0
@@ -28,15 +27,8 @@ pub record Twelve (s : List ℕ) : Type 0 where
   pub sent-back : Past11 s → (LegalOrder s → ⊥) → SentBack12 s
   pub fine-order : checkOf s ≡ Fine → LegalOrder s
 
--- i comes before j because some pair of the card says so
-pub record Before (s : List ℕ) (i j : ℕ) : Type 0 where
-  pub pair : ℕ
-  pub is-pair : pair < pairsOf s
-  pub first : beforeOf s pair ≡ i
-  pub second : afterOf s pair ≡ j
-
--- of a fine card: positions are linked exactly where a pair says so, and every pair's positions are contours
+-- of a fine card: positions are linked exactly where a pair puts the one before the other, and every pair's positions are contours
 pub record Links (s : List ℕ) : Type 0 where
-  pub linked-if : (i j : ℕ) → Before s i j → linked (contoursOf s) (seatsOf s (pairsOf s)) i j ≡ true
-  pub linked-only : (i j : ℕ) → linked (contoursOf s) (seatsOf s (pairsOf s)) i j ≡ true → Before s i j
+  pub linked-if : (i j : ℕ) → Precedes s i j → linked (contoursOf s) (seatsOf s (pairsOf s)) i j ≡ true
+  pub linked-only : (i j : ℕ) → linked (contoursOf s) (seatsOf s (pairsOf s)) i j ≡ true → Precedes s i j
   pub all-contours : every (both (contoursOf s)) (paired (seatsOf s (pairsOf s))) ≡ true

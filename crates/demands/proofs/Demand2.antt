@@ -26,8 +26,9 @@ use Rattle.table.proofs.DistanceLaws.{homes-at, same-contour, other-contour}
 use Rattle.improve.specs.Search.{Sheet, State, lengthIn, swap, alternative, turn, flip, reversal, row, pass, repeated, judged, atLimit, tried, begun, worthwhile, searched}
 use Rattle.improve.proofs.Keeps.{Carries, search-carries, Keeps, search-keeps}
 use Rattle.improve.proofs.TourLaws.{moves-at-most}
-use Rattle.improve.specs.After.{Level, After, here, swapped, flipped}
-use Rattle.improve.proofs.PrefixLaws.{after-counts, Twin, search-twin, cut-at-limit, one-more, limit-idle}
+use Rattle.improve.specs.After.{After, here, swapped, flipped}
+use Rattle.improve.proofs.PassLaws.{repeat-cut, repeat-quiet}
+use Rattle.improve.proofs.PrefixLaws.{level-refl, after-level, after-counts, Twin, search-twin, looser-none, cut-at-limit, one-more, limit-idle}
 use Rattle.instance.specs.Gather.{verticesOf, wayOf, offersOf, gathered}
 use Rattle.instance.proofs.FineLaws.{outline-whole}
 use Rattle.instance.proofs.OwnerLaws.{first-at, gathered-grows, owner-at}
@@ -122,10 +123,9 @@ begins M trial v = record {
 
 no-other : (sheet : Sheet) (M n k : ℕ) (v : State) → (k ≡ 0) ⊎ ((v .better ≡ false) ⊎ (v .cut ≡ true)) → repeated sheet M n k v ≡ v
 unfolding repeated
-no-other sheet M n zero v w = refl
-no-other sheet M n (suc k) v (inl e) = absurd (omega arith)
-no-other sheet M n (suc k) v (inr (inl e)) = rw e
-no-other sheet M n (suc k) v (inr (inr e)) = rw (e, and-false (v .better))
+no-other sheet M n k v (inl e) = rw e
+no-other sheet M n k v (inr (inl e)) = repeat-quiet sheet M n k v e
+no-other sheet M n k v (inr (inr e)) = repeat-cut sheet M n k v e
 
 whole : (s : List ℕ) → checkOf s ≡ Fine → (M most : ℕ) → 3 ≤ contoursOf s → searched (sheetOn s) most M (startOn s) ≡ passesOn s M most (begunOn s)
 unfolding searched repeated
@@ -146,16 +146,6 @@ order s fine M = record {
 
 -- ---- the limit
 
-no-limit : (moves : ℕ) → atLimit 0 moves ≡ false
-unfolding atLimit
-no-limit moves = refl
-
--- what a state has come to does not hang on its flags
-levelled : {sheet : Sheet} {n : ℕ} {b : State} {k : ℕ} {u v : State} → After sheet n b k u → Level u v → After sheet n b k v
-levelled (here l) m = here (record { tour = l .tour ∙ m .tour; cost = l .cost ∙ m .cost; moves = l .moves ∙ m .moves })
-levelled (swapped p held a h o w l) m = swapped p held a h o w (record { tour = l .tour ∙ m .tour; cost = l .cost ∙ m .cost; moves = l .moves ∙ m .moves })
-levelled (flipped i j h g w l) m = flipped i j h g w (record { tour = l .tour ∙ m .tour; cost = l .cost ∙ m .cost; moves = l .moves ∙ m .moves })
-
 module _ (s : List ℕ) where
   never-cut : searchOn s 0 .cut ≡ false
   unfolding swap flip judged
@@ -163,14 +153,14 @@ module _ (s : List ℕ) where
     where
       keeps : Keeps (sheetOn s) 0 (length (startOn s)) (λ v. v .cut ≡ false)
       keeps = record {
-        stops = λ v l q. absurd (true≢false (sym l ∙ no-limit (v .moves)));
+        stops = λ v l q. absurd (true≢false (sym l ∙ not-at-limit 0 (v .moves) (inl refl)));
         begins = λ v q. q;
         swaps = λ p held a v h o m q b. (q, q);
         flips = λ i j v h g m q. q;
       }
 
   cut-short : (M : ℕ) → 0 < M → M < searchOn s 0 .moves → (searchOn s M .moves ≡ M) × ((k : ℕ) × After (sheetOn s) (length (startOn s)) (searchOn s M) (suc k) (searchOn s 0))
-  cut-short M h l = go (search-twin (sheetOn s) (passesOf s) M 0 (startOn s) (λ m e. absurd (true≢false (sym e ∙ no-limit m))))
+  cut-short M h l = go (search-twin (sheetOn s) (passesOf s) M 0 (startOn s) (looser-none M))
     where
       most : searchOn s M .moves ≤ M
       most = moves-at-most (sheetOn s) (passesOf s) M (startOn s) h
@@ -202,23 +192,20 @@ module _ (s : List ℕ) where
   abbrev Reached : State → Type 0
   Reached v = (k : ℕ) × After (sheetOn s) (length (startOn s)) (begunOn s) k v
 
-  same-level : (v : State) → Level v v
-  same-level v = record { tour = refl; cost = refl; moves = refl }
-
   trial-by-trial : (M : ℕ) → Carries (sheetOn s) M (length (startOn s)) Reached (λ p held. Reached)
   trial-by-trial M = record {
-    stops = λ v l q. (q .0, levelled (q .1) (record { tour = refl; cost = refl; moves = refl }));
-    begins = λ v q. (q .0, levelled (q .1) (record { tour = refl; cost = refl; moves = refl }));
-    flips = λ i j v h g m q. (suc (q .0), flipped i j h g (q .1) (same-level _));
+    stops = λ v l q. (q .0, after-level (sheetOn s) (length (startOn s)) (begunOn s) (q .1) (record { tour = refl; cost = refl; moves = refl }));
+    begins = λ v q. (q .0, after-level (sheetOn s) (length (startOn s)) (begunOn s) (q .1) (record { tour = refl; cost = refl; moves = refl }));
+    flips = λ i j v h g m q. (suc (q .0), flipped i j h g (q .1) (level-refl _));
     enters = λ p v q. q;
-    rests = λ p held v l q. (q .0, levelled (q .1) (record { tour = refl; cost = refl; moves = refl }));
-    swaps = λ p held a v h o m q. (suc (q .0), swapped p held a h o (q .1) (same-level _));
+    rests = λ p held v l q. (q .0, after-level (sheetOn s) (length (startOn s)) (begunOn s) (q .1) (record { tour = refl; cost = refl; moves = refl }));
+    swaps = λ p held a v h o m q. (suc (q .0), swapped p held a h o (q .1) (level-refl _));
     leaves = λ p held v q. q;
   }
 
   all-made : (M : ℕ) → After (sheetOn s) (length (startOn s)) (begunOn s) (searchOn s M .moves) (searchOn s M)
   all-made M =
-      let r = search-carries (sheetOn s) (passesOf s) M (startOn s) Reached (λ p held. Reached) (trial-by-trial M) (0, here (same-level _)) in
+      let r = search-carries (sheetOn s) (passesOf s) M (startOn s) Reached (λ p held. Reached) (trial-by-trial M) (0, here (level-refl _)) in
       let e = after-counts (sheetOn s) (length (startOn s)) (begunOn s) (r .1) in
       let k : r .0 ≡ searchOn s M .moves = omega arith in
       subst (λ (z : ℕ). After (sheetOn s) (length (startOn s)) (begunOn s) z (searchOn s M)) k (r .1)

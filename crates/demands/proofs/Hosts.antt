@@ -67,16 +67,16 @@ some-number (ten past row) = omega arith
 some-number (eleven past row) = omega arith
 some-number (twelve past row) = omega arith
 
-coded : (s : List ℕ) → Coded s
-coded s = record { good = (zero-fine (checkOf s) refl, λ e. ap codeOf e); number = code-number; place = code-place }
-  where
-    zero-fine : (c : Check) → checkOf s ≡ c → codeOf (checkOf s) ≡ 0 → checkOf s ≡ Fine
-    zero-fine Fine e z = e
-    zero-fine (Refused r) e z =
-        let code : codeOf (Refused r) ≡ 0 = sym (ap codeOf e) ∙ z in
-        let some = some-number (exactly s .refused-only r e) in
-        let n = code-number r in
-        absurd (omega arith)
+zero-fine : (s : List ℕ) (c : Check) → checkOf s ≡ c → codeOf (checkOf s) ≡ 0 → checkOf s ≡ Fine
+zero-fine s Fine e z = e
+zero-fine s (Refused r) e z =
+    let code : codeOf (Refused r) ≡ 0 = sym (ap codeOf e) ∙ z in
+    let some = some-number (exactly s .refused-only r e) in
+    let n = code-number r in
+    absurd (omega arith)
+
+coded : Coded
+coded = record { good = λ s. (zero-fine s (checkOf s) refl, λ e. ap codeOf e); number = code-number; place = code-place }
 
 toured-so : (s : List ℕ) → TourTold s
 toured-so s room table moves bits large =
@@ -86,4 +86,4 @@ toured-so s room table moves bits large =
     (λ fine. le-ltb (length table) (countOn s * countOn s) (let few = square-small (countOn s) (few-candidates s fine) in omega arith)))
 
 pub claim : Claim
-claim s = (coded s, toured-so s)
+claim = (coded, toured-so)

@@ -40,8 +40,9 @@ nearness = 2 ^ 12
 abbrev pub excess : ℕ
 excess = 2 ^ 13
 
--- what is claimed of a tour and what is told of it: legal; its length a finite number, not below zero and near to both ends of the interval that the exact length lies in; and its upper
--- end no more than the excess above the start's lower end. All lengths are whole numbers of steps of 2^-1074 mm
+-- what is claimed of a tour and what is told of it: legal; its length a finite number, not below zero and near to both ends of the interval
+-- that the exact length lies in; and its upper end no more than the excess above the start's lower end. All lengths are whole numbers of
+-- steps of 2^-1074 mm
 pub record Good (s tour : List ℕ) (told : Outcome) : Type 0 where
   pub legal : LegalOrder s (contours (ownersOn s) tour)
   pub near : NearEnds nearness (told .length) (legsOn s tour)

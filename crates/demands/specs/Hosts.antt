@@ -22,8 +22,8 @@ asTold (answer.Done o) room moves bits = hosted 0 room (o .moves) (toBits binary
 asTold (answer.Refused r) room moves bits = hosted (codeOf (check.Refused r)) room moves bits
 
 -- the number that stands for a check
-pub record Coded (s : List ℕ) : Type 0 where
-  pub good : (codeOf (checkOf s) ≡ 0) ↔ (checkOf s ≡ check.Fine)
+pub record Coded : Type 0 where
+  pub good : (s : List ℕ) → (codeOf (checkOf s) ≡ 0) ↔ (checkOf s ≡ check.Fine)
   pub number : (r : Refusal) → codeOf (check.Refused r) / 2 ^ 32 ≡ r .number
   pub place : (r : Refusal) → r .place < 2 ^ 32 → codeOf (check.Refused r) % 2 ^ 32 ≡ r .place
 
@@ -34,4 +34,4 @@ TourTold s =
     → hostTour s room moves bits ≡ asTold (tourOf s room table .answer) (tourOf s room table .room) moves bits
 
 abbrev pub Claim : Type 0
-Claim = (s : List ℕ) → Coded s × TourTold s
+Claim = Coded × ((s : List ℕ) → TourTold s)

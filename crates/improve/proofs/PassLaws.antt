@@ -35,7 +35,7 @@ repeat-cut sheet limit n (suc k) s e = go (s .better)
     go true = rw e
     go false = refl
 
-repeat-quiet : (sheet : Sheet) (limit n k : ℕ) (s : State) → s .better ≡ false → repeated sheet limit n k s ≡ s
+pub repeat-quiet : (sheet : Sheet) (limit n k : ℕ) (s : State) → s .better ≡ false → repeated sheet limit n k s ≡ s
 unfolding repeated
 repeat-quiet sheet limit n zero s e = refl
 repeat-quiet sheet limit n (suc k) s e = rw e

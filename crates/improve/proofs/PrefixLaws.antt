@@ -16,13 +16,14 @@ use Rattle.improve.proofs.PassLaws.{repeat-cut}
 use Rattle.improve.proofs.TourLaws.{moves-at-most}
 use Rattle.improve.proofs.TrialLaws.{alternative-idle, turn-idle, reversal-idle}
 
-level-refl : (s : State) → Level s s
+pub level-refl : (s : State) → Level s s
 level-refl s = record { tour = refl; cost = refl; moves = refl }
 
 level-trans : (s u v : State) → Level s u → Level u v → Level s v
 level-trans s u v a b = record { tour = a .tour ∙ b .tour; cost = a .cost ∙ b .cost; moves = a .moves ∙ b .moves }
 
-after-level : (sheet : Sheet) (n : ℕ) (s : State) {k : ℕ} {u v : State} → After sheet n s k u → Level u v → After sheet n s k v
+-- what a state has come to does not hang on its flags
+pub after-level : (sheet : Sheet) (n : ℕ) (s : State) {k : ℕ} {u v : State} → After sheet n s k u → Level u v → After sheet n s k v
 after-level sheet n s (here l) m = here (level-trans s _ _ l m)
 after-level sheet n s (swapped p held a h o w l) m = swapped p held a h o w (level-trans _ _ _ l m)
 after-level sheet n s (flipped i j h g w l) m = flipped i j h g w (level-trans _ _ _ l m)
@@ -207,7 +208,7 @@ looser-next M h m e =
     let l : suc M ≤ m = leb-true (suc M) m (both-true (ltb 0 (suc M)) _ e) in
     rw (lt-ltb 0 M h, le-leb M m (omega arith))
 
-looser-none : (M : ℕ) → Looser M 0
+pub looser-none : (M : ℕ) → Looser M 0
 unfolding atLimit
 looser-none M m e = absurd (true≢false (sym e))
 
