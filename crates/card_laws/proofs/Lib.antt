@@ -7,4 +7,5 @@ pub mod PairRows
 pub mod Verdicts
 pub mod Facts
 pub mod Starred
+pub mod OrderLaws
 pub mod OrderRows

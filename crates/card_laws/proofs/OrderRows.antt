@@ -22,9 +22,10 @@ use Rattle.card.specs.Names.{seatsOf}
 use Rattle.card.specs.Verdict.{checkOf}
 use Rattle.card_laws.specs.Table.{Past10, Past11, Row12, OnCycle, twelve}
 use Rattle.card_laws.specs.Card.{Accepted}
-use Rattle.card_laws.specs.Orders.{LegalOrder, SentBack12, Twelve, Links}
+use Rattle.card_laws.specs.Orders.{SomeOrder, RefusedWith, Twelve, Links}
 use Rattle.card_laws.proofs.ExactLaws.{lowest-exact}
 use Rattle.card_laws.proofs.LinkLaws.{seats-paired, every-last}
+use Rattle.card_laws.proofs.OrderLaws.{by-positions, by-ids}
 use Rattle.card_laws.proofs.PairRows.{link-precedes, precedes-link, leads-reach, cycle-row, row-cycle}
 use Rattle.card_laws.proofs.Verdicts.{exactly, few-by-11}
 use Rattle.card_laws.proofs.Facts.{accepted}
@@ -32,14 +33,16 @@ use Rattle.card_laws.proofs.Facts.{accepted}
 -- ---- 12
 
 module _ (s : List ℕ) where
-  no-order-exists : Past11 s → SentBack12 s → LegalOrder s → ⊥
-  no-order-exists past (place, e) legal =
-      let free : Acyclic (contoursOf s) (seatsOf s (pairsOf s)) = legal-exactly (contoursOf s) (few-by-11 s past) (seatsOf s (pairsOf s)) .0 legal in
+  no-order-exists : Past11 s → RefusedWith 12 s → SomeOrder s → ⊥
+  no-order-exists past (place, e) (order, legal) =
+      let free : Acyclic (contoursOf s) (seatsOf s (pairsOf s)) =
+      legal-exactly (contoursOf s) (few-by-11 s past) (seatsOf s (pairsOf s)) .0
+      (order, by-positions s (past .0 .0 .1) (past .0 .1) order legal) in
       let fine : checkOf s ≡ Fine = exactly s .fine-if (past, (λ p row. free p (row .within) (leads-reach s (past .0 .0 .1) (past .0 .1) (row .holds)))) in
       let z : _≡_ {A = ℕ} 0 1 = cc in
       omega arith
 
-  goes-back : Past11 s → (LegalOrder s → ⊥) → SentBack12 s
+  goes-back : Past11 s → (SomeOrder s → ⊥) → RefusedWith 12 s
   goes-back past none = go (lowest (onCycle n seats) n) refl
     where
       n : ℕ
@@ -48,16 +51,20 @@ module _ (s : List ℕ) where
       seats : List ℕ
       seats = seatsOf s (pairsOf s)
 
-      go : (f : Found) → lowest (onCycle n seats) n ≡ f → SentBack12 s
+      go : (f : Found) → lowest (onCycle n seats) n ≡ f → RefusedWith 12 s
       go (At k) e =
           let row : Row12 s k = lowest-exact (onCycle n seats) n (OnCycle s) (cycle-row s (past .0 .0 .1) (past .0 .1)) (row-cycle s (past .0 .0 .1) (past .0 .1)) .found k e in
           (k, exactly s .refused-if (record { number = 12; place = k }) (twelve past row))
-      go Absent e = absurd (none (legal-exactly n (few-by-11 s past) seats .1 (absent-exactly n seats .0 e)))
+      go Absent e =
+          let some = legal-exactly n (few-by-11 s past) seats .1 (absent-exactly n seats .0 e) in
+          absurd (none (some .0, by-ids s (past .0 .0 .1) (past .0 .1) (some .0) (some .1)))
 
-  order-exists : checkOf s ≡ Fine → LegalOrder s
+  order-exists : checkOf s ≡ Fine → SomeOrder s
   order-exists e =
       let facts = accepted s e in
-      legal-exactly (contoursOf s) (facts .few-contours) (seatsOf s (pairsOf s)) .1 (facts .acyclic)
+      let past : Past10 s = exactly s .fine-only e .0 .0 in
+      let some = legal-exactly (contoursOf s) (facts .few-contours) (seatsOf s (pairsOf s)) .1 (facts .acyclic) in
+      (some .0, by-ids s (past .0 .1) (past .1) (some .0) (some .1))
 
 pub twelve-exactly : (s : List ℕ) → Twelve s
 twelve-exactly s = record { no-order = no-order-exists s; sent-back = goes-back s; fine-order = order-exists s }

@@ -3,29 +3,35 @@
 use mathlib.Core.Path.{_≡_}
 use mathlib.Core.Bool.{true}
 use mathlib.Core.List.{List}
-use Prim.Native.Nat.{ℕ}
+use Prim.Native.Nat.{ℕ, _<_}
+use lib.ListN.{getD}
 use Rattle.answer.specs.declared.Check.the-variants.{Fine, Refused}
 use Rattle.closure.specs.Cycle.{linked}
 use Rattle.closure.specs.Pairs.{paired, every}
-use Rattle.hierarchy.specs.Legal.{Legal}
+use Rattle.hierarchy.specs.Legal.{EachOnce}
 use Rattle.hierarchy.specs.Sort.{both}
 use Rattle.fields.specs.Layout.{contoursOf, pairsOf}
 use Rattle.card.specs.Names.{seatsOf}
 use Rattle.card.specs.Verdict.{checkOf}
 use Rattle.card_laws.specs.Table.{Past11, Precedes}
 
--- an order of the contours that every pair of the card allows
-abbrev pub LegalOrder : List ℕ → Type 0
-LegalOrder s = (order : List ℕ) × Legal (contoursOf s) (seatsOf s (pairsOf s)) order
+-- an order in which a card can be cut, as positions: each contour once, and of each pair the first before the second
+pub record LegalOrder (s order : List ℕ) : Type 0 where
+  pub each-once : EachOnce (contoursOf s) order
+  pub pairs-kept : (i j : ℕ) → i < contoursOf s → j < contoursOf s → Precedes s (getD order i 0) (getD order j 0) → i < j
 
--- the card is sent back with 12
-abbrev pub SentBack12 : List ℕ → Type 0
-SentBack12 s = (place : ℕ) × (checkOf s ≡ Refused (record { number = 12; place = place }))
+-- the card can be cut in some order
+abbrev pub SomeOrder : List ℕ → Type 0
+SomeOrder s = (order : List ℕ) × LegalOrder s order
+
+-- the card is sent back with this number, wherever the fault is
+abbrev pub RefusedWith : ℕ → List ℕ → Type 0
+RefusedWith number s = (place : ℕ) × (checkOf s ≡ Refused (record { number = number; place = place }))
 
 pub record Twelve (s : List ℕ) : Type 0 where
-  pub no-order : Past11 s → SentBack12 s → LegalOrder s → ⊥
-  pub sent-back : Past11 s → (LegalOrder s → ⊥) → SentBack12 s
-  pub fine-order : checkOf s ≡ Fine → LegalOrder s
+  pub no-order : Past11 s → RefusedWith 12 s → SomeOrder s → ⊥
+  pub sent-back : Past11 s → (SomeOrder s → ⊥) → RefusedWith 12 s
+  pub fine-order : checkOf s ≡ Fine → SomeOrder s
 
 -- of a fine card: positions are linked exactly where a pair puts the one before the other, and every pair's positions are contours
 pub record Links (s : List ℕ) : Type 0 where

@@ -39,7 +39,7 @@ use Rattle.tour.specs.Tour.{Left, tourOf}
 use Rattle.demands.specs.Demand2.{ownOn, Numbered, Apart, Trials, begunOn, searchOn, passesOn, Begins, Order, Cut, Claim}
 use Rattle.demands.proofs.AskedLaws.{toured-if, done-fine, fine-nothing}
 use Rattle.demands.proofs.NextLaws.{starts}
-use Rattle.demands.proofs.TourLaws.{start-long, tour-long, tour-legal}
+use Rattle.tour_laws.proofs.TourLaws.{start-long, tour-long, tour-legal}
 
 -- ---- candidates
 

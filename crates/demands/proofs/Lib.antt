@@ -1,15 +1,10 @@
 pub mod PairLaws
-pub mod OrderLaws
 pub mod AskedLaws
 pub mod Demand1
-pub mod ShuffleLaws
-pub mod BelowLaws
-pub mod GatherLaws
-pub mod RouteLaws
-pub mod TourLaws
 pub mod ChosenLaws
 pub mod NextLaws
 pub mod Demand2
+pub mod NearLaws
 pub mod Demand3
 pub mod Starred
 pub mod Hosts

@@ -27,11 +27,12 @@ use Rattle.instance.proofs.OwnerLaws.{gathered-grows, first-at}
 use Rattle.solve.specs.Solve.{groundIn}
 use Rattle.tour.specs.Search.{homeOn, candidatesOn, countOn, ownersOn, firstsOn, pairsOn, homesOn, tableOn, sheetOn, startOn}
 use Rattle.demands.specs.Demand2.{wayOn, reachOn, Ready, Takes, Starts}
-use Rattle.demands.proofs.BelowLaws.{AllBelow, below-at, step-below}
+use Rattle.tour_laws.specs.Visits.{AllBelow}
+use Rattle.tour_laws.proofs.BelowLaws.{below-at, step-below}
 use Rattle.demands.proofs.ChosenLaws.{Real, Open, chosen-least, chosen-first}
-use Rattle.demands.proofs.GatherLaws.{firsts-below, ends-gathered, candidate-near}
-use Rattle.demands.proofs.RouteLaws.{stopOf, leg-is}
-use Rattle.demands.proofs.TourLaws.{home-near, start-long}
+use Rattle.tour_laws.proofs.GatherLaws.{firsts-below, ends-gathered, candidate-near}
+use Rattle.tour_laws.proofs.RouteLaws.{stopOf, leg-is}
+use Rattle.tour_laws.proofs.TourLaws.{home-near, start-long}
 
 -- a loop's last step
 each-last : {S : Type 0} (f : ℕ → S → S) (k a : ℕ) (s : S) → each f (suc k) a s ≡ f (a + k) (each f k a s)

@@ -1,18 +1,19 @@
 -- Demand 1: a card is sent back exactly when the table of refusals says so, with the number and the place that it says, and then nothing
 -- that was lent has changed; and a card without an earlier fault is sent back with 12 exactly when there is no order in which it could
 -- be cut. s is the card, any bytes whatever; room and table are lent for the tour and for the distances, of any size.
--- checkOf is what `card::check` promises and tourOf what `tour::tour` does; the rows of the table are in card_laws/specs/Table. Assumes nothing.
+-- checkOf is what `card::check` promises and tourOf what `tour::tour` does; the rows of the table are in card_laws/specs/Table,
+-- the orders in card_laws/specs/Orders. Assumes nothing.
 use mathlib.Core.Path.{_≡_}
 use mathlib.Core.Logic.{_↔_}
 use mathlib.Core.List.{List}
 use Prim.Native.Nat.{ℕ, _*_, _≤_, _<_}
 use lib.Ieee.{Float}
-use lib.ListN.{length, getD}
+use lib.ListN.{length}
 use Rattle.answer.specs.declared.Refusal.{Refusal}
 use Rattle.answer.specs.declared.Check.the-variants as check
-use Rattle.hierarchy.specs.Legal.{EachOnce}
-use Rattle.fields.specs.Layout.{contoursOf, pairsOf, idOf, beforeIdOf, afterIdOf}
+use Rattle.fields.specs.Layout.{contoursOf}
 use Rattle.card_laws.specs.Table.{Given, Sound, Past11}
+use Rattle.card_laws.specs.Orders.{LegalOrder, RefusedWith}
 use Rattle.card.specs.Verdict.{checkOf}
 use Rattle.tour.specs.declared.Toured.the-variants as answer
 use Rattle.tour.specs.Search.{countOn, outcomeOn}
@@ -35,18 +36,6 @@ pub record Nothing (s room : List ℕ) (table : List Float) : Type 0 where
   pub sound : Sound s
   pub room-enough : contoursOf s ≤ length room
   pub table-enough : countOn s * countOn s ≤ length table
-
--- ---- orders
-
--- an order in which a card can be cut, as positions: each contour once, and of each pair the first before the second
-pub record LegalOrder (s order : List ℕ) : Type 0 where
-  pub each-once : EachOnce (contoursOf s) order
-  pub pairs-kept : (q i j : ℕ) → q < pairsOf s → i < contoursOf s → j < contoursOf s
-      → idOf s (getD order i 0) ≡ beforeIdOf s q → idOf s (getD order j 0) ≡ afterIdOf s q → i < j
-
--- the card is sent back with this number, wherever the fault is
-abbrev pub RefusedWith : ℕ → List ℕ → Type 0
-RefusedWith number s = (place : ℕ) × (checkOf s ≡ check.Refused (record { number = number; place = place }))
 
 -- ---- the demand
 

@@ -16,6 +16,7 @@ use Rattle.candidates.specs.Direction.{directionOf}
 use Rattle.candidates.specs.Generate.{candidatesOf}
 use Rattle.fields.specs.Layout.{contoursOf, passesOf, moveLimitOf}
 use Rattle.card_laws.specs.Card.{cardOf, contourOf}
+use Rattle.card_laws.specs.Orders.{LegalOrder}
 use Rattle.table.specs.Evaluate.{homeAt, distanceAt, lengthOf}
 use Rattle.table.specs.Distances.{absent, pierced, left}
 use Rattle.table.specs.Each.{each}
@@ -27,7 +28,6 @@ use Rattle.solve.specs.Solve.{groundIn}
 use Rattle.tour.specs.declared.Toured.the-variants.{Done}
 use Rattle.tour.specs.Search.{homeOn, candidatesOn, countOn, ownersOn, firstsOn, pairsOn, homesOn, tableOn, sheetOn, startOn}
 use Rattle.tour.specs.Tour.{tourOf}
-use Rattle.demands.specs.Demand1.{LegalOrder}
 
 -- ---- candidates and table
 

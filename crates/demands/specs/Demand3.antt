@@ -15,10 +15,10 @@ use Rattle.exact.specs.Bound.{NearEnds}
 use Rattle.improve.specs.Search.{contours}
 use Rattle.solve.specs.declared.Outcome.{Outcome}
 use Rattle.fields.specs.Layout.{contoursOf}
+use Rattle.card_laws.specs.Orders.{LegalOrder}
 use Rattle.tour.specs.declared.Toured.the-variants.{Done}
 use Rattle.tour.specs.Search.{homeOn, candidatesOn, countOn, ownersOn, startOn}
 use Rattle.tour.specs.Tour.{tourOf}
-use Rattle.demands.specs.Demand1.{LegalOrder}
 
 -- where candidate a of the card is pierced
 abbrev pub stopOn : List ℕ → ℕ → Point
@@ -33,20 +33,20 @@ pub record OnGrid (s : List ℕ) : Type 0 where
 abbrev pub legsOn : List ℕ → List ℕ → List ℕ
 legsOn s tour = alongRoute squaredLength (homeOn s) (map (stopOn s) tour)
 
--- 2^-28 mm and 2^-27 mm, in steps of 2^-40 mm
-abbrev pub nearness : ℕ
-nearness = 2 ^ 12
+-- the bounds on a card of n contours, in steps of 2^-40 mm: 2^-28 mm for the length told, 2^-27 mm for what the tour is longer than the start
+abbrev pub nearness : ℕ → ℕ
+nearness n = 2 ^ 12
 
-abbrev pub excess : ℕ
-excess = 2 ^ 13
+abbrev pub excess : ℕ → ℕ
+excess n = 2 ^ 13
 
 -- what is claimed of a tour and what is told of it: legal; its length a finite number, not below zero and near to both ends of the interval
 -- that the exact length lies in; and its upper end no more than the excess above the start's lower end. All lengths are whole numbers of
 -- steps of 2^-1074 mm
 pub record Good (s tour : List ℕ) (told : Outcome) : Type 0 where
   pub legal : LegalOrder s (contours (ownersOn s) tour)
-  pub near : NearEnds nearness (told .length) (legsOn s tour)
-  pub not-longer : upperEnd (legsOn s tour) * step40 ≤ lowerEnd (legsOn s (startOn s)) * step40 + excess * step40
+  pub near : NearEnds (nearness (contoursOf s)) (told .length) (legsOn s tour)
+  pub not-longer : upperEnd (legsOn s tour) * step40 ≤ lowerEnd (legsOn s (startOn s)) * step40 + excess (contoursOf s) * step40
 
 -- of every card that lies on the grid, with whatever rooms and whatever move limit, if the answer is a tour
 abbrev pub Claim : Type 0

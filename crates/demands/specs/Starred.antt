@@ -61,26 +61,34 @@ listOf c = map (lineOf (written c)) (tourOn (written c))
 abbrev pub tells : Card → ℕ → ℕ → Type 0
 tells c moves length = outcomeOn (written c) ≡ record { moves = moves; length = ofBits binary64 length }
 
-pub record Starred : Type 0 where
-  -- roots: of 4, of 0.25, of 1 + 2^-52, of 1 - 2^-53, of 2^-1074
+-- roots: of 4, of 0.25, of 1 + 2^-52, of 1 - 2^-53, of 2^-1074
+pub record OfRoots : Type 0 where
   pub root-four : HasRoot 0x4010_0000_0000_0000 0x4000_0000_0000_0000
   pub root-quarter : HasRoot 0x3fd0_0000_0000_0000 0x3fe0_0000_0000_0000
   pub root-above-one : HasRoot 0x3ff0_0000_0000_0001 0x3ff0_0000_0000_0000
   pub root-below-one : HasRoot 0x3fef_ffff_ffff_ffff 0x3fef_ffff_ffff_ffff
   pub root-smallest : HasRoot 1 0x1e60_0000_0000_0000
-  -- the square: two candidates, the second of four, the point closest to (2,2)
+
+-- the square: two candidates, the second of four, the point closest to (2,2)
+pub record OfSquare : Type 0 where
   pub two-candidates : (way : CutDirection)
       → candidatesOf way (points square) 2 ≡ candidateAt way (spot (point zero64 zero64) 0) ∷ candidateAt way (spot (point four64 four64) 1) ∷ []
   pub second-of-four : (way : CutDirection) → getD (candidatesOf way (points square) 4) 1 blank ≡ candidateAt way (spot (point four64 zero64) 0)
   pub closest : closestOnPolygonOf square (point two64 two64) ≡ At (record { point = point two64 zero64; vertex = 0; t = half64 })
-  -- no contours and no pairs: accepted, an empty tour, no trial, length 0
+
+-- no contours and no pairs: accepted, an empty tour, no trial, length 0
+pub record OfNothing : Type 0 where
   pub empty-fine : verdictOn (asJob41 [] []) ≡ Fine
   pub empty-list : listOf (asJob41 [] []) ≡ []
   pub empty-told : tells (asJob41 [] []) 0 0
-  -- position 3 waits on itself; position 0 waits on a cycle of 1 and 2
+
+-- position 3 waits on itself; position 0 waits on a cycle of 1 and 2
+pub record OfCycles : Type 0 where
   pub self-pair : verdictOn selfPair ≡ Refused (record { number = 12; place = 3 })
   pub waiting-only : verdictOn waiting ≡ Refused (record { number = 12; place = 1 })
-  -- job 41
+
+-- job 41
+pub record OfJob41 : Type 0 where
   pub job-fine : verdictOn job41 ≡ Fine
   pub job : jobOf (written job41) ≡ 41
   pub list :
@@ -90,6 +98,14 @@ pub record Starred : Type 0 where
       ∷ record { id = 7; tag = 70; candidate = 0; direction = Ccw }
       ∷ []
   pub told : tells job41 1 0x4038_0000_0000_0000
+
+-- the table: what stands apart is proved apart
+pub record Starred : Type 0 where
+  pub roots : OfRoots
+  pub of-square : OfSquare
+  pub of-nothing : OfNothing
+  pub of-cycles : OfCycles
+  pub of-job41 : OfJob41
 
 abbrev pub Claim : Type 0
 Claim = Starred

@@ -154,6 +154,14 @@ excess n a b legs squares legs′ squares′ e l k l′ k′ h =
 
 -- ---- the bounds of the demands
 
+-- what is enough for so many legs is enough for fewer
+pub enough-fewer : (n most a b : ℕ) → n ≤ most → Enough most a b → Enough n a b
+enough-fewer n most a b few e = record {
+  room = le-trans (mul-le-mul-right (3 * 2 ^ 53 + 3 + 2 ^ a) few) (e .room);
+  bound = le-trans (mul-le-mul-right (3 + 2 ^ a) few) (e .bound);
+  modest = e .modest;
+}
+
 pub forty : Forty
 forty = record { room = lit≤ tt; bound = lit≤ tt; modest = lit≤ tt }
 

@@ -26,7 +26,7 @@ use Rattle.tour.specs.declared.Toured.the-variants as answer
 use Rattle.tour.specs.Search.{countOn, tourOn, outcomeOn}
 use Rattle.tour.specs.Tour.{Left, left, roomCheck, tourCheck, toured, touredUnless, tourOf}
 use Rattle.tour.proofs.DoorLaws.{rooms-fine}
-use Rattle.demands.proofs.TourLaws.{tour-long}
+use Rattle.tour_laws.proofs.TourLaws.{tour-long}
 use Rattle.list.specs.Lines.{tourLines, refusalLine, listOf}
 
 -- rooms of the largest size suffice for every accepted card

@@ -16,6 +16,7 @@ use Rattle.answer.specs.declared.CutDirection.the-variants.{Ccw, Cw}
 use Rattle.answer.specs.declared.Refusal.{Refusal}
 use Rattle.block.specs.Field.{u32At}
 use Rattle.block.proofs.FieldLaws.{u32-bytes}
+use Rattle.closure.specs.Limits.{CONTOURS}
 use Rattle.io.specs.Digits.{glyph, digits}
 use Rattle.fields.specs.Layout.{payload, jobOf, contoursOf, idOf, tagOf}
 use Rattle.card.specs.Verdict.{checkOf}
@@ -26,12 +27,12 @@ use Rattle.solve.specs.declared.Outcome.{Outcome}
 use Rattle.tour.specs.declared.Place.{Place}
 use Rattle.tour.specs.Search.{countOn, tourOn, outcomeOn}
 use Rattle.tour.specs.Questions.{placeOn}
-use Rattle.demands.proofs.BelowLaws.{AllBelow}
-use Rattle.demands.proofs.TourLaws.{tour-long, tour-among}
+use Rattle.tour_laws.specs.Visits.{AllBelow}
+use Rattle.tour_laws.proofs.TourLaws.{tour-long, tour-among}
 use Rattle.text.specs.Page.{over}
 use Rattle.text.specs.Text.{bytes, decimalIn, decimalOf, hexOf}
 use Rattle.list.specs.Lines.{headLine, wayWord, nameWords, placeLine, stopLine, stopLines, outcomeLines, tourLines, refusalLine, listUnless, listOf}
-use Rattle.list.specs.Fits.{OfBytes, longest, Fits, Whole}
+use Rattle.list.specs.Fits.{OfBytes, headLongest, stopLongest, outcomeLongest, longest, Fits, Whole}
 
 -- ---- numbers
 
@@ -97,7 +98,7 @@ module _ (s : List ℕ) (ofBytes : OfBytes s) where
   u32-short : (at : ℕ) → length (decimalOf (u32At s at)) ≤ 10
   u32-short at = below 9 (u32At s at) (omega (arith, u32-bytes s at, ofBytes at, ofBytes (at + 1), ofBytes (at + 2), ofBytes (at + 3)))
 
-  head-short : contoursOf s < 10 ^ 2 → length (headLine s) ≤ 27
+  head-short : contoursOf s < 10 ^ 2 → length (headLine s) ≤ headLongest
   unfolding headLine
   head-short few =
       joined (bytes "JOB " ++ decimalOf (jobOf s) ++ (bytes " CONTOURS " ++ decimalOf (contoursOf s))) (bytes "\n") 26 1
@@ -112,7 +113,7 @@ module _ (s : List ℕ) (ofBytes : OfBytes s) where
       joined (decimalOf (idOf s k)) (bytes " " ++ decimalOf (tagOf s k)) 10 11 (u32-short (payload (k + 1) + 0))
       (joined (bytes " ") (decimalOf (tagOf s k)) 1 10 (lit≤ tt) (u32-short (payload (k + 1) + 4)))
 
-  place-short : (p : Place) → p .within < 10 ^ 2 → length (placeLine s p) ≤ 29
+  place-short : (p : Place) → p .within < 10 ^ 2 → length (placeLine s p) ≤ stopLongest
   unfolding placeLine
   place-short p few =
       joined (nameWords s (p .contour) ++ (bytes " " ++ decimalOf (p .within))) (wayWord (wayOf s (p .contour))) 24 5
@@ -120,11 +121,11 @@ module _ (s : List ℕ) (ofBytes : OfBytes s) where
       (joined (bytes " ") (decimalOf (p .within)) 1 2 (lit≤ tt) (below 1 (p .within) few)))
       (way-short (wayOf s (p .contour)))
 
-  stop-short : (a : ℕ) → a < 10 ^ 2 → length (stopLine s a) ≤ 29
+  stop-short : (a : ℕ) → a < 10 ^ 2 → length (stopLine s a) ≤ stopLongest
   unfolding stopLine
   stop-short a few = place-short (placeOn s a) (let l : placeOn s a .within ≤ a = sub-le a _ in omega arith)
 
-  stops-short : (t : ℕ) (tour : List ℕ) → t ≤ 10 ^ 2 → AllBelow t tour → length (stopLines s tour) ≤ 29 * length tour
+  stops-short : (t : ℕ) (tour : List ℕ) → t ≤ 10 ^ 2 → AllBelow t tour → length (stopLines s tour) ≤ stopLongest * length tour
   unfolding stopLines AllBelow
   stops-short t [] few h = omega arith
   stops-short t (a ∷ tour) few h =
@@ -132,7 +133,7 @@ module _ (s : List ℕ) (ofBytes : OfBytes s) where
       let f = stops-short t tour few (h .1) in
       omega (arith, stop-short a (omega arith), length-append (stopLine s a) (stopLines s tour))
 
-outcome-short : (o : Outcome) → length (outcomeLines o) ≤ 50
+outcome-short : (o : Outcome) → length (outcomeLines o) ≤ outcomeLongest
 unfolding outcomeLines
 outcome-short o =
     let bits = toBits binary64 (o .length) in
@@ -163,8 +164,8 @@ tour-short s ofBytes fine =
     let most = few-candidates s fine in
     let stops = stops-short s ofBytes (countOn s) (tourOn s) (omega arith) (tour-among s fine) in
     let all =
-    joined (headLine s ++ stopLines s (tourOn s)) (outcomeLines (outcomeOn s)) 1187 50
-    (joined (headLine s) (stopLines s (tourOn s)) 27 1160 (head-short s ofBytes (omega arith)) (omega arith))
+    joined (headLine s ++ stopLines s (tourOn s)) (outcomeLines (outcomeOn s)) (headLongest + stopLongest * CONTOURS) outcomeLongest
+    (joined (headLine s) (stopLines s (tourOn s)) headLongest (stopLongest * CONTOURS) (head-short s ofBytes (omega arith)) (omega arith))
     (outcome-short (outcomeOn s)) in
     omega arith
 

@@ -1,8 +1,9 @@
 -- How long a list can be. Assumes nothing.
 use mathlib.Core.Path.{_≡_}
 use mathlib.Core.List.{List}
-use Prim.Native.Nat.{ℕ, _≤_, _<_, min}
+use Prim.Native.Nat.{ℕ, _+_, _*_, _≤_, _<_, min}
 use lib.ListN.{length, getD, take}
+use Rattle.closure.specs.Limits.{CONTOURS}
 use Rattle.text.specs.Page.{over}
 use Rattle.list.specs.Lines.{listOf}
 
@@ -10,9 +11,19 @@ use Rattle.list.specs.Lines.{listOf}
 abbrev pub OfBytes : List ℕ → Type 0
 OfBytes s = (i : ℕ) → getD s i 0 < 256
 
+-- the most bytes that the first line has, a stop's line, and the two last lines
+abbrev pub headLongest : ℕ
+headLongest = 27
+
+abbrev pub stopLongest : ℕ
+stopLongest = 29
+
+abbrev pub outcomeLongest : ℕ
+outcomeLongest = 50
+
 -- the page on which a list is written
 abbrev pub longest : ℕ
-longest = 1280
+longest = headLongest + stopLongest * CONTOURS + outcomeLongest
 
 -- no list is longer than that page
 abbrev pub Fits : Type 0

@@ -19,8 +19,15 @@ use table::ENTRIES;
 use tour::Place;
 use tour::Toured;
 
+// The most bytes that the first line has, a stop's line, and the two last lines.
+const HEAD_LONGEST: usize = 27;
+
+const STOP_LONGEST: usize = 29;
+
+const OUTCOME_LONGEST: usize = 50;
+
 // No list is longer.
-const LONGEST: usize = 1280;
+const LONGEST: usize = HEAD_LONGEST + STOP_LONGEST * CONTOURS + OUTCOME_LONGEST;
 
 // Which job it is, and how many contours it has, at the front of the page.
 fn put_head(card: &[u8], page: &mut [u8]) -> usize

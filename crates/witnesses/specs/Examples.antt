@@ -10,6 +10,7 @@ use Rattle.answer.specs.declared.CutDirectionPreference.the-variants.{Auto}
 use Rattle.answer.specs.declared.Point.{Point}
 use Rattle.card_laws.specs.Card.{Card, Contour}
 use Rattle.card_laws.specs.Table.{Past11}
+use Rattle.card_laws.specs.Orders.{RefusedWith}
 use Rattle.card_laws.specs.Write.{written}
 use Rattle.card_laws.specs.Examples.{waits, job41, waiting}
 use Rattle.tour.specs.declared.Toured.the-variants.{Done}
@@ -17,7 +18,6 @@ use Rattle.tour.specs.Search.{outcomeOn}
 use Rattle.tour.specs.Tour.{tourOf}
 use Rattle.text.specs.Text.{bytes}
 use Rattle.list.specs.Lines.{listOf}
-use Rattle.demands.specs.Demand1.{RefusedWith}
 use Rattle.demands.specs.Demand2.{searchOn}
 use Rattle.demands.specs.Demand3.{OnGrid}
 
@@ -51,23 +51,30 @@ limited =
 abbrev pub Answered : Card → ℕ → ℕ → Type 0
 Answered c n t = tourOf (written c) (replicate n 0) (replicate (t * t) (ofBits binary64 0)) .answer ≡ Done (outcomeOn (written c))
 
-pub record Examples : Type 0 where
-  -- demands 2 and 3: an answer with a tour, on the grid
+-- demands 2 and 3: an answer with a tour, on the grid
+pub record Toured : Type 0 where
   pub job41-answered : Answered job41 3 3
   pub job41-on-grid : OnGrid (written job41)
   pub limited-answered : Answered limited 3 6
   pub limited-on-grid : OnGrid (written limited)
-  -- demand 2: a limit that cuts
+
+-- demand 2: a limit that cuts
+pub record Cut : Type 0 where
   pub limited-needs-more : 2 < searchOn (written limited) 0 .moves
   pub limited-cut : outcomeOn (written limited) .moves ≡ 2
-  -- demand 1: no fault before 12, and 12
+
+-- demand 1: no fault before 12, and 12
+pub record SentBack : Type 0 where
   pub waiting-past : Past11 (written waiting)
   pub waiting-refused : RefusedWith 12 (written waiting)
-  -- the lists, as `list::write_list` writes them
+
+-- the lists, as `list::write_list` writes them
+pub record Printed : Type 0 where
   pub job41-printed :
       listOf (written job41)
       ≡ bytes "JOB 41 CONTOURS 3\n2 20 0 cw\n9 90 0 ccw\n7 70 0 ccw\nMOVES 1\nRAPID 4038000000000000\n"
   pub waiting-printed : listOf (written waiting) ≡ bytes "REFUSED 12 AT 1\n"
 
+-- all of them: what stands apart is proved apart
 abbrev pub Claim : Type 0
-Claim = Examples
+Claim = Toured × Cut × SentBack × Printed

@@ -18,12 +18,9 @@ use Rattle.improve.specs.Search.{Sheet, contourOf, turned, searched}
 use Rattle.improve.proofs.Keeps.{search-keeps}
 use Rattle.improve.proofs.ReversalLaws.{Parts, parts, turned-parts, length-turned}
 use Rattle.improve.proofs.TourLaws.{KeepsTour, tour-keeps}
+use Rattle.tour_laws.specs.Visits.{AllBelow}
 
--- every number of a list is below t
-unfoldable pub AllBelow : ℕ → List ℕ → Type 0
-AllBelow t [] = Unit {0}
-AllBelow t (x ∷ l) = (x < t) × AllBelow t l
-
+-- what stands in such a list is below t
 pub below-at : (t : ℕ) (l : List ℕ) (p : ℕ) → AllBelow t l → p < length l → getD l p 0 < t
 unfolding AllBelow
 below-at t [] p h g = absurd (omega arith)
@@ -86,6 +83,7 @@ held-kept sheet t n bound = record {
   };
 }
 
+-- a search over candidates below t keeps a tour among them
 pub below-kept : (sheet : Sheet) (most limit t : ℕ) (tour : List ℕ) → ((k : ℕ) → getD (sheet .first) k 0 ≤ t) → AllBelow t tour
     → AllBelow t (searched sheet most limit tour .tour)
 below-kept sheet most limit t tour bound h =
@@ -94,6 +92,7 @@ below-kept sheet most limit t tour bound h =
 
 -- ---- the start
 
+-- a step of the start takes one of them
 pub step-below : (g : Ground) (n t i : ℕ) (w : Way) → ((k : ℕ) → getD (g .first) k 0 ≤ t) → AllBelow t (w .tour) → AllBelow t (step g n i w .tour)
 unfolding step visit AllBelow
 step-below g n t i w bound h =
@@ -108,6 +107,7 @@ step-below g n t i w bound h =
     go true k a less = below-both t (w .tour) (a ∷ []) h (less refl, tt)
     go false k a less = h
 
+-- so the start has no others
 pub start-below : (g : Ground) (n t : ℕ) → ((k : ℕ) → getD (g .first) k 0 ≤ t) → AllBelow t (nearest g n)
 unfolding nearest walked AllBelow
 start-below g n t bound = go (leb n CONTOURS)

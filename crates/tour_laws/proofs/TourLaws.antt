@@ -13,7 +13,9 @@ use Rattle.hierarchy.specs.Legal.{EachOnce, Legal}
 use Rattle.hierarchy.proofs.OrderLaws.{keeps-legal, legal-keeps}
 use Rattle.fields.specs.Layout.{contoursOf, passesOf, moveLimitOf}
 use Rattle.card.specs.Verdict.{checkOf}
+use Rattle.card_laws.specs.Orders.{LegalOrder}
 use Rattle.card_laws.proofs.Facts.{accepted}
+use Rattle.card_laws.proofs.OrderLaws.{by-ids}
 use Rattle.card_laws.proofs.OrderRows.{links}
 use Rattle.card_laws.proofs.Verdicts.{exactly}
 use Rattle.table.proofs.DistanceLaws.{homes-at}
@@ -26,12 +28,11 @@ use Rattle.instance.proofs.FineLaws.{some-offers}
 use Rattle.instance.proofs.OwnerLaws.{first-at, grouped}
 use Rattle.solve.specs.Solve.{groundIn}
 use Rattle.tour.specs.Search.{homeOn, candidatesOn, countOn, ownersOn, firstsOn, pairsOn, sheetOn, startOn, endOn, tourOn}
-use Rattle.demands.specs.Demand1.{LegalOrder}
-use Rattle.demands.proofs.BelowLaws.{AllBelow, below-at, below-kept, start-below}
-use Rattle.demands.proofs.GatherLaws.{firsts-below, ends-gathered, candidate-near}
-use Rattle.demands.proofs.OrderLaws.{by-ids}
-use Rattle.demands.proofs.RouteLaws.{stopOf, Rides, leg-is}
-use Rattle.demands.proofs.ShuffleLaws.{shuffled-once}
+use Rattle.tour_laws.specs.Visits.{AllBelow, Visits}
+use Rattle.tour_laws.proofs.BelowLaws.{below-at, below-kept, start-below}
+use Rattle.tour_laws.proofs.GatherLaws.{firsts-below, ends-gathered, candidate-near}
+use Rattle.tour_laws.proofs.RouteLaws.{stopOf, Rides, leg-is}
+use Rattle.tour_laws.proofs.ShuffleLaws.{shuffled-once}
 
 -- the contour at a place of a tour
 contour-at : (owner tour : List ℕ) (p : ℕ) → p < length tour → getD (contours owner tour) p 0 ≡ getD owner (getD tour p 0) 0
@@ -44,9 +45,20 @@ contours-long : (owner tour : List ℕ) → length (contours owner tour) ≡ len
 unfolding contours
 contours-long owner tour = length-map tour (contourOf owner)
 
+-- a tour that visits each contour once never goes on to another candidate of the same contour
+pub rides : (s tour : List ℕ) → Visits s tour → Rides (candidatesOn s) (ownersOn s) tour
+rides s tour v = record {
+  within = λ p h. below-at (countOn s) tour p (v .among) h;
+  onward = λ p h e. (
+      let q : p ≡ suc p = v .each .once p (suc p) (omega (arith, v .long)) (omega (arith, v .long))
+      (contour-at (ownersOn s) tour p (omega arith) ∙ e ∙ sym (contour-at (ownersOn s) tour (suc p) h)) in
+      omega arith);
+}
+
 module _ (s : List ℕ) (fine : checkOf s ≡ Fine) where
   -- ---- what the start asks for
 
+  -- home lies near enough for every distance from it to be finite
   pub home-near : Near 160 (homeOn s)
   home-near = near-more 20 160 (homeOn s) (lit≤ tt) (good-near (homeOn s) (accepted s fine .home-near))
 
@@ -74,6 +86,7 @@ module _ (s : List ℕ) (fine : checkOf s ≡ Fine) where
 
   -- ---- the start
 
+  -- the start comes to every contour
   pub start-long : length (startOn s) ≡ contoursOf s
   unfolding sheetOn
   start-long = start-finishes (groundIn (sheetOn s)) (contoursOf s) near (accepted s fine .acyclic) (links s fine .all-contours) (accepted s fine .few-contours)
@@ -82,12 +95,17 @@ module _ (s : List ℕ) (fine : checkOf s ≡ Fine) where
   unfolding sheetOn contours
   start-order = start-legal (groundIn (sheetOn s)) (contoursOf s) near (accepted s fine .acyclic) (links s fine .all-contours) (accepted s fine .few-contours) (ownersOn s) (grouped s (contoursOf s))
 
-  pub start-among : AllBelow (countOn s) (startOn s)
+  start-among : AllBelow (countOn s) (startOn s)
   unfolding sheetOn
   start-among = start-below (groundIn (sheetOn s)) (contoursOf s) (countOn s) (firsts-below s (contoursOf s))
 
+  -- the start visits each contour once
+  pub start-visits : Visits s (startOn s)
+  start-visits = record { long = start-long; among = start-among; each = start-order .each }
+
   -- ---- the tour
 
+  -- as many entries as the card has contours
   pub tour-long : length (tourOn s) ≡ contoursOf s
   unfolding endOn
   tour-long = same-length (sheetOn s) (passesOf s) (moveLimitOf s) (startOn s) ∙ start-long
@@ -104,6 +122,7 @@ module _ (s : List ℕ) (fine : checkOf s ≡ Fine) where
       legal-kept (sheetOn s) (passesOf s) (moveLimitOf s) (startOn s) (grouped s (contoursOf s))
       (legal-keeps (contoursOf s) (contours (ownersOn s) (startOn s)) (start-order .each) (pairsOn s) start-order)
 
+  -- of each pair the first before the second
   pub tour-legal : LegalOrder s (contours (ownersOn s) (tourOn s))
   unfolding sheetOn
   tour-legal =
@@ -111,24 +130,11 @@ module _ (s : List ℕ) (fine : checkOf s ≡ Fine) where
       by-ids s (sound .0 .0 .0 .1) (sound .0 .0 .1) (contours (ownersOn s) (tourOn s))
       (keeps-legal (contoursOf s) (contours (ownersOn s) (tourOn s)) tour-each (pairsOn s) tour-keeps)
 
+  -- all of them candidates of the card
   pub tour-among : AllBelow (countOn s) (tourOn s)
   unfolding endOn sheetOn
   tour-among = below-kept (sheetOn s) (passesOf s) (moveLimitOf s) (countOn s) (startOn s) (firsts-below s (contoursOf s)) start-among
 
-  -- ---- as routes
-
-  rides : (tour : List ℕ) → length tour ≡ contoursOf s → AllBelow (countOn s) tour → EachOnce (contoursOf s) (contours (ownersOn s) tour)
-      → Rides (candidatesOn s) (ownersOn s) tour
-  rides tour long below each = record {
-    within = λ p h. below-at (countOn s) tour p below h;
-    onward = λ p h e. (
-        let q : p ≡ suc p = each .once p (suc p) (omega arith) (omega arith)
-        (contour-at (ownersOn s) tour p (omega arith) ∙ e ∙ sym (contour-at (ownersOn s) tour (suc p) h)) in
-        omega arith);
-  }
-
-  pub start-rides : Rides (candidatesOn s) (ownersOn s) (startOn s)
-  start-rides = rides (startOn s) start-long start-among (start-order .each)
-
-  pub tour-rides : Rides (candidatesOn s) (ownersOn s) (tourOn s)
-  tour-rides = rides (tourOn s) tour-long tour-among tour-each
+  -- and so does the tour
+  pub tour-visits : Visits s (tourOn s)
+  tour-visits = record { long = tour-long; among = tour-among; each = tour-each }

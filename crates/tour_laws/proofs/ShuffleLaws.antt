@@ -55,6 +55,7 @@ once-times x (y ∷ l) h =
     go (inl e) (inr g) further = rw (eq-eqb y x e) (omega arith)
     go (inr d) g further = rw (ne-eqb y x d) (omega (arith, further))
 
+-- what has each position as often as an order of each once is one too
 pub shuffled-once : (n : ℕ) (l m : List ℕ) → EachOnce n l → length m ≡ n → Shuffled m l → EachOnce n m
 shuffled-once n l m each size same = record { size = size; within = within; once = once }
   where

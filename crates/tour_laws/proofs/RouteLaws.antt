@@ -13,7 +13,7 @@ use Rattle.table.specs.Evaluate.{distanceAt, addLeg, lengthOf}
 use Rattle.table.specs.Distances.{absent, pierced, homesOf, distancesOf}
 use Rattle.table.proofs.DistanceLaws.{other-contour, homes-at}
 use Rattle.exact.specs.Length.{alongRoute, summed, total}
-use Rattle.demands.proofs.GatherLaws.{EndsThere}
+use Rattle.tour_laws.proofs.GatherLaws.{EndsThere}
 
 -- each stop and the next are so
 unfoldable Chain : (ℕ → ℕ → Type 0) → ℕ → List ℕ → Type 0
@@ -49,10 +49,12 @@ record Leg (cs : List Candidate) (owner : List ℕ) (a b : ℕ) : Type 0 where
   there : b < length cs
   other : getD owner a 0 ≡ getD owner b 0 → ⊥
 
+-- between contours the table has the distance from stop to stop
 pub leg-is : (cs : List Candidate) (owner : List ℕ) → EndsThere cs → (a b : ℕ) → a < length cs → b < length cs → (getD owner a 0 ≡ getD owner b 0 → ⊥)
     → distanceAt (distancesOf cs owner) (length cs) a b ≡ distanceOf (stopOf cs a) (stopOf cs b)
 leg-is cs owner ends a b here there other = other-contour cs owner a b here there other ∙ ap (λ (p : Point). distanceOf p (stopOf cs b)) (ends a)
 
+-- a tour that rides is as long as the sum along its stops
 pub evaluated : (cs : List Candidate) (owner : List ℕ) (home : Point) → EndsThere cs → (tour : List ℕ) → Rides cs owner tour
     → lengthOf (homesOf cs home) (distancesOf cs owner) (length cs) tour ≡ total (alongRoute distanceOf home (map (stopOf cs) tour))
 unfolding lengthOf walk total alongRoute ofBits ofFields odd
