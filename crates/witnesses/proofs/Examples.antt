@@ -1,5 +1,5 @@
 -- The examples, computed from their bytes. Assumes nothing.
-use mathlib.Core.Path.{_≡_, refl, ap}
+use mathlib.Core.Path.{_≡_, refl, ap, _∙_}
 use mathlib.Core.List.{List, [], _∷_, map}
 use Prim.Native.Nat.{ℕ, zero, suc, _<_}
 use native.Mathlib.Omega.{arith}
@@ -13,15 +13,18 @@ use Rattle.card_laws.specs.Table.{Given, twelve, Past11}
 use Rattle.card_laws.specs.Write.{written}
 use Rattle.card_laws.proofs.Starred.{examples}
 use Rattle.card_laws.proofs.Verdicts.{exactly}
+use Rattle.fields.specs.Layout.{moveLimitOf}
 use Rattle.exact.specs.Grid.{gridPoint, gridPoints}
 use Rattle.table.specs.Distances.{absent, pierced}
-use Rattle.tour.specs.Search.{candidatesOn}
+use Rattle.tour.specs.Search.{candidatesOn, outcomeOn}
 use Rattle.tour_laws.proofs.Computes.{tour-computes}
 use Rattle.text.specs.Text as text
 use Rattle.text.specs.Text.{decimalIn, decimalOf, hexOf}
 use Rattle.list.specs.Lines.{headLine, wayWord, nameWords, placeLine, stopLine, stopLines, outcomeLines, tourLines, refusalLine, listUnless, listOf}
+use Rattle.demands.specs.Demand2.{searchOn}
 use Rattle.demands.specs.Demand3.{OnGrid}
-use Rattle.witnesses.specs.Examples.{limited, Answered, Toured, Cut, SentBack, Printed, Claim}
+use Rattle.demands.proofs.Demand2.{claim as demand2}
+use Rattle.witnesses.specs.Examples.{limited, Answered, AnsweredOnGrid, CutByLimit, SentBackWith12, Printed, Claim}
 
 -- what is computed here is computed through these
 list-computes : Unit {0}
@@ -53,8 +56,8 @@ limited-on-grid : OnGrid (written limited)
 unfolding list-computes
 limited-on-grid = record { home = tt; candidate = each-on (candidatesOn (written limited)) tt }
 
-toured : Toured
-toured = record {
+answered-on-grid : AnsweredOnGrid
+answered-on-grid = record {
   job41-answered = job41-answered;
   job41-on-grid = job41-on-grid;
   limited-answered = limited-answered;
@@ -63,16 +66,31 @@ toured = record {
 
 -- ---- cut
 
-cut : Cut
+needs-more : 2 < searchOn (written limited) 0 .moves
 unfolding list-computes
-cut = record { limited-needs-more = lit< tt; limited-cut = refl }
+needs-more = lit< tt
+
+limit-is : moveLimitOf (written limited) ≡ 2
+unfolding list-computes
+limit-is = refl
+
+-- so by demand 2 it is cut there: the search with the limit need not be computed
+cut : CutByLimit
+cut =
+    let follows = demand2 (written limited) _ _ (outcomeOn (written limited)) limited-answered in
+    record {
+      limited-needs-more = needs-more;
+      limited-cut = follows .told-so .moves
+          ∙ ap (λ (M : ℕ). searchOn (written limited) M .moves) limit-is
+          ∙ follows .limit .cut 2 (lit< tt) needs-more .0;
+    }
 
 -- ---- 12
 
 twelve-past : (s : List ℕ) (place : ℕ) → Given s 12 place → Past11 s
 twelve-past s place (twelve past row) = past
 
-sent-back : SentBack
+sent-back : SentBackWith12
 sent-back = record {
   waiting-past = twelve-past (written waiting) 1 (exactly (written waiting) .refused-only _ (examples .on-a-cycle));
   waiting-refused = (1, examples .on-a-cycle);
@@ -89,4 +107,4 @@ unfolding list-computes
 printed = record { job41-printed = refl; waiting-printed = waiting-printed }
 
 pub claim : Claim
-claim = (toured, cut, sent-back, printed)
+claim = (answered-on-grid, cut, sent-back, printed)

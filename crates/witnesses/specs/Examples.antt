@@ -52,19 +52,19 @@ abbrev pub Answered : Card → ℕ → ℕ → Type 0
 Answered c n t = tourOf (written c) (replicate n 0) (replicate (t * t) (ofBits binary64 0)) .answer ≡ Done (outcomeOn (written c))
 
 -- demands 2 and 3: an answer with a tour, on the grid
-pub record Toured : Type 0 where
+pub record AnsweredOnGrid : Type 0 where
   pub job41-answered : Answered job41 3 3
   pub job41-on-grid : OnGrid (written job41)
   pub limited-answered : Answered limited 3 6
   pub limited-on-grid : OnGrid (written limited)
 
 -- demand 2: a limit that cuts
-pub record Cut : Type 0 where
+pub record CutByLimit : Type 0 where
   pub limited-needs-more : 2 < searchOn (written limited) 0 .moves
   pub limited-cut : outcomeOn (written limited) .moves ≡ 2
 
 -- demand 1: no fault before 12, and 12
-pub record SentBack : Type 0 where
+pub record SentBackWith12 : Type 0 where
   pub waiting-past : Past11 (written waiting)
   pub waiting-refused : RefusedWith 12 (written waiting)
 
@@ -77,4 +77,4 @@ pub record Printed : Type 0 where
 
 -- all of them: what stands apart is proved apart
 abbrev pub Claim : Type 0
-Claim = Toured × Cut × SentBack × Printed
+Claim = AnsweredOnGrid × CutByLimit × SentBackWith12 × Printed
