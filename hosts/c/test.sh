@@ -8,6 +8,8 @@ command -v cc >/dev/null || { echo 'C host: left out, no cc on this machine'; ex
 list=target/staticlib/list
 # -lm: the remainder of two floats is the C library's fmod
 cc -std=c11 -O2 -Wall -Wextra -Werror -pedantic -o "$list" hosts/c/list.c target/staticlib/libtour.a -lm
+# the place of what is longer than any card: one byte more than the header's most
+over=$(($(echo 'JL_CARD_BYTES + 1' | cc -E -P -xc -include hosts/c/jambolive.h - | tail -n 1)))
 
 prints() { # WORDS..: the program, run on every input
     cards=0
@@ -17,7 +19,7 @@ prints() { # WORDS..: the program, run on every input
     done
     echo 'REFUSED 1 AT 0' >target/staticlib/due
     "$@" </dev/null | cmp - target/staticlib/due
-    echo 'REFUSED 1 AT 23041' >target/staticlib/due
+    echo "REFUSED 1 AT $over" >target/staticlib/due
     head -c 1000000 /dev/zero | "$@" | cmp - target/staticlib/due
 }
 
