@@ -8,8 +8,6 @@ command -v cc >/dev/null || { echo 'C host: left out, no cc on this machine'; ex
 list=target/staticlib/list
 # -lm: the remainder of two floats is the C library's fmod
 cc -std=c11 -O2 -Wall -Wextra -Werror -pedantic -o "$list" hosts/c/list.c target/staticlib/libtour.a -lm
-# the place of what is longer than any card: one byte more than the header's most
-over=$(($(echo 'JL_CARD_BYTES + 1' | cc -E -P -xc -include hosts/c/jambolive.h - | tail -n 1)))
 
 prints() { # WORDS..: the program, run on every input
     cards=0
@@ -23,6 +21,8 @@ prints() { # WORDS..: the program, run on every input
     head -c 1000000 /dev/zero | "$@" | cmp - target/staticlib/due
 }
 
+# the place of what is longer than any card: one byte more than the header's most
+over=$(($(echo 'JL_CARD_BYTES + 1' | cc -E -P -xc -include hosts/c/jambolive.h - | tail -n 1)))
 prints "$list"
 echo "C host: $cards cards print their lists, no bytes and a million are refused"
 if [ -x target/bin/cutlist ]; then
