@@ -13,8 +13,25 @@
 extern "C" {
 #endif
 
-/* A tour never has more entries. */
-enum { JL_CONTOURS = 40 };
+/* The most contours of a card, so the most entries of a tour; its most pairs. */
+#define JL_CONTOURS 40
+#define JL_PAIRS 124
+
+/* The bytes of a block, and the pairs that one takes. */
+#define JL_BLOCK 512
+#define JL_PAIRS_A_BLOCK 31
+
+/* The most bytes of a card: the head's block, its contours' and its pairs'. */
+#define JL_CARD_BYTES (JL_BLOCK * (1 + JL_CONTOURS + (JL_PAIRS + JL_PAIRS_A_BLOCK - 1) / JL_PAIRS_A_BLOCK))
+
+/* Where fields stand: in block 0 the job's number, how many contours there are, and the direction of each type; in block
+ * 1 + k contour k's id, tag and type. */
+#define JL_JOB_AT 8
+#define JL_CONTOURS_AT 12
+#define JL_DIRECTIONS_AT 40
+#define JL_ID_AT 8
+#define JL_TAG_AT 12
+#define JL_TYPE_AT 18
 
 /* 0 exactly where the card is good; else refusal 1 to 12 (docs/CARD.md, "When a card goes back"). */
 uint64_t jl_check(const uint8_t *card, size_t bytes);

@@ -17,10 +17,12 @@ prints() { # WORDS..: the program, run on every input
     done
     echo 'REFUSED 1 AT 0' >target/staticlib/due
     "$@" </dev/null | cmp - target/staticlib/due
-    echo 'REFUSED 1 AT 23041' >target/staticlib/due
+    echo "REFUSED 1 AT $over" >target/staticlib/due
     head -c 1000000 /dev/zero | "$@" | cmp - target/staticlib/due
 }
 
+# the place of what is longer than any card: one byte more than the header's most
+over=$(($(echo 'JL_CARD_BYTES + 1' | cc -E -P -xc -include hosts/c/jambolive.h - | tail -n 1)))
 prints "$list"
 echo "C host: $cards cards print their lists, no bytes and a million are refused"
 if [ -x target/bin/cutlist ]; then

@@ -3,7 +3,8 @@
 use crate::card::Contour;
 use crate::cost::{first_bad, points};
 use crate::doors::{Back, KEPT, refused};
-use crate::generate::outline;
+use crate::generate::{direction, outline};
+use crate::limits::{PER_CONTOUR, VERTICES};
 use crate::random::{KINDS, Random};
 use crate::run::{Wanted, cases, same};
 use original::config::CuttingConfig;
@@ -66,10 +67,10 @@ fn told(c: &PierceCandidate) -> Told {
 fn theirs(q: &Asked) -> Result<Vec<Told>, u64> {
     let v = q.numbers.len().div_ceil(2);
     let vertices = points(&q.numbers);
-    if !(1..=8).contains(&q.c) {
+    if !(1..=PER_CONTOUR).contains(&q.c) {
         return Err(refused(4, 3));
     }
-    if !(1..=30).contains(&v) {
+    if !(1..=VERTICES).contains(&v) {
         return Err(refused(6, v as u64));
     }
     if let Some(k) = first_bad(&vertices) {
@@ -93,15 +94,15 @@ fn one(r: &Random) -> Result<u64, String> {
     let mut numbers: Vec<f64> = outline(r, kind).iter().flat_map(|p| [p.0, p.1]).collect();
     match r.below(30) {
         0 => _ = numbers.pop(),
-        1 => numbers.resize(r.pick(&[0, 1, 60, 61, 62]), 1.5),
+        1 => numbers.resize(r.pick(&[0, 1, 2 * VERTICES, 2 * VERTICES + 1, 2 * VERTICES + 2]), 1.5),
         2 => {
-            let k = r.below(numbers.len() as u64) as usize;
+            let k = r.index(numbers.len());
             numbers[k] = r.number(kind);
         }
         _ => {}
     }
-    let c = r.pick(&[1, 2, 3, 4, 8, r.from(1, 8), r.from(0, 9)]) as usize;
-    let q = Asked { numbers, c, interior: r.one_in(2), preferences: [0; 2].map(|_| r.below(3) as u8) };
+    let c = r.pick(&[1, 2, 3, 4, PER_CONTOUR, r.from(1, PER_CONTOUR), r.from(0, PER_CONTOUR + 1)]);
+    let q = Asked { numbers, c, interior: r.one_in(2), preferences: [0; 2].map(|_| direction(r)) };
     same(|| format!("{q:?}"), ours(&q), theirs(&q).map_err(|code| (code, true)))
 }
 

@@ -1,8 +1,6 @@
 //! A card as a programmer writes one: its fields, and the bytes they make.
 
-pub const BLOCK: usize = 512;
-/// Pairs that fit into a block.
-pub const FULL: usize = 31;
+use crate::limits::{BLOCK, CHECK_AT, PAIRS_A_BLOCK};
 
 #[derive(Clone, Debug, Default, PartialEq)]
 pub struct Card {
@@ -39,7 +37,7 @@ impl Card {
         for (k, contour) in self.contours.iter().enumerate() {
             bytes.extend(contour.block(k + 1));
         }
-        for (k, pairs) in self.pairs.chunks(FULL).enumerate() {
+        for (k, pairs) in self.pairs.chunks(PAIRS_A_BLOCK).enumerate() {
             let mut block = start(3, 1 + self.contours.len() + k);
             for pair in pairs {
                 for word in [pair.before.0, pair.before.1, pair.after.0, pair.after.1] {
@@ -97,7 +95,7 @@ fn start(kind: u8, number: usize) -> Vec<u8> {
     vec![kind, 1, number[0], number[1], 0, 0, 0, 0]
 }
 
-/// A block's room: what does not fit (31 vertices) is cut off.
+/// A block's room: what does not fit (one vertex too many) is cut off.
 fn padded(mut block: Vec<u8>) -> Vec<u8> {
     block.resize(BLOCK, 0);
     block
@@ -105,13 +103,13 @@ fn padded(mut block: Vec<u8>) -> Vec<u8> {
 
 /// The check that a block should carry.
 pub fn check_of(block: &[u8]) -> u32 {
-    block[..508].iter().zip(1u32..).map(|(&byte, weight)| weight * u32::from(byte)).sum()
+    block[..CHECK_AT].iter().zip(1u32..).map(|(&byte, weight)| weight * u32::from(byte)).sum()
 }
 
 /// Makes the check of every whole block good.
 pub fn seal(bytes: &mut [u8]) {
     for block in bytes.chunks_exact_mut(BLOCK) {
         let check = check_of(block);
-        block[508..].copy_from_slice(&check.to_le_bytes());
+        block[CHECK_AT..].copy_from_slice(&check.to_le_bytes());
     }
 }

@@ -4,10 +4,10 @@
 use crate::doors::refused;
 use crate::exports::{self, Left, UNTOUCHED};
 use crate::generate::{damaged, mutated};
+use crate::limits::CONTOURS;
 use crate::random::Random;
 use crate::reading::refusal;
 use crate::run::{Wanted, cases, same};
-use jambolive::CONTOURS;
 use std::sync::atomic::{AtomicU64, Ordering};
 
 unsafe extern "C" {
@@ -19,7 +19,10 @@ pub fn check(card: &[u8]) -> u64 {
     unsafe { probe_check(card.as_ptr(), card.len()) }
 }
 
-fn one(bytes: &[u8], seen: &[AtomicU64; 13]) -> Result<u64, String> {
+/// How often each number was met: 0 for a good card, then those of a check.
+type Seen = [AtomicU64; 13];
+
+fn one(bytes: &[u8], seen: &Seen) -> Result<u64, String> {
     let due = refusal(bytes);
     seen[due.map_or(0, |r| r.0) as usize].fetch_add(1, Ordering::Relaxed);
     let code = due.map_or(0, |(number, place)| refused(number, place));
@@ -44,7 +47,7 @@ fn exported(bytes: &[u8], code: u64) -> Result<u64, String> {
 
 /// Compares, and fails too where a number was not met at all: even one percent meets each some hundred times.
 pub fn compare(wanted: Wanted) -> bool {
-    let seen: [AtomicU64; 13] = Default::default();
+    let seen: Seen = Default::default();
     let agreed = cases(wanted, "damaged cards", 150_000, |r: &Random| one(&damaged(r), &seen))
         & cases(wanted, "cards with one byte changed", 150_000, |r: &Random| one(&mutated(r), &seen));
     let seen = seen.map(AtomicU64::into_inner);

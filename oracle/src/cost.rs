@@ -1,7 +1,8 @@
 //! Every function of the crate `cost` against the original's cost.rs; the refusals against the paper.
 
 use crate::doors;
-use crate::random::{KINDS, Kind, REACH, Random};
+use crate::limits::{CONTOURS, PIERCES, REACH, VERTICES};
+use crate::random::{KINDS, Kind, Random};
 use crate::run::{Wanted, cases, same};
 use original::config::CuttingConfig;
 use original::cost;
@@ -49,14 +50,20 @@ pub fn first_bad(points: &[Point]) -> Option<u64> {
     points.iter().position(|&p| bad(p)).map(|k| k as u64)
 }
 
-fn point(r: &Random, kind: Kind) -> Point {
+/// Any two numbers.
+fn any_point(r: &Random, kind: Kind) -> Point {
     (r.number(kind), r.number(kind))
 }
 
+/// Mostly a fine point.
+fn point(r: &Random, kind: Kind) -> Point {
+    if r.one_in(10) { any_point(r, kind) } else { r.point(kind) }
+}
+
 /// Mostly fine points, of one kind: a list of many numbers would else always have a bad one.
-fn numbers(r: &Random, kind: Kind, most: u64) -> Vec<f64> {
+fn numbers(r: &Random, kind: Kind, most: usize) -> Vec<f64> {
     let fine = !r.one_in(3);
-    let count = r.below(r.pick(&[3, 9, 2 * most + 2]));
+    let count = r.index(r.pick(&[3, 9, 2 * most + 2]));
     let count = if r.one_in(8) { count } else { count & !1 };
     (0..count).map(|_| if fine { r.coordinate(kind) } else { r.number(kind) }).collect()
 }
@@ -68,7 +75,7 @@ pub fn points(numbers: &[f64]) -> Vec<Point> {
 
 fn distances(r: &Random) -> Result<u64, String> {
     let kind = r.pick(&KINDS);
-    let (a, b) = (point(r, kind), point(r, kind));
+    let (a, b) = (any_point(r, kind), any_point(r, kind));
     let what = || format!("from {a:?} to {b:?}");
     let (length, square) = match first_bad(&[a, b]) {
         Some(k) => (doors::back(8, k), doors::back(8, k)),
@@ -83,7 +90,7 @@ fn distances(r: &Random) -> Result<u64, String> {
 /// The form without a refusal, on finite points of a size that cannot overflow.
 fn between(r: &Random) -> Result<u64, String> {
     let kind = r.pick(&KINDS);
-    let (a, b) = ((r.coordinate(kind), r.coordinate(kind)), (r.coordinate(kind), r.coordinate(kind)));
+    let (a, b) = (r.point(kind), r.point(kind));
     let theirs = cost::point_distance(a, b).to_bits();
     let what = || format!("between {a:?} and {b:?}");
     same(what, unsafe { probe_between(a.0, a.1, b.0, b.1) }.to_bits(), theirs)?;
@@ -92,8 +99,8 @@ fn between(r: &Random) -> Result<u64, String> {
 
 fn closest(r: &Random) -> Result<u64, String> {
     let kind = r.pick(&KINDS);
-    let polygon = numbers(r, kind, 30);
-    let at = if r.one_in(10) { point(r, kind) } else { (r.coordinate(kind), r.coordinate(kind)) };
+    let polygon = numbers(r, kind, VERTICES);
+    let at = point(r, kind);
     let vertices = points(&polygon);
     let kept = [doors::KEPT.to_bits(); 3];
     let part = polygon.len() % 2 == 1;
@@ -110,8 +117,8 @@ fn closest(r: &Random) -> Result<u64, String> {
 
 fn rapid(r: &Random) -> Result<u64, String> {
     let kind = r.pick(&KINDS);
-    let legs = numbers(r, kind, 80);
-    let home = if r.one_in(10) { point(r, kind) } else { (r.coordinate(kind), r.coordinate(kind)) };
+    let legs = numbers(r, kind, 2 * CONTOURS);
+    let home = point(r, kind);
     let whole = points(&legs);
     let mut all = vec![home];
     all.extend(&whole);
@@ -136,14 +143,14 @@ fn sequence(r: &Random) -> Result<u64, String> {
         _ => r.unit() * 1e4,
     };
     let (total, weight) = (amount(r), amount(r));
-    let count = r.pick(&[0, 1, 40, 999, 1000, 1001, 1 << 32, usize::MAX, 7]);
-    let count = if r.one_in(2) { r.below(1002) as usize } else { count };
+    let count = r.pick(&[0, 1, CONTOURS, PIERCES - 1, PIERCES, PIERCES + 1, 1 << 32, usize::MAX, 7]);
+    let count = if r.one_in(2) { r.index(PIERCES + 2) } else { count };
     let fine = |x: f64| x.is_finite() && x >= 0.0;
     let due = if !fine(total) {
         doors::back(14, 1)
     } else if !fine(weight) {
         doors::back(14, 2)
-    } else if count > 1000 {
+    } else if count > PIERCES {
         doors::back(14, 3)
     } else {
         let config = CuttingConfig::new().with_pierce_weight(weight);

@@ -3,11 +3,12 @@
 
 use crate::card::{Card, Contour, Pair};
 use crate::generate::sheet;
-use crate::random::{REACH, Random};
+use crate::limits::{CANDIDATES, CONTOURS, PAIRS, PER_CONTOUR, REACH, VERTICES, shared};
+use crate::random::Random;
 use crate::reading::Refusal;
 
 /// A sheet of plain parts.
-fn parts(n: usize, c: u16, m: usize) -> Card {
+fn parts(n: usize, c: usize, m: usize) -> Card {
     sheet(&Random::of(2026, "edges", n as u64), n, c, m)
 }
 
@@ -46,20 +47,20 @@ fn reaching(far: f64) -> [Card; 2] {
 pub fn edges() -> Vec<(Card, Option<Refusal>)> {
     let pair = Pair { before: (1, 1), after: (2, 2) };
     let mut all = vec![
-        (parts(40, 2, 0), None),
-        (parts(40, 2, 124), None),
-        (parts(41, 1, 0), Some((4, 1))),
-        (parts(26, 3, 0), None),
-        (parts(27, 3, 0), Some((4, 7))),
-        (parts(10, 8, 0), None),
-        (parts(11, 8, 0), Some((4, 7))),
-        (parts(3, 9, 0), Some((4, 3))),
+        (parts(CONTOURS, shared(CONTOURS), 0), None),
+        (parts(CONTOURS, shared(CONTOURS), PAIRS), None),
+        (parts(CONTOURS + 1, 1, 0), Some((4, 1))),
+        (parts(CANDIDATES / 3, 3, 0), None),
+        (parts(CANDIDATES / 3 + 1, 3, 0), Some((4, 7))),
+        (parts(CANDIDATES / PER_CONTOUR, PER_CONTOUR, 0), None),
+        (parts(CANDIDATES / PER_CONTOUR + 1, PER_CONTOUR, 0), Some((4, 7))),
+        (parts(3, PER_CONTOUR + 1, 0), Some((4, 3))),
         (saw(1), None),
         (saw(0), Some((6, 0))),
-        (saw(30), None),
-        (saw(31), Some((6, 0))),
-        (parts(3, 2, 124), None),
-        (parts(3, 2, 125), Some((4, 2))),
+        (saw(VERTICES), None),
+        (saw(VERTICES + 1), Some((6, 0))),
+        (parts(3, 2, PAIRS), None),
+        (parts(3, 2, PAIRS + 1), Some((4, 2))),
         (empty(vec![]), None),
         (empty(vec![pair]), Some((10, 0))),
         (row(4, &[(3, 3)]), Some((12, 3))),

@@ -2,19 +2,21 @@
 //! page: for what no proof covers, the compiler's back end and the glue of the hosts. What reached code that nothing
 //! before it reached is kept, and mutated further: coverage.rs sees that where the archives count (feature `covered`).
 
-use crate::card::{BLOCK, seal};
+use crate::card::seal;
 use crate::coverage::Coverage;
 use crate::doors::refused;
 use crate::exports::{UNTOUCHED, jl_check, jl_place, jl_tour};
 use crate::generate::{damaged, good, mutated};
 use crate::guard::Guarded;
+use crate::limits::{BLOCK, CANDIDATES, CARD_BYTES, CONTOURS, PAIRS, PAYLOAD_AT, REACH, head};
 use crate::random::Random;
 use crate::reading;
 use crate::run::same;
 use std::time::Instant;
 
-/// More than the largest card, its guard pages included in neither.
-const LARGEST: usize = 1 << 16;
+/// More than the largest card, and than the largest tour.
+const LARGEST: usize = 2 * CARD_BYTES.next_power_of_two();
+const ROOM: usize = CONTOURS + 10;
 
 /// A card mutated by structure: from the generator, or one that was kept.
 fn structured(r: &Random, kept: &[Vec<u8>]) -> Vec<u8> {
@@ -22,26 +24,28 @@ fn structured(r: &Random, kept: &[Vec<u8>]) -> Vec<u8> {
         0 => good(r).bytes(),
         1 => mutated(r),
         2 => damaged(r),
-        3 => joined(&kept[r.below(kept.len() as u64) as usize], &kept[r.below(kept.len() as u64) as usize], r),
-        _ => kept[r.below(kept.len() as u64) as usize].clone(),
+        3 => joined(&kept[r.index(kept.len())], &kept[r.index(kept.len())], r),
+        _ => kept[r.index(kept.len())].clone(),
     }
 }
 
 /// The first blocks of one card and the further ones of another.
 fn joined(one: &[u8], other: &[u8], r: &Random) -> Vec<u8> {
-    let at = r.below((one.len().min(other.len()) / BLOCK) as u64 + 1) as usize * BLOCK;
+    let at = r.index(one.len().min(other.len()) / BLOCK + 1) * BLOCK;
     [&one[..at], &other[at..]].concat()
 }
 
 /// A field of a block: numbers at their edges, in one, two, four or eight bytes.
 fn field(r: &Random, bytes: &mut [u8]) {
-    let width = r.pick(&[1, 2, 4, 8]) as usize;
+    let width = r.pick(&[1, 2, 4, 8]);
     if bytes.len() < BLOCK {
         return;
     }
-    let block = r.below((bytes.len() / BLOCK) as u64) as usize * BLOCK;
-    let at = block + r.pick(&[r.from(8, 40), r.below(504)]) as usize;
-    let number = r.pick(&[r.below(50), r.below(130), r.next(), 1 << r.below(64), 1_048_576f64.to_bits() + r.below(2)]);
+    let block = r.index(bytes.len() / BLOCK) * BLOCK;
+    // eight bytes still fit
+    let at = block + r.pick(&[r.from(PAYLOAD_AT, head::DIRECTIONS), r.index(BLOCK - 8)]);
+    let (contours, pairs) = (r.below(CONTOURS as u64 + 10), r.below(PAIRS as u64 + 6));
+    let number = r.pick(&[contours, pairs, r.next(), 1 << r.below(64), REACH.to_bits() + r.below(2)]);
     bytes[at..at + width].copy_from_slice(&number.to_le_bytes()[..width]);
 }
 
@@ -53,13 +57,13 @@ fn input(r: &Random, kept: &[Vec<u8>]) -> Vec<u8> {
     }
     for _ in 0..r.pick(&[0, 0, 1, 3, 30]) {
         if !bytes.is_empty() {
-            let at = r.below(bytes.len() as u64) as usize;
+            let at = r.index(bytes.len());
             bytes[at] = r.pick(&[r.next() as u8, 0, 1, 255, bytes[at] ^ 1]);
         }
     }
     match r.below(8) {
-        0 => bytes.truncate(r.below(bytes.len() as u64 + 1) as usize),
-        1 => bytes.truncate(r.below((bytes.len() / BLOCK) as u64 + 1) as usize * BLOCK),
+        0 => bytes.truncate(r.index(bytes.len() + 1)),
+        1 => bytes.truncate(r.index(bytes.len() / BLOCK + 1) * BLOCK),
         _ => {}
     }
     if !r.one_in(4) {
@@ -97,7 +101,7 @@ fn ask(r: &Random, memory: &mut [Guarded; 4], bytes: &[u8]) -> Result<bool, Stri
     let [card, tour, first, second] = memory;
     let edge = |r: &Random| r.one_in(2);
     let card = card.lend(bytes, edge(r));
-    let room = vec![UNTOUCHED as u8; r.pick(&[0, 1, 39, 40, 41, r.below(50)]) as usize];
+    let room = vec![UNTOUCHED as u8; r.pick(&[0, 1, CONTOURS - 1, CONTOURS, CONTOURS + 1, r.index(ROOM)])];
     let tour = tour.lend(&room, edge(r));
     let first = first.lend(&number(), edge(r));
     let second = second.lend(&number(), edge(r));
@@ -121,7 +125,8 @@ fn ask(r: &Random, memory: &mut [Guarded; 4], bytes: &[u8]) -> Result<bool, Stri
 
     first.copy_from_slice(&number());
     second.copy_from_slice(&number());
-    let candidate = r.pick(&[0, 1, 79, 80, 255, u64::MAX, r.below(90)]);
+    let most = CANDIDATES as u64;
+    let candidate = r.pick(&[0, 1, most - 1, most, 255, u64::MAX, r.below(most + 10)]);
     let (contour, within) = (first.as_mut_ptr().cast(), second.as_mut_ptr().cast());
     let ours = unsafe { jl_place(card.as_ptr(), card.len(), candidate, contour, within) };
     let place = (ours, told(first), told(second));
@@ -154,7 +159,7 @@ fn answered(card: &crate::card::Card, tours: &[Tour], candidate: u64, place: (u6
 /// Runs for a time from a seed. A difference leaves its bytes in `failed`.
 pub fn run(seed: u64, seconds: u64, failed: &std::path::Path) -> bool {
     let began = Instant::now();
-    let mut memory = [LARGEST, 64, 64, 64].map(Guarded::new);
+    let mut memory = [LARGEST, ROOM, 8, 8].map(Guarded::new);
     let (mut coverage, mut kept) = (Coverage::begin(), Vec::new());
     let (mut case, mut accepted) = (0u64, 0u64);
     println!("fuzz: seed {seed}, {seconds} s, {}", coverage.kind());

@@ -1,13 +1,17 @@
 //! Cards to try: good ones of every shape, and damaged ones of every kind.
 
-use crate::card::{BLOCK, Card, Contour, seal};
-use crate::random::{KINDS, Kind, REACH, Random};
+use crate::card::{Card, Contour, seal};
+use crate::limits::{
+    AUTO, BLOCK, CARD_BYTES, CHECK_AT, CONTOURS, PAIR, PAIRS, PAIRS_A_BLOCK, PASSES, PAYLOAD_AT, PER_CONTOUR, REACH,
+    VERTEX, VERTICES, contour, head, shared,
+};
+use crate::random::{KINDS, Kind, Random};
 
 /// The job that the paper prints whole.
 pub fn job_41() -> Card {
     let one = |id, tag, interior, vertex| Contour { id, tag, interior, vertices: vec![vertex] };
     let contours = vec![one(7, 70, false, (12.0, 12.0)), one(9, 90, false, (3.0, 0.0)), one(2, 20, true, (3.0, 4.0))];
-    let mut card = Card { job: 41, c: 1, passes: 10, exterior: 2, interior: 2, contours, ..Card::default() };
+    let mut card = Card { job: 41, c: 1, passes: 10, exterior: AUTO, interior: AUTO, contours, ..Card::default() };
     card.pairs.push(card.pair(2, 1));
     card
 }
@@ -15,28 +19,28 @@ pub fn job_41() -> Card {
 /// Good cards of every shape.
 pub fn good(r: &Random) -> Card {
     let n = match r.below(10) {
-        0 => r.below(3),
+        0 => r.index(3),
         1..=4 => r.from(3, 8),
-        5..=7 => r.from(9, 20),
-        _ => r.from(21, 40),
-    } as usize;
+        5..=7 => r.from(9, CONTOURS / 2),
+        _ => r.from(CONTOURS / 2 + 1, CONTOURS),
+    };
     sized(r, n)
 }
 
 /// Good cards with n contours.
 pub fn sized(r: &Random, n: usize) -> Card {
-    let most = (80 / n.max(1)).min(8) as u64;
+    let most = shared(n).min(PER_CONTOUR);
     let c = r.pick(&[1, most.min(2), r.from(1, most), most]) as u16;
     // plain sheets come most often: there a search has most to do
     let kind = r.pick(&[r.pick(&KINDS), Kind::Sheet, Kind::Grid]);
     let mut card = Card {
         job: r.next() as u32,
         c,
-        passes: r.pick(&[0, 1, 2, 3, 10, 10, 100, 1000]),
+        passes: r.pick(&[0, 1, 2, 3, 10, 10, 100, PASSES]),
         limit: limit(r),
-        home: (r.coordinate(kind), r.coordinate(kind)),
-        exterior: r.below(3) as u8,
-        interior: r.below(3) as u8,
+        home: r.point(kind),
+        exterior: direction(r),
+        interior: direction(r),
         ..Card::default()
     };
     let named = r.below(4);
@@ -56,12 +60,12 @@ pub fn sized(r: &Random, n: usize) -> Card {
 
 /// A sheet of plain parts, for the speed figures and the examples: n contours of four to twelve vertices on a sheet of 3000
 /// by 1500 mm, c candidates each, m pairs, no limit.
-pub fn sheet(r: &Random, n: usize, c: u16, m: usize) -> Card {
-    let mut card = Card { job: 1, c, passes: 1000, exterior: 2, interior: 2, ..Card::default() };
+pub fn sheet(r: &Random, n: usize, c: usize, m: usize) -> Card {
+    let mut card = Card { job: 1, c: c as u16, passes: PASSES, exterior: AUTO, interior: AUTO, ..Card::default() };
     for k in 0..n {
         let middle = (100.0 + r.unit() * 2800.0, 100.0 + r.unit() * 1300.0);
         let (v, size) = (r.from(4, 12), 20.0 + r.unit() * 80.0);
-        let vertex = |j: u64| {
+        let vertex = |j: usize| {
             let angle = std::f64::consts::TAU * j as f64 / v as f64;
             (middle.0 + size * angle.cos(), middle.1 + size * angle.sin())
         };
@@ -69,11 +73,16 @@ pub fn sheet(r: &Random, n: usize, c: u16, m: usize) -> Card {
         card.contours.push(Contour { id: k as u32 + 1, tag: 100 + k as u32, interior: r.one_in(3), vertices });
     }
     for _ in 0..m {
-        let after = r.from(1, n as u64 - 1);
-        let pair = card.pair(r.below(after) as usize, after as usize);
+        let after = r.from(1, n - 1);
+        let pair = card.pair(r.index(after), after);
         card.pairs.push(pair);
     }
     card
+}
+
+/// One of the directions.
+pub fn direction(r: &Random) -> u8 {
+    r.index(usize::from(AUTO) + 1) as u8
 }
 
 fn limit(r: &Random) -> u32 {
@@ -97,8 +106,8 @@ pub fn limit_near(r: &Random, card: &mut Card, trials: impl FnOnce() -> u32) {
 /// A contour's vertices. Small steps around a corner give plain parts; some have edges of no length, or
 /// lie on one point.
 pub fn outline(r: &Random, kind: Kind) -> Vec<(f64, f64)> {
-    let v = r.pick(&[1, 2, 3, 4, 4, 4, 5, 8, 30, r.from(1, 30)]);
-    let corner = (r.coordinate(kind), r.coordinate(kind));
+    let v = r.pick(&[1, 2, 3, 4, 4, 4, 5, 8, VERTICES, r.from(1, VERTICES)]);
+    let corner = r.point(kind);
     let size = r.pick(&[0.0, 4e-13, 1e-12, 1.0, 10.0, 100.0, 100.0]);
     let form = r.below(8);
     let mut vertices: Vec<(f64, f64)> = Vec::new();
@@ -106,12 +115,12 @@ pub fn outline(r: &Random, kind: Kind) -> Vec<(f64, f64)> {
         let next = match form {
             0 => corner,
             1 | 2 => {
-                let (dx, dy) = [(0.0, 0.0), (size, 0.0), (size, size), (0.0, size)][k as usize % 4];
+                let (dx, dy) = [(0.0, 0.0), (size, 0.0), (size, size), (0.0, size)][k % 4];
                 (corner.0 + dx, corner.1 + dy)
             }
             3 => (corner.0 + r.below(3) as f64 * size, corner.1 + r.below(3) as f64 * size),
-            4 if k > 0 && r.one_in(2) => vertices[k as usize - 1],
-            _ => (r.coordinate(kind), r.coordinate(kind)),
+            4 if k > 0 && r.one_in(2) => vertices[k - 1],
+            _ => r.point(kind),
         };
         vertices.push((next.0.clamp(-REACH, REACH), next.1.clamp(-REACH, REACH)));
     }
@@ -120,24 +129,24 @@ pub fn outline(r: &Random, kind: Kind) -> Vec<(f64, f64)> {
 
 /// Pairs that a legal order exists for: each leads forward in some hidden order of the contours.
 fn pairs(r: &Random, card: &mut Card) {
-    let n = card.contours.len() as u64;
+    let n = card.contours.len();
     if n < 2 || r.one_in(4) {
         return;
     }
-    let mut hidden: Vec<usize> = (0..n as usize).collect();
+    let mut hidden: Vec<usize> = (0..n).collect();
     r.shuffle(&mut hidden);
-    let add = |card: &mut Card, i: u64, j: u64| {
-        let pair = card.pair(hidden[i as usize], hidden[j as usize]);
+    let add = |card: &mut Card, i: usize, j: usize| {
+        let pair = card.pair(hidden[i], hidden[j]);
         card.pairs.push(pair);
     };
     match r.below(4) {
         0 => (1..n).for_each(|j| add(card, j - 1, j)),
         1 => (1..n).for_each(|j| add(card, j / 2, j)),
         _ => {
-            let most = r.pick(&[1, 4, n, 31, 32, 62, 124]);
+            let most = r.pick(&[1, 4, n, PAIRS_A_BLOCK, PAIRS_A_BLOCK + 1, 2 * PAIRS_A_BLOCK, PAIRS]);
             for _ in 0..r.from(1, most) {
                 let j = r.from(1, n - 1);
-                let i = r.below(j);
+                let i = r.index(j);
                 add(card, i, j);
             }
         }
@@ -151,7 +160,7 @@ fn pairs(r: &Random, card: &mut Card) {
 pub fn damaged(r: &Random) -> Vec<u8> {
     let mut card = good(r);
     let faults = if r.one_in(3) { 2 } else { 1 };
-    let kinds: Vec<u64> = (0..faults).map(|_| r.from(1, 13)).collect();
+    let kinds: Vec<usize> = (0..faults).map(|_| r.from(1, 13)).collect();
     for &kind in &kinds {
         in_fields(r, &mut card, kind);
     }
@@ -167,18 +176,18 @@ pub fn damaged(r: &Random) -> Vec<u8> {
 }
 
 /// Faults that a card's fields can have, on both sides of each limit.
-fn in_fields(r: &Random, card: &mut Card, kind: u64) {
-    let n = card.contours.len() as u64;
+fn in_fields(r: &Random, card: &mut Card, kind: usize) {
+    let n = card.contours.len();
     match kind {
         4 => match r.below(4) {
-            0 => card.c = r.pick(&[0, 1, 8, 9, 65535, (80 / n.max(1)) as u16, (80 / n.max(1)) as u16 + 1]),
-            1 => card.passes = r.pick(&[1000, 1001, 65535]),
-            2 => (card.exterior, card.interior) = (r.pick(&[2, 3, 0]), r.pick(&[0, 2, 3, 255])),
+            0 => card.c = r.pick(&[0, 1, PER_CONTOUR, PER_CONTOUR + 1, 65_535, shared(n), shared(n) + 1]) as u16,
+            1 => card.passes = r.pick(&[PASSES, PASSES + 1, u16::MAX]),
+            2 => (card.exterior, card.interior) = (r.pick(&[AUTO, AUTO + 1, 0]), r.pick(&[0, AUTO, AUTO + 1, 255])),
             _ => count_edges(r, card),
         },
         6 if n > 0 => {
-            let k = r.below(n) as usize;
-            let v = r.pick(&[0, 1, 30, 31, 40]);
+            let k = r.index(n);
+            let v = r.pick(&[0, 1, VERTICES, VERTICES + 1, VERTICES + 10]);
             card.contours[k].vertices = vec![(1.0, 2.0); v];
         }
         8 => {
@@ -187,7 +196,7 @@ fn in_fields(r: &Random, card: &mut Card, kind: u64) {
             if n == 0 || r.one_in(4) {
                 card.home.1 = far;
             } else {
-                let k = r.below(n) as usize;
+                let k = r.index(n);
                 let vertices = &mut card.contours[k].vertices;
                 if let Some(vertex) = vertices.last_mut() {
                     *if r.one_in(2) { &mut vertex.0 } else { &mut vertex.1 } = far;
@@ -195,11 +204,11 @@ fn in_fields(r: &Random, card: &mut Card, kind: u64) {
             }
         }
         9 if n > 1 => {
-            let (from, to) = (r.below(n) as usize, r.below(n) as usize);
+            let (from, to) = (r.index(n), r.index(n));
             card.contours[to].id = card.contours[from].id;
         }
         10 | 11 if !card.pairs.is_empty() => {
-            let q = r.below(card.pairs.len() as u64) as usize;
+            let q = r.index(card.pairs.len());
             let pair = &mut card.pairs[q];
             let side = if r.one_in(2) { &mut pair.before } else { &mut pair.after };
             *(if kind == 10 { &mut side.0 } else { &mut side.1 }) ^= 1 << r.below(32);
@@ -211,28 +220,30 @@ fn in_fields(r: &Random, card: &mut Card, kind: u64) {
 
 /// More or fewer contours or pairs, at the limits.
 fn count_edges(r: &Random, card: &mut Card) {
+    // a block of pairs less than the most: with one contour too many the card is not yet too long
+    const FEWER: usize = PAIRS - PAIRS_A_BLOCK;
     if r.one_in(2) {
         card.c = r.pick(&[1, 2]);
-        let n = r.pick(&[39, 40, 41, 42]);
+        let n = r.pick(&[CONTOURS - 1, CONTOURS, CONTOURS + 1, CONTOURS + 2]);
         while card.contours.len() < n {
             let id = card.contours.len() as u32 + 5_000_000;
             card.contours.push(Contour { id, tag: 0, interior: false, vertices: vec![(3.0, 4.0)] });
         }
-        card.pairs.truncate(r.pick(&[0, 31, 93]));
+        card.pairs.truncate(r.pick(&[0, PAIRS_A_BLOCK, FEWER]));
     } else if let Some(&pair) = card.pairs.first() {
-        let m = r.pick(&[31, 32, 93, 94, 124, 125, 126]);
+        let m = r.pick(&[PAIRS_A_BLOCK, PAIRS_A_BLOCK + 1, FEWER, FEWER + 1, PAIRS, PAIRS + 1, PAIRS + 2]);
         card.pairs.resize(m, pair);
     }
 }
 
 /// A walk of pairs that comes back, on few or many contours.
 fn cycle(r: &Random, card: &mut Card) {
-    let n = card.contours.len() as u64;
-    let length = r.from(1, n.min(r.pick(&[1, 2, 5, 40])));
-    let mut ring: Vec<usize> = (0..n as usize).collect();
+    let n = card.contours.len();
+    let length = r.from(1, n.min(r.pick(&[1, 2, 5, CONTOURS])));
+    let mut ring: Vec<usize> = (0..n).collect();
     r.shuffle(&mut ring);
-    ring.truncate(length as usize);
-    card.pairs.truncate(124 - ring.len());
+    ring.truncate(length);
+    card.pairs.truncate(PAIRS - ring.len());
     for k in 0..ring.len() {
         let pair = card.pair(ring[k], ring[(k + 1) % ring.len()]);
         card.pairs.push(pair);
@@ -241,12 +252,12 @@ fn cycle(r: &Random, card: &mut Card) {
 }
 
 /// Faults that only bytes can have. The checks are made good afterwards.
-fn in_bytes(r: &Random, bytes: &mut Vec<u8>, kind: u64) {
-    let blocks = (bytes.len() / BLOCK) as u64;
-    let block = |r: &Random| if r.one_in(3) { 0 } else { r.below(blocks) as usize } * BLOCK;
+fn in_bytes(r: &Random, bytes: &mut Vec<u8>, kind: usize) {
+    let blocks = bytes.len() / BLOCK;
+    let block = |r: &Random| if r.one_in(3) { 0 } else { r.index(blocks) } * BLOCK;
     match kind {
         3 => {
-            let at = block(r) + r.below(8) as usize;
+            let at = block(r) + r.index(PAYLOAD_AT);
             bytes[at] = r.pick(&[0, 1, 2, 3, 4, bytes[at] ^ 1, r.next() as u8]);
         }
         5 if r.one_in(2) => bytes.truncate(bytes.len() - BLOCK * usize::from(blocks > 1)),
@@ -255,35 +266,42 @@ fn in_bytes(r: &Random, bytes: &mut Vec<u8>, kind: u64) {
             bytes.extend(last);
         }
         6 if blocks > 1 => {
-            let at = r.from(1, blocks - 1) as usize * BLOCK + r.pick(&[16, 17, 18, 19]);
-            bytes[at] = r.pick(&[0, 1, 2, 30, 31, 255]);
+            let block = r.from(1, blocks - 1) * BLOCK;
+            let at = block + r.pick(&[contour::COUNT, contour::COUNT + 1, contour::TYPE, contour::ZERO]);
+            bytes[at] = r.pick(&[0, 1, 2, VERTICES as u8, VERTICES as u8 + 1, 255]);
         }
         7 => {
-            let at = block(r) + r.pick(&[r.from(8, 507), 507, 503, 504, 41, 42, 43]) as usize;
+            const LAST: usize = CHECK_AT - 1;
+            const FULL: usize = PAYLOAD_AT + PAIRS_A_BLOCK * PAIR;
+            let (block, any) = (block(r), r.from(PAYLOAD_AT, LAST));
+            let at = block + r.pick(&[any, LAST, FULL - 1, FULL, head::END - 1, head::END, head::END + 1]);
             bytes[at] = r.pick(&[0, 1, 128, 255]);
         }
         13 => {
             // a head whose counts do not fit what follows
-            let at = r.pick(&[12, 14, 13, 15]);
-            bytes[at] = r.pick(&[bytes[at].wrapping_add(1), bytes[at].wrapping_sub(1), 0, 40, 124]);
+            let at = r.pick(&[head::CONTOURS, head::PAIRS, head::CONTOURS + 1, head::PAIRS + 1]);
+            let (more, less) = (bytes[at].wrapping_add(1), bytes[at].wrapping_sub(1));
+            bytes[at] = r.pick(&[more, less, 0, CONTOURS as u8, PAIRS as u8]);
         }
         _ => {}
     }
 }
 
 /// Faults of the length and of the checks, and single bytes changed with the checks left as they are.
-fn after_seal(r: &Random, bytes: &mut Vec<u8>, kind: u64) {
+fn after_seal(r: &Random, bytes: &mut Vec<u8>, kind: usize) {
     match kind {
         1 => {
-            let length = r.pick(&[0, 1, 511, 512, 513, bytes.len() as u64 + 1, 23_039, 23_040, 23_041, 23_552, 40_000]);
-            bytes.resize(length as usize, 0);
+            let short = [0, 1, BLOCK - 1, BLOCK, BLOCK + 1, bytes.len() + 1];
+            let long = [CARD_BYTES - 1, CARD_BYTES, CARD_BYTES + 1, CARD_BYTES + BLOCK, CARD_BYTES + 16_960];
+            bytes.resize(r.pick(&[&short[..], &long].concat()), 0);
             if r.one_in(2) {
                 seal(bytes);
             }
         }
         2 if !bytes.is_empty() => {
-            let at = r.below(bytes.len() as u64) as usize;
-            let at = if r.one_in(2) { at | 508 } else { at };
+            let at = r.index(bytes.len());
+            // the check's four bytes
+            let at = if r.one_in(2) { at | CHECK_AT } else { at };
             if let Some(byte) = bytes.get_mut(at) {
                 *byte = byte.wrapping_add(r.pick(&[1, 255, 128]));
             }
@@ -295,8 +313,10 @@ fn after_seal(r: &Random, bytes: &mut Vec<u8>, kind: u64) {
 /// A good card with one byte changed, with or without the check made good.
 pub fn mutated(r: &Random) -> Vec<u8> {
     let mut bytes = good(r).bytes();
-    let block = r.below((bytes.len() / BLOCK) as u64) as usize * BLOCK;
-    let at = block + r.pick(&[r.below(8), r.from(8, 52), r.below(512)]) as usize;
+    let block = r.index(bytes.len() / BLOCK) * BLOCK;
+    // two vertices: most contours have as many
+    let used = contour::VERTICES + 2 * VERTEX;
+    let at = block + r.pick(&[r.index(PAYLOAD_AT), r.from(PAYLOAD_AT, used), r.index(BLOCK)]);
     bytes[at] = r.pick(&[bytes[at] ^ (1 << r.below(8)), 0, 255, r.next() as u8]);
     if !r.one_in(4) {
         seal(&mut bytes);

@@ -1,13 +1,11 @@
 //! The questions on a list of pairs against the original's hierarchy.rs; the refusals against the paper.
 
 use crate::doors::{Back, refused};
+use crate::limits::{CONTOURS, PAIRS};
 use crate::random::Random;
 use crate::reading::led_back;
 use crate::run::{Wanted, cases, same};
-use jambolive::CONTOURS;
 use original::hierarchy::CuttingDag;
-
-const PAIRS: usize = 124;
 
 unsafe extern "C" {
     fn probe_num_contours(contours: usize, pairs: *const u32, numbers: usize, out: &mut usize) -> u64;
@@ -80,10 +78,15 @@ fn refusal(contours: usize, pairs: &[u32]) -> Option<u64> {
     }
 }
 
+/// The whole pairs among ids, two each.
+fn by_twos(ids: &[u32]) -> impl Iterator<Item = (usize, usize)> {
+    ids.chunks_exact(2).map(|p| (p[0] as usize, p[1] as usize))
+}
+
 /// The lowest position that pairs of positions below the count lead back to.
 fn on_cycle(contours: usize, pairs: &[u32]) -> Option<u64> {
-    let pairs = pairs.chunks_exact(2).map(|p| (p[0] as usize, p[1] as usize));
-    led_back(contours, pairs.filter(|p| p.0 < contours && p.1 < contours)).map(|k| k as u64)
+    let pairs = by_twos(pairs).filter(|p| p.0 < contours && p.1 < contours);
+    led_back(contours, pairs).map(|k| k as u64)
 }
 
 /// A list of pairs with the questions to ask of it.
@@ -98,8 +101,7 @@ struct Asked<'a> {
 fn one(q: &Asked) -> Result<u64, String> {
     let what = || format!("{} contours, pairs {:?}, ids {} {}, sequence {:?}", q.contours, q.pairs, q.id, q.other, q.ids);
     let (at, length, refuses) = (q.pairs.as_ptr(), q.pairs.len(), refusal(q.contours, q.pairs));
-    let pairs = q.pairs.chunks_exact(2).map(|p| (p[0] as usize, p[1] as usize)).collect();
-    let dag = CuttingDag::from_pairs(q.contours, pairs);
+    let dag = CuttingDag::from_pairs(q.contours, by_twos(q.pairs).collect());
     let due = |theirs: Vec<u32>| refuses.map_or(Ok(theirs), |code| Err((code, true)));
     let word = |yes: bool| refuses.unwrap_or(u64::from(yes));
 
@@ -143,9 +145,9 @@ fn order(q: &Asked, dag: &CuttingDag) -> Result<u64, String> {
 
 /// Lists of pairs of every kind: without and with cycles, ids beyond the count, and the limits from both sides.
 fn random(r: &Random) -> Result<u64, String> {
-    let contours = r.pick(&[r.below(6), r.below(41), 39, 40, 41]) as usize;
+    let contours = r.pick(&[r.index(6), r.index(CONTOURS + 1), CONTOURS - 1, CONTOURS, CONTOURS + 1]);
     let range = r.pick(&[contours as u64, contours as u64, contours as u64 + 2, 3, 1 << 32]).max(1);
-    let count = r.pick(&[r.below(5), r.below(20), r.below(60), 123, 124, 125]);
+    let count = r.pick(&[r.index(5), r.index(20), r.index(60), PAIRS - 1, PAIRS, PAIRS + 1]);
     let forward = r.one_in(2);
     let mut pairs = Vec::new();
     for _ in 0..count {
@@ -159,7 +161,7 @@ fn random(r: &Random) -> Result<u64, String> {
     if r.one_in(20) {
         pairs.pop();
     }
-    let length = r.pick(&[contours as u64, contours as u64, r.below(43), 40, 41]);
+    let length = r.pick(&[contours, contours, r.index(CONTOURS + 3), CONTOURS, CONTOURS + 1]);
     let mut ids: Vec<u32> = match r.below(3) {
         0 => (0..length).map(|_| r.below(range) as u32).collect(),
         _ => (0..length as u32).collect(),

@@ -10,6 +10,7 @@ pub mod exports;
 pub mod fuzz;
 pub mod generate;
 pub mod guard;
+pub mod limits;
 pub mod random;
 pub mod reading;
 pub mod root;

@@ -1,5 +1,6 @@
 //! Numbers to try, from a seed: the same seed gives the same run on every machine.
 
+use crate::limits::REACH;
 use std::cell::Cell;
 
 /// SplitMix64: small, and every seed is as good as another.
@@ -28,8 +29,13 @@ impl Random {
         ((u128::from(self.next()) * u128::from(bound)) >> 64) as u64
     }
 
-    pub fn from(&self, low: u64, high: u64) -> u64 {
-        low + self.below(high - low + 1)
+    /// A position in a list of this length, which is above 0.
+    pub fn index(&self, length: usize) -> usize {
+        self.below(length as u64) as usize
+    }
+
+    pub fn from(&self, low: usize, high: usize) -> usize {
+        low + self.index(high - low + 1)
     }
 
     /// Yes once in `times`.
@@ -52,9 +58,6 @@ impl Random {
         }
     }
 }
-
-/// The largest coordinate that a card may have.
-pub const REACH: f64 = 1_048_576.0;
 
 /// A kind of coordinate. A contour or a question has most of its numbers from one kind, so that sums,
 /// ties and cancellations of each kind occur.
@@ -85,6 +88,11 @@ impl Random {
             Kind::Edge => self.pick(&[0.0, REACH, REACH - 1.0, REACH.next_down(), f64::MIN_POSITIVE, 1e-12]),
         };
         if self.one_in(2) { -size } else { size }
+    }
+
+    /// A point within reach.
+    pub fn point(&self, kind: Kind) -> (f64, f64) {
+        (self.coordinate(kind), self.coordinate(kind))
     }
 
     /// Any f64, most of them coordinates: the edges on both sides of what is accepted come often.

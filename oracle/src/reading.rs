@@ -1,7 +1,55 @@
 //! A second reading of the card's format and of the table of refusals, written from the paper alone:
-//! plain loops, one for each row of the table, in the paper's order.
+//! plain loops, one for each row of the table, in the paper's order. Its numbers are its own too, not those of limits.rs.
 
-use crate::card::{BLOCK, Card, Contour, FULL, Pair, check_of};
+use crate::card::{Card, Contour, Pair, check_of};
+use std::ops::Range;
+
+// "The card": the bytes of a block, of its start, of a point and of a pair; where a block's check stands; the pairs that
+// one takes.
+const BLOCK: usize = 512;
+const START: usize = 8;
+const CHECK: usize = 508;
+const PAYLOAD: Range<usize> = START..CHECK;
+const VERSION: u8 = 1;
+const POINT: usize = 16;
+const PAIR: usize = 16;
+const PAIRS_A_BLOCK: usize = 31;
+
+// "When a card goes back": the most that rows 4, 6 and 8 let pass, and so row 1.
+const CONTOURS: usize = 40;
+const PAIRS: usize = 124;
+const PER_CONTOUR: usize = 8;
+const PASSES: usize = 1000;
+const DIRECTION: u8 = 2;
+const CANDIDATES: usize = 80;
+const VERTICES: usize = 30;
+const TYPE: u8 = 1;
+const COORDINATE: f64 = 1_048_576.0;
+const LONGEST: usize = BLOCK * (1 + CONTOURS + PAIRS.div_ceil(PAIRS_A_BLOCK));
+
+/// Where the head's fields stand in its payload.
+mod head {
+    pub const JOB: usize = 0;
+    pub const CONTOURS: usize = 4;
+    pub const PAIRS: usize = 6;
+    pub const PER_CONTOUR: usize = 8;
+    pub const PASSES: usize = 10;
+    pub const LIMIT: usize = 12;
+    pub const HOME: [usize; 2] = [16, 24];
+    pub const EXTERIOR: usize = 32;
+    pub const INTERIOR: usize = 33;
+    pub const END: usize = 34;
+}
+
+/// Where a contour's fields stand in its payload.
+mod contour {
+    pub const ID: usize = 0;
+    pub const TAG: usize = 4;
+    pub const COUNT: usize = 8;
+    pub const TYPE: usize = 10;
+    pub const ZERO: usize = 11;
+    pub const POINTS: usize = 12;
+}
 
 /// The number of a refusal and its place.
 pub type Refusal = (u64, u64);
@@ -26,13 +74,18 @@ struct File<'a> {
 }
 
 impl<'a> File<'a> {
+    fn of(bytes: &'a [u8]) -> File<'a> {
+        let head = &bytes[PAYLOAD];
+        File { bytes, n: u16_at(head, head::CONTOURS), m: u16_at(head, head::PAIRS) }
+    }
+
     fn block(&self, number: usize) -> &'a [u8] {
         &self.bytes[number * BLOCK..][..BLOCK]
     }
 
     /// Byte `at` of a block's payload begins here.
     fn payload(&self, number: usize) -> &'a [u8] {
-        &self.block(number)[8..508]
+        &self.block(number)[PAYLOAD]
     }
 
     fn contour(&self, position: usize) -> &'a [u8] {
@@ -40,21 +93,26 @@ impl<'a> File<'a> {
     }
 
     fn v(&self, position: usize) -> usize {
-        u16_at(self.contour(position), 8)
+        u16_at(self.contour(position), contour::COUNT)
     }
 
     fn id(&self, position: usize) -> u32 {
-        u32_at(self.contour(position), 0)
+        u32_at(self.contour(position), contour::ID)
     }
 
     fn tag(&self, position: usize) -> u32 {
-        u32_at(self.contour(position), 4)
+        u32_at(self.contour(position), contour::TAG)
+    }
+
+    fn vertex(&self, position: usize, number: usize) -> (f64, f64) {
+        let at = contour::POINTS + POINT * number;
+        (f64_at(self.contour(position), at), f64_at(self.contour(position), at + POINT / 2))
     }
 
     /// The four words of a pair.
     fn pair(&self, number: usize) -> [u32; 4] {
-        let payload = self.payload(1 + self.n + number / FULL);
-        [0, 4, 8, 12].map(|at| u32_at(payload, number % FULL * 16 + at))
+        let payload = self.payload(1 + self.n + number / PAIRS_A_BLOCK);
+        [0, 4, 8, 12].map(|at| u32_at(payload, number % PAIRS_A_BLOCK * PAIR + at))
     }
 
     fn position(&self, id: u32) -> Option<usize> {
@@ -62,48 +120,48 @@ impl<'a> File<'a> {
     }
 }
 
-/// What bytes 0 to 7 of a block must be.
-fn due_start(number: usize, n: usize) -> [u8; 8] {
+/// What a block must start with.
+fn due_start(number: usize, n: usize) -> [u8; START] {
     let kind = match number {
         0 => 1,
         k if k <= n => 2,
         _ => 3,
     };
-    [kind, 1, number as u8, (number >> 8) as u8, 0, 0, 0, 0]
+    [kind, VERSION, number as u8, (number >> 8) as u8, 0, 0, 0, 0]
 }
 
 fn far(x: f64) -> bool {
-    !x.is_finite() || x.abs() > 1_048_576.0
+    !x.is_finite() || x.abs() > COORDINATE
 }
 
 /// The first row of the table that holds of a file, and its place. None: the card is good.
 pub fn refusal(bytes: &[u8]) -> Option<Refusal> {
     let length = bytes.len();
-    if length == 0 || length % BLOCK != 0 || length > 23_040 {
-        return Some((1, length.min(23_041) as u64));
+    if length == 0 || length % BLOCK != 0 || length > LONGEST {
+        return Some((1, length.min(LONGEST + 1) as u64));
     }
     let blocks = length / BLOCK;
     let lowest = |number: u64, place: Option<usize>| place.map(|p| (number, p as u64));
 
     let check = |b: &usize| {
         let block = &bytes[b * BLOCK..][..BLOCK];
-        u32_at(block, 508) != check_of(block)
+        u32_at(block, CHECK) != check_of(block)
     };
     if let Some(at) = (0..blocks).find(check) {
         return Some((2, at as u64));
     }
-    if bytes[..8] != due_start(0, 0) {
+    if bytes[..START] != due_start(0, 0) {
         return Some((3, 0));
     }
-    let head = &bytes[8..508];
+    let head = &bytes[PAYLOAD];
     if let Some(field) = bad_field(head) {
         return Some((4, field));
     }
-    let file = File { bytes, n: u16_at(head, 4), m: u16_at(head, 6) };
-    if blocks != 1 + file.n + file.m.div_ceil(FULL) {
+    let file = File::of(bytes);
+    if blocks != 1 + file.n + file.m.div_ceil(PAIRS_A_BLOCK) {
         return Some((5, blocks as u64));
     }
-    lowest(3, (1..blocks).find(|&b| file.block(b)[..8] != due_start(b, file.n)))
+    lowest(3, (1..blocks).find(|&b| file.block(b)[..START] != due_start(b, file.n)))
         .or_else(|| lowest(6, (0..file.n).find(|&k| bad_contour(file.contour(k)))))
         .or_else(|| lowest(7, (0..blocks).find(|&b| spare(&file, b).iter().any(|&byte| byte != 0))))
         .or_else(|| lowest(8, far_place(&file)))
@@ -128,22 +186,32 @@ pub fn refusal(bytes: &[u8]) -> Option<Refusal> {
 
 /// Row 4: which field of the head is out of its limits.
 fn bad_field(head: &[u8]) -> Option<u64> {
-    let (n, m, c, passes) = (u16_at(head, 4), u16_at(head, 6), u16_at(head, 8), u16_at(head, 10));
-    let faults = [n > 40, m > 124, !(1..=8).contains(&c), passes > 1000, head[32] > 2, head[33] > 2, n * c > 80];
+    let (n, m) = (u16_at(head, head::CONTOURS), u16_at(head, head::PAIRS));
+    let (c, passes) = (u16_at(head, head::PER_CONTOUR), u16_at(head, head::PASSES));
+    let faults = [
+        n > CONTOURS,
+        m > PAIRS,
+        !(1..=PER_CONTOUR).contains(&c),
+        passes > PASSES,
+        head[head::EXTERIOR] > DIRECTION,
+        head[head::INTERIOR] > DIRECTION,
+        n * c > CANDIDATES,
+    ];
     faults.iter().position(|&fault| fault).map(|k| k as u64 + 1)
 }
 
 /// Row 6.
 fn bad_contour(payload: &[u8]) -> bool {
-    !(1..=30).contains(&u16_at(payload, 8)) || payload[10] > 1 || payload[11] != 0
+    let v = u16_at(payload, contour::COUNT);
+    !(1..=VERTICES).contains(&v) || payload[contour::TYPE] > TYPE || payload[contour::ZERO] != 0
 }
 
 /// Row 7: the payload bytes of a block that no field has.
 fn spare<'a>(file: &File<'a>, block: usize) -> &'a [u8] {
     let used = match block {
-        0 => 34,
-        b if b <= file.n => 12 + 16 * file.v(b - 1),
-        b => 16 * (file.m - (b - 1 - file.n) * FULL).min(FULL),
+        0 => head::END,
+        b if b <= file.n => contour::POINTS + POINT * file.v(b - 1),
+        b => PAIR * (file.m - (b - 1 - file.n) * PAIRS_A_BLOCK).min(PAIRS_A_BLOCK),
     };
     &file.payload(block)[used..]
 }
@@ -151,11 +219,11 @@ fn spare<'a>(file: &File<'a>, block: usize) -> &'a [u8] {
 /// Row 8: 0 for home, else one more than the contour's position.
 fn far_place(file: &File) -> Option<usize> {
     let head = file.payload(0);
-    if far(f64_at(head, 16)) || far(f64_at(head, 24)) {
+    if head::HOME.iter().any(|&at| far(f64_at(head, at))) {
         return Some(0);
     }
-    let coordinates = |k: usize| (0..2 * file.v(k)).map(move |i| f64_at(file.contour(k), 12 + 8 * i));
-    (0..file.n).find(|&k| coordinates(k).any(far)).map(|k| k + 1)
+    let bad = |k: &usize| (0..file.v(*k)).map(|j| file.vertex(*k, j)).any(|(x, y)| far(x) || far(y));
+    (0..file.n).find(bad).map(|k| k + 1)
 }
 
 /// Row 12: the lowest position that pairs lead back to.
@@ -167,7 +235,7 @@ fn on_cycle(file: &File) -> Option<usize> {
 /// The lowest of n positions that pairs of them lead back to. A flag for each two positions: pairs lead from one to the
 /// other.
 pub fn led_back(n: usize, pairs: impl Iterator<Item = (usize, usize)>) -> Option<usize> {
-    let mut leads = [[false; 40]; 40];
+    let mut leads = [[false; CONTOURS]; CONTOURS];
     for (before, after) in pairs {
         leads[before][after] = true;
     }
@@ -187,30 +255,26 @@ pub fn card(bytes: &[u8]) -> Result<Card, Refusal> {
     if let Some(refusal) = refusal(bytes) {
         return Err(refusal);
     }
-    let head = &bytes[8..508];
-    let file = File { bytes, n: u16_at(head, 4), m: u16_at(head, 6) };
-    let contour = |k: usize| {
-        let p = file.contour(k);
-        let vertex = |j: usize| (f64_at(p, 12 + 16 * j), f64_at(p, 20 + 16 * j));
-        Contour {
-            id: file.id(k),
-            tag: file.tag(k),
-            interior: p[10] == 1,
-            vertices: (0..file.v(k)).map(vertex).collect(),
-        }
+    let file = File::of(bytes);
+    let head = file.payload(0);
+    let contour = |k: usize| Contour {
+        id: file.id(k),
+        tag: file.tag(k),
+        interior: file.contour(k)[contour::TYPE] == 1,
+        vertices: (0..file.v(k)).map(|j| file.vertex(k, j)).collect(),
     };
     let pair = |q: usize| {
         let [a, b, c, d] = file.pair(q);
         Pair { before: (a, b), after: (c, d) }
     };
     Ok(Card {
-        job: u32_at(head, 0),
-        c: u16_at(head, 8) as u16,
-        passes: u16_at(head, 10) as u16,
-        limit: u32_at(head, 12),
-        home: (f64_at(head, 16), f64_at(head, 24)),
-        exterior: head[32],
-        interior: head[33],
+        job: u32_at(head, head::JOB),
+        c: u16_at(head, head::PER_CONTOUR) as u16,
+        passes: u16_at(head, head::PASSES) as u16,
+        limit: u32_at(head, head::LIMIT),
+        home: head::HOME.map(|at| f64_at(head, at)).into(),
+        exterior: head[head::EXTERIOR],
+        interior: head[head::INTERIOR],
         contours: (0..file.n).map(contour).collect(),
         pairs: (0..file.m).map(pair).collect(),
     })

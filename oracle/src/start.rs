@@ -34,44 +34,39 @@ unsafe extern "C" {
     ) -> usize;
 }
 
-/// The start that respects the pairs: how many entries it has, and the tour.
-pub fn constrained(s: &Sheet, n: usize) -> (usize, Vec<u8>) {
+/// How many entries a start has, and the tour that it writes to a room of n.
+fn written(n: usize, start: impl FnOnce(*mut u8) -> usize) -> (usize, Vec<u8>) {
     let mut tour = vec![u8::MAX; n];
-    let count = unsafe {
+    let count = start(tour.as_mut_ptr());
+    (count, tour)
+}
+
+/// The start that respects the pairs.
+pub fn constrained(s: &Sheet, n: usize) -> (usize, Vec<u8>) {
+    let Sheet { home, table, t, first, pairs, .. } = s;
+    written(n, |tour| unsafe {
         probe_start(
-            s.home.as_ptr(),
-            s.home.len(),
-            s.table.as_ptr(),
-            s.table.len(),
-            s.t,
-            s.first.as_ptr(),
-            s.first.len(),
-            s.pairs.as_ptr(),
-            s.pairs.len(),
-            tour.as_mut_ptr(),
+            home.as_ptr(),
+            home.len(),
+            table.as_ptr(),
+            table.len(),
+            *t,
+            first.as_ptr(),
+            first.len(),
+            pairs.as_ptr(),
+            pairs.len(),
+            tour,
             n,
         )
-    };
-    (count, tour)
+    })
 }
 
 /// The start that does not.
 fn free(s: &Sheet, n: usize) -> (usize, Vec<u8>) {
-    let mut tour = vec![u8::MAX; n];
-    let count = unsafe {
-        probe_solve_nn(
-            s.home.as_ptr(),
-            s.home.len(),
-            s.table.as_ptr(),
-            s.table.len(),
-            s.t,
-            s.first.as_ptr(),
-            s.first.len(),
-            tour.as_mut_ptr(),
-            n,
-        )
-    };
-    (count, tour)
+    let (home, table, first) = (&s.home, &s.table, &s.first);
+    written(n, |tour| unsafe {
+        probe_solve_nn(home.as_ptr(), home.len(), table.as_ptr(), table.len(), s.t, first.as_ptr(), first.len(), tour, n)
+    })
 }
 
 fn one(r: &Random) -> Result<u64, String> {

@@ -31,7 +31,7 @@ fn one(r: &Random) -> Result<u64, String> {
     let bytes = card.bytes();
     let instance = Problem::of(&card).instance;
     let t = instance.total_candidates;
-    let rest = r.below(4) as usize;
+    let rest = r.index(4);
     let (mut home, mut table, mut count) = (vec![KEPT; t + rest], vec![KEPT; t * t + rest], usize::MAX);
     unsafe {
         let (homes, entries) = (home.len(), table.len());

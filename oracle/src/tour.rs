@@ -5,6 +5,7 @@ use crate::answer::Problem;
 use crate::doors::refused;
 use crate::exports::{Left, UNTOUCHED, check, place, tour};
 use crate::generate::{good, limit_near};
+use crate::limits::CANDIDATES;
 use crate::random::Random;
 use crate::run::{Wanted, cases, same};
 
@@ -26,16 +27,16 @@ fn one(r: &Random) -> Result<u64, String> {
     let what = || format!("{card:?}");
     same(what, check(&bytes)?, 0)?;
     if n > 0 {
-        let small = r.below(n as u64) as usize;
+        let small = r.index(n);
         same(what, tour(&bytes, small)?, Left::refused(refused(13, n as u64), small))?;
     }
     let found = problem.search(card.limit);
     if card.limit == 0 {
         same(what, &found.tour, &problem.unlimited())?;
     }
-    let room = n + r.below(3) as usize;
+    let room = n + r.index(3);
     same(what, tour(&bytes, room)?, Left::accepted(&found.tour, found.moves, found.length, room))?;
-    let candidate = r.pick(&[r.below(80), r.below(1 << 32), problem.instance.total_candidates as u64]);
+    let candidate = r.pick(&[r.below(CANDIDATES as u64), r.below(1 << 32), problem.instance.total_candidates as u64]);
     same(what, place(&bytes, candidate)?, place_due(&problem, candidate))?;
     same(what, jambolive::list(&bytes), problem.list(&card, &found))
 }

@@ -6,19 +6,20 @@
 //! any bytes, never panic, and keep nothing.
 //!
 //! ```
-//! let card = std::fs::read("../../examples/job-41.card").unwrap();
+//! let mut card = std::fs::read("../../examples/job-41.card").unwrap();
 //! let tour = jambolive::tour(&card).unwrap();
 //! assert_eq!(tour.candidates, [2, 1, 0]);
 //! assert_eq!(tour.length, 24.0);
-//! assert_eq!(jambolive::check(&card[1..]).unwrap_err().to_string(), "a card has 1 to 45 whole blocks of 512 bytes, not 2559 bytes");
+//! card[1000] += 1;
+//! assert_eq!(jambolive::check(&card).unwrap_err().to_string(), "the check of block 1 does not fit its bytes");
 //! ```
 
+mod fields;
+mod limits;
 mod refusal;
 
+pub use limits::*;
 pub use refusal::Refusal;
-
-/// The most contours that a card has, so the most entries of a tour.
-pub const CONTOURS: usize = 40;
 
 unsafe extern "C" {
     fn jl_check(card: *const u8, bytes: usize) -> u64;
@@ -47,7 +48,7 @@ pub struct Tour {
 pub fn tour(card: &[u8]) -> Result<Tour, Refusal> {
     let mut room = [0; CONTOURS];
     let (moves, length) = tour_into(card, &mut room)?;
-    Ok(Tour { candidates: room[..contours(card)].to_vec(), moves, length })
+    Ok(Tour { candidates: room[..fields::contours(card)].to_vec(), moves, length })
 }
 
 /// Finds a card's tour and writes it to the start of `room`, one byte an entry; gives the trials and the length. A room
@@ -74,31 +75,12 @@ pub fn list(card: &[u8]) -> String {
 
 fn lines(card: &[u8]) -> Result<String, Refusal> {
     let tour = tour(card)?;
-    let mut list = format!("JOB {} CONTOURS {}\n", word(card, 8), contours(card));
+    let mut list = format!("JOB {} CONTOURS {}\n", fields::job(card), fields::contours(card));
     for &candidate in &tour.candidates {
         let (contour, within) = place(card, candidate)?;
-        let block = 512 * (1 + contour);
-        let way = if clockwise(card, card[block + 18]) { "cw" } else { "ccw" };
-        list += &format!("{} {} {within} {way}\n", word(card, block + 8), word(card, block + 12));
+        let (id, tag, clockwise) = fields::contour(card, contour);
+        let way = if clockwise { "cw" } else { "ccw" };
+        list += &format!("{id} {tag} {within} {way}\n");
     }
     Ok(list + &format!("MOVES {}\nRAPID {:016x}\n", tour.moves, tour.length.to_bits()))
-}
-
-/// The way a contour of this type is cut on an accepted card: as the head says, and where it leaves that open outlines
-/// counter-clockwise and holes clockwise.
-fn clockwise(card: &[u8], kind: u8) -> bool {
-    match card[40 + usize::from(kind)] {
-        0 => false,
-        1 => true,
-        _ => kind == 1,
-    }
-}
-
-/// The contours of an accepted card.
-fn contours(card: &[u8]) -> usize {
-    usize::from(u16::from_le_bytes([card[12], card[13]]))
-}
-
-fn word(card: &[u8], at: usize) -> u32 {
-    u32::from_le_bytes([card[at], card[at + 1], card[at + 2], card[at + 3]])
 }

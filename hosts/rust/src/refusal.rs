@@ -1,12 +1,14 @@
 //! Why a card goes back, in words.
 
+use crate::limits::{BLOCK, BLOCKS, CANDIDATES, CARD_BYTES, CONTOURS, PAIRS, PASSES, PER_CONTOUR, VERTICES};
 use std::fmt;
 
 /// Why a card goes back. Blocks, contours and pairs are counted from 0.
 #[derive(Clone, Copy, Debug, PartialEq, Eq)]
 #[non_exhaustive]
 pub enum Refusal {
-    /// No bytes, no whole blocks, or more than 45 of them. Lengths above 23,040 are told as 23,041.
+    /// No bytes, no whole blocks, or more than [`BLOCKS`] of them. Every length above [`CARD_BYTES`] is told as the
+    /// next number.
     Length {
         /// How many there are.
         bytes: u32,
@@ -133,33 +135,38 @@ impl Refusal {
     }
 }
 
-/// What each field of the head must be, by the number of [`Refusal::Field`].
-const FIELDS: [&str; 7] = [
-    "a card has at most 40 contours",
-    "a card has at most 124 pairs",
-    "a contour has 1 to 8 candidates",
-    "a search makes at most 1000 passes",
-    "the direction of outlines is 0, 1 or 2",
-    "the direction of holes is 0, 1 or 2",
-    "a card has at most 80 candidates in all",
-];
+/// What a field of the head must be, by the number of [`Refusal::Field`].
+fn due(field: u32) -> String {
+    match field {
+        1 => format!("a card has at most {CONTOURS} contours"),
+        2 => format!("a card has at most {PAIRS} pairs"),
+        3 => format!("a contour has 1 to {PER_CONTOUR} candidates"),
+        4 => format!("a search makes at most {PASSES} passes"),
+        5 => "the direction of outlines is 0, 1 or 2".to_string(),
+        6 => "the direction of holes is 0, 1 or 2".to_string(),
+        7 => format!("a card has at most {CANDIDATES} candidates in all"),
+        _ => "a field of the head is out of its limits".to_string(),
+    }
+}
 
 impl fmt::Display for Refusal {
     fn fmt(&self, f: &mut fmt::Formatter) -> fmt::Result {
         match *self {
-            Refusal::Length { bytes } if bytes > 23_040 => {
-                write!(f, "a card has 1 to 45 whole blocks of 512 bytes, and this is longer")
+            Refusal::Length { bytes } => {
+                write!(f, "a card has 1 to {BLOCKS} whole blocks of {BLOCK} bytes, ")?;
+                if bytes as usize > CARD_BYTES {
+                    f.write_str("and this is longer")
+                } else {
+                    write!(f, "not {bytes} bytes")
+                }
             }
-            Refusal::Length { bytes } => write!(f, "a card has 1 to 45 whole blocks of 512 bytes, not {bytes} bytes"),
             Refusal::Check { block } => write!(f, "the check of block {block} does not fit its bytes"),
             Refusal::Start { block } => write!(f, "block {block} does not begin as it should"),
-            Refusal::Field { field } => {
-                let due = FIELDS.get((field as usize).wrapping_sub(1));
-                f.write_str(due.unwrap_or(&"a field of the head is out of its limits"))
-            }
+            Refusal::Field { field } => f.write_str(&due(field)),
             Refusal::Blocks { count } => write!(f, "the head speaks of another number of blocks than {count}"),
             Refusal::Contour { position } => {
-                write!(f, "contour {position} has no 1 to 30 vertices, no known type, or a byte that should be zero")
+                let rest = "no known type, or a byte that should be zero";
+                write!(f, "contour {position} has no 1 to {VERTICES} vertices, {rest}")
             }
             Refusal::Spare { block } => write!(f, "block {block} has a byte that should be zero"),
             Refusal::Coordinate { position: None } => {
@@ -194,34 +201,34 @@ fn codes() {
 
 #[test]
 fn sentences() {
-    let said = [
-        (1, 0, "a card has 1 to 45 whole blocks of 512 bytes, not 0 bytes"),
-        (1, 23_039, "a card has 1 to 45 whole blocks of 512 bytes, not 23039 bytes"),
-        (1, 23_041, "a card has 1 to 45 whole blocks of 512 bytes, and this is longer"),
-        (2, 0, "the check of block 0 does not fit its bytes"),
-        (3, 44, "block 44 does not begin as it should"),
-        (4, 0, "a field of the head is out of its limits"),
-        (4, 1, "a card has at most 40 contours"),
-        (4, 2, "a card has at most 124 pairs"),
-        (4, 3, "a contour has 1 to 8 candidates"),
-        (4, 4, "a search makes at most 1000 passes"),
-        (4, 5, "the direction of outlines is 0, 1 or 2"),
-        (4, 6, "the direction of holes is 0, 1 or 2"),
-        (4, 7, "a card has at most 80 candidates in all"),
-        (5, 2, "the head speaks of another number of blocks than 2"),
-        (6, 0, "contour 0 has no 1 to 30 vertices, no known type, or a byte that should be zero"),
-        (7, 0, "block 0 has a byte that should be zero"),
-        (8, 0, "home has a coordinate that is too large or no number"),
-        (8, 1, "contour 0 has a coordinate that is too large or no number"),
-        (9, 4, "contour 4 has the id of an earlier contour"),
-        (10, 0, "pair 0 names an id that no contour has"),
-        (11, 123, "pair 123 names a contour by another tag than its own"),
-        (12, 3, "contour 3 would have to be cut before itself"),
-        (13, 40, "the room for the tour is too small: it needs 40 entries"),
-        (15, 80, "the card has no candidate 80"),
-    ];
-    for (number, place, sentence) in said {
-        let code: u64 = (number << 32) + place;
+    let says = |number: u64, place: usize, sentence: &str| {
+        let code = (number << 32) + place as u64;
         assert_eq!(Refusal::of(code).unwrap_err().to_string(), sentence, "{number} at {place}");
-    }
+    };
+    let whole = format!("a card has 1 to {BLOCKS} whole blocks of {BLOCK} bytes");
+    says(1, 0, &format!("{whole}, not 0 bytes"));
+    says(1, CARD_BYTES - 1, &format!("{whole}, not {} bytes", CARD_BYTES - 1));
+    says(1, CARD_BYTES + 1, &format!("{whole}, and this is longer"));
+    says(2, 0, "the check of block 0 does not fit its bytes");
+    says(3, 4, "block 4 does not begin as it should");
+    says(4, 0, "a field of the head is out of its limits");
+    says(4, 1, &format!("a card has at most {CONTOURS} contours"));
+    says(4, 2, &format!("a card has at most {PAIRS} pairs"));
+    says(4, 3, &format!("a contour has 1 to {PER_CONTOUR} candidates"));
+    says(4, 4, &format!("a search makes at most {PASSES} passes"));
+    says(4, 5, "the direction of outlines is 0, 1 or 2");
+    says(4, 6, "the direction of holes is 0, 1 or 2");
+    says(4, 7, &format!("a card has at most {CANDIDATES} candidates in all"));
+    says(5, 2, "the head speaks of another number of blocks than 2");
+    let contour = format!("contour 0 has no 1 to {VERTICES} vertices, no known type, or a byte that should be zero");
+    says(6, 0, &contour);
+    says(7, 0, "block 0 has a byte that should be zero");
+    says(8, 0, "home has a coordinate that is too large or no number");
+    says(8, 1, "contour 0 has a coordinate that is too large or no number");
+    says(9, 4, "contour 4 has the id of an earlier contour");
+    says(10, 0, "pair 0 names an id that no contour has");
+    says(11, 5, "pair 5 names a contour by another tag than its own");
+    says(12, 3, "contour 3 would have to be cut before itself");
+    says(13, 3, "the room for the tour is too small: it needs 3 entries");
+    says(15, 9, "the card has no candidate 9");
 }

@@ -1,6 +1,6 @@
 //! The example cards, and what every call promises about the memory it is lent.
 
-use jambolive::{Refusal, check, list, place, tour, tour_into};
+use jambolive::{BLOCK, CARD_BYTES, CONTOURS, Refusal, check, list, place, tour, tour_into};
 use std::fs;
 use std::path::PathBuf;
 
@@ -36,10 +36,10 @@ fn a_candidate_has_a_place_or_is_refused() {
 
 #[test]
 fn the_rest_of_a_room_is_kept() {
-    let mut room = [99; 50];
+    let mut room = [99; CONTOURS];
     tour_into(&example("job-41.card"), &mut room).unwrap();
     assert_eq!(room[..3], [2, 1, 0]);
-    assert_eq!(room[3..], [99; 47]);
+    assert_eq!(room[3..], [99; CONTOURS - 3]);
 }
 
 #[test]
@@ -52,7 +52,7 @@ fn a_small_room_is_refused_and_kept() {
 #[test]
 fn any_bytes_get_an_answer() {
     assert_eq!(check(&[]), Err(Refusal::Length { bytes: 0 }));
-    assert_eq!(check(&[7; 100_000]), Err(Refusal::Length { bytes: 23_041 }));
-    assert_eq!(check(&[0; 512]), Err(Refusal::Start { block: 0 }));
-    assert_eq!(check(&[1; 512]), Err(Refusal::Check { block: 0 }));
+    assert_eq!(check(&[7; 2 * CARD_BYTES]), Err(Refusal::Length { bytes: CARD_BYTES as u32 + 1 }));
+    assert_eq!(check(&[0; BLOCK]), Err(Refusal::Start { block: 0 }));
+    assert_eq!(check(&[1; BLOCK]), Err(Refusal::Check { block: 0 }));
 }

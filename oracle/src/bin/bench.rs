@@ -33,9 +33,10 @@ fn root() {
 }
 
 fn check() {
+    use oracle::limits::{BLOCK, CONTOURS, PAIRS, shared};
     use oracle::{check, generate, random::Random, reading};
     use std::hint::black_box;
-    let card = generate::sheet(&Random::of(1, "bench", 0), 40, 2, 124).bytes();
+    let card = generate::sheet(&Random::of(1, "bench", 0), CONTOURS, shared(CONTOURS), PAIRS).bytes();
     let (ours, plain) = both(
         300,
         || assert_eq!(check::check(black_box(&card)), 0),
@@ -43,16 +44,19 @@ fn check() {
     );
     println!(
         "check of {} blocks: {:.1} µs, plain Rust {:.1} µs, {:.2} times",
-        card.len() / 512,
+        card.len() / BLOCK,
         ours / 1e3,
         plain / 1e3,
         ours / plain
     );
 }
 
-/// The classes of cards: contours, candidates a contour, pairs.
+/// The classes of cards: contours, candidates a contour, pairs. All but the third have as many candidates as a card takes.
 #[cfg(feature = "original")]
-const CLASSES: [(usize, u16, usize); 5] = [(40, 2, 0), (40, 2, 40), (40, 1, 124), (20, 4, 0), (10, 8, 0)];
+const CLASSES: [(usize, usize, usize); 5] = {
+    use oracle::limits::{CANDIDATES as ALL, CONTOURS, PAIRS, PER_CONTOUR as EACH};
+    [(ALL / 2, 2, 0), (ALL / 2, 2, ALL / 2), (CONTOURS, 1, PAIRS), (ALL / 4, 4, 0), (ALL / EACH, EACH, 0)]
+};
 
 /// Times ten cards of each class. `ours` and `theirs` make of a card what is timed.
 #[cfg(feature = "original")]

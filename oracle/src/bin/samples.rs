@@ -2,19 +2,21 @@
 //! the crate `replay` also its cards and what it must print.
 
 use oracle::answer::printed;
-use oracle::card::{BLOCK, Card};
+use oracle::card::Card;
 use oracle::edges::edges;
 use oracle::generate;
+use oracle::limits::{BLOCK, CARD_BYTES};
 use oracle::random::Random;
 use std::fs;
 use std::path::Path;
 
-/// Forty contours, twenty plates with a hole each, two candidates a contour: each hole before its plate.
+/// Twenty plates with a hole each, two candidates a contour: each hole before its plate.
 fn plates() -> Card {
-    let mut card = generate::sheet(&Random::of(2026, "sheet", 0), 40, 2, 0);
+    const PLATES: usize = 20;
+    let mut card = generate::sheet(&Random::of(2026, "sheet", 0), 2 * PLATES, 2, 0);
     card.job = 4_001;
-    for k in (0..40).step_by(2) {
-        let (plate, hole) = (k, k + 1);
+    for k in 0..PLATES {
+        let (plate, hole) = (2 * k, 2 * k + 1);
         let middle = card.contours[plate].vertices[0];
         card.contours[plate].interior = false;
         card.contours[hole].interior = true;
@@ -47,7 +49,7 @@ fn examples() {
 /// is; every twenty-fifth has any size up to one byte too many.
 fn replay(crate_folder: &Path) {
     let (mut cards, mut lists) = (Vec::new(), String::new());
-    let kept = |case: &u64, bytes: &[u8]| bytes.len() <= if case % 25 == 0 { 23_041 } else { 6 * BLOCK };
+    let kept = |case: &u64, bytes: &[u8]| bytes.len() <= if case % 25 == 0 { CARD_BYTES + 1 } else { 6 * BLOCK };
     let made = |case: u64| {
         let r = Random::of(2026, "replay", case);
         if case % 2 == 0 { generate::good(&r).bytes() } else { generate::damaged(&r) }
