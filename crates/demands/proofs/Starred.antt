@@ -16,7 +16,7 @@ use Rattle.cost.proofs.Starred.{closest-of-square}
 use Rattle.candidates.specs.Generate.{candidatesFrom, candidatesOf}
 use Rattle.candidates.proofs.Starred.{two-of-square, second-of-four}
 use Rattle.closure.specs.Pairs.{paired, every}
-use Rattle.keep.specs.Keep.{latest, keptIn, keepsPairs, readyBy, readyIn}
+use Rattle.keep.specs.Keep.{lastRank, keptIn, keepsPairs, readyBy, readyIn}
 use Rattle.fields.specs.Layout.{jobOf}
 use Rattle.fields.specs.Values.{asType, asPreference, pointAt}
 use Rattle.card.specs.Stages.{seekOf}
@@ -38,20 +38,20 @@ use Rattle.demands.specs.Starred.{lineOf, listOf, tells, Claim}
 
 -- no contours
 empty : (listOf (asJob41 [] []) ≡ []) × tells (asJob41 [] []) 0 0
-unfolding endOn sheetOn lineOf gathered owners firsts verticesOf outlineOf offersOf candidatesOf candidatesFrom asType asPreference pointAt nearest walked step visit chosen considered isOpen readyIn readyBy offered offer closer reachOf searched repeated pass turn alternative swap judged shorter tried atLimit row reversal flip turned rev slice contours keepsPairs keptIn latest every paired each lengthOf walk legs homesOf homeLeg distancesOf rowOf legAt legOf listed chained distanceOf distanceSqOf squares sqrtOf rootFinite halves wholeRoot digits seatsOf seekOf lowest lowestFrom u16At u32At u64At f64At bytes blockOf numberBytes pointBytes headBytes pointsBytes contourBytes contourBlocks pairBytes pairBlocks written weigh add sub mul neg lt ofBits ofFields odd size span climb round units sum trailingZeros toBits
+unfolding endOn sheetOn lineOf gathered owners firsts verticesOf outlineOf offersOf candidatesOf candidatesFrom asType asPreference pointAt nearest walked step visit chosen considered isOpen readyIn readyBy offered offer closer reachOf searched repeated pass turn alternative swap judged shorter tried atLimit row reversal flip turned rev slice contours keepsPairs keptIn lastRank every paired each lengthOf walk legs homesOf homeLeg distancesOf rowOf legAt legOf listed chained distanceOf distanceSqOf squares sqrtOf rootFinite halves wholeRoot digits seatsOf seekOf lowest lowestFrom u16At u32At u64At f64At bytes blockOf numberBytes pointBytes headBytes pointsBytes contourBytes contourBlocks pairBytes pairBlocks written weigh add sub mul neg lt ofBits ofFields odd size span climb round units sum trailingZeros toBits
 empty = (refl, refl)
 
 -- job 41
 lines : listOf job41 ≡ record { id = 2; tag = 20; candidate = 0; direction = Cw } ∷ record { id = 9; tag = 90; candidate = 0; direction = Ccw } ∷ record { id = 7; tag = 70; candidate = 0; direction = Ccw } ∷ []
-unfolding endOn sheetOn lineOf gathered owners firsts verticesOf outlineOf offersOf candidatesOf candidatesFrom asType asPreference pointAt nearest walked step visit chosen considered isOpen readyIn readyBy offered offer closer reachOf searched repeated pass turn alternative swap judged shorter tried atLimit row reversal flip turned rev slice contours keepsPairs keptIn latest every paired each lengthOf walk legs homesOf homeLeg distancesOf rowOf legAt legOf listed chained distanceOf distanceSqOf squares sqrtOf rootFinite halves wholeRoot digits seatsOf seekOf lowest lowestFrom u16At u32At u64At f64At bytes blockOf numberBytes pointBytes headBytes pointsBytes contourBytes contourBlocks pairBytes pairBlocks written weigh add sub mul neg lt ofBits ofFields odd size span climb round units sum trailingZeros toBits
+unfolding endOn sheetOn lineOf gathered owners firsts verticesOf outlineOf offersOf candidatesOf candidatesFrom asType asPreference pointAt nearest walked step visit chosen considered isOpen readyIn readyBy offered offer closer reachOf searched repeated pass turn alternative swap judged shorter tried atLimit row reversal flip turned rev slice contours keepsPairs keptIn lastRank every paired each lengthOf walk legs homesOf homeLeg distancesOf rowOf legAt legOf listed chained distanceOf distanceSqOf squares sqrtOf rootFinite halves wholeRoot digits seatsOf seekOf lowest lowestFrom u16At u32At u64At f64At bytes blockOf numberBytes pointBytes headBytes pointsBytes contourBytes contourBlocks pairBytes pairBlocks written weigh add sub mul neg lt ofBits ofFields odd size span climb round units sum trailingZeros toBits
 lines = refl
 
 told : tells job41 1 0x4038_0000_0000_0000
-unfolding endOn sheetOn lineOf gathered owners firsts verticesOf outlineOf offersOf candidatesOf candidatesFrom asType asPreference pointAt nearest walked step visit chosen considered isOpen readyIn readyBy offered offer closer reachOf searched repeated pass turn alternative swap judged shorter tried atLimit row reversal flip turned rev slice contours keepsPairs keptIn latest every paired each lengthOf walk legs homesOf homeLeg distancesOf rowOf legAt legOf listed chained distanceOf distanceSqOf squares sqrtOf rootFinite halves wholeRoot digits seatsOf seekOf lowest lowestFrom u16At u32At u64At f64At bytes blockOf numberBytes pointBytes headBytes pointsBytes contourBytes contourBlocks pairBytes pairBlocks written weigh add sub mul neg lt ofBits ofFields odd size span climb round units sum trailingZeros toBits
+unfolding endOn sheetOn lineOf gathered owners firsts verticesOf outlineOf offersOf candidatesOf candidatesFrom asType asPreference pointAt nearest walked step visit chosen considered isOpen readyIn readyBy offered offer closer reachOf searched repeated pass turn alternative swap judged shorter tried atLimit row reversal flip turned rev slice contours keepsPairs keptIn lastRank every paired each lengthOf walk legs homesOf homeLeg distancesOf rowOf legAt legOf listed chained distanceOf distanceSqOf squares sqrtOf rootFinite halves wholeRoot digits seatsOf seekOf lowest lowestFrom u16At u32At u64At f64At bytes blockOf numberBytes pointBytes headBytes pointsBytes contourBytes contourBlocks pairBytes pairBlocks written weigh add sub mul neg lt ofBits ofFields odd size span climb round units sum trailingZeros toBits
 told = refl
 
 job : jobOf (written job41) ≡ 41
-unfolding endOn sheetOn lineOf gathered owners firsts verticesOf outlineOf offersOf candidatesOf candidatesFrom asType asPreference pointAt nearest walked step visit chosen considered isOpen readyIn readyBy offered offer closer reachOf searched repeated pass turn alternative swap judged shorter tried atLimit row reversal flip turned rev slice contours keepsPairs keptIn latest every paired each lengthOf walk legs homesOf homeLeg distancesOf rowOf legAt legOf listed chained distanceOf distanceSqOf squares sqrtOf rootFinite halves wholeRoot digits seatsOf seekOf lowest lowestFrom u16At u32At u64At f64At bytes blockOf numberBytes pointBytes headBytes pointsBytes contourBytes contourBlocks pairBytes pairBlocks written weigh add sub mul neg lt ofBits ofFields odd size span climb round units sum trailingZeros toBits
+unfolding endOn sheetOn lineOf gathered owners firsts verticesOf outlineOf offersOf candidatesOf candidatesFrom asType asPreference pointAt nearest walked step visit chosen considered isOpen readyIn readyBy offered offer closer reachOf searched repeated pass turn alternative swap judged shorter tried atLimit row reversal flip turned rev slice contours keepsPairs keptIn lastRank every paired each lengthOf walk legs homesOf homeLeg distancesOf rowOf legAt legOf listed chained distanceOf distanceSqOf squares sqrtOf rootFinite halves wholeRoot digits seatsOf seekOf lowest lowestFrom u16At u32At u64At f64At bytes blockOf numberBytes pointBytes headBytes pointsBytes contourBytes contourBlocks pairBytes pairBlocks written weigh add sub mul neg lt ofBits ofFields odd size span climb round units sum trailingZeros toBits
 job = refl
 
 pub claim : Claim

@@ -12,7 +12,7 @@ ghost use Rattle.answer.specs.declared.Check.{Check};
 ghost use Rattle.closure.specs.Limits.{CONTOURS, PAIRS};
 ghost use Rattle.closure.specs.Pairs.{paired, someOf, isPair};
 ghost use lib.ListN.{length, replicate};
-ghost use Rattle.keep.specs.Keep.{lastPlace, keepsPairs};
+ghost use Rattle.keep.specs.Keep.{lastRank, keepsPairs};
 ghost use Rattle.hierarchy.specs.Questions.{pairsCheck, picked, endsAt, startsAt, pairListOf, idsOf, numContours, precedencesOf, violatesOf, predecessorsOf, successorsOf, validSequence, orderOf, topologicalSort};
 ghost use Rattle.hierarchy.specs.Fill.{Filled};
 ghost use Rattle.hierarchy.specs.Sort.{both, tallied, freeBelow, loosened, released, settled, sortedBy, standing, Sound, Stands};
@@ -228,9 +228,9 @@ pub fn successors(contours: usize, pairs: &[u32], id: u32) -> Ids
     list_after(pairs, id)
 }
 
-// The last place of an id, counted from 1; 0 where it is not there.
-fn last_place(ids: &[u32], id: u32) -> usize
-    ensures { λ r. ⌜ r ≡ lastPlace (now (ids .entry)) id ⌝ }
+// The last rank of an id, counted from 1; 0 where it is not there.
+fn last_rank(ids: &[u32], id: u32) -> usize
+    ensures { λ r. ⌜ r ≡ lastRank (now (ids .entry)) id ⌝ }
 {
     let mut met = 0;
     let mut i = 0;
@@ -244,14 +244,14 @@ fn last_place(ids: &[u32], id: u32) -> usize
     met
 }
 
-// Whether ids as given keep to the pairs, going by last places.
+// Whether ids as given keep to the pairs, going by last ranks.
 fn keeps_ids(ids: &[u32], pairs: &[u32]) -> bool
     ensures { λ r. ⌜ r ≡ keepsPairs (now (ids .entry)) (now (pairs .entry)) ⌝ }
 {
     let mut at = 0;
     while at + 1 < pairs.len() {
-        let b = last_place(ids, pairs[at]);
-        let a = last_place(ids, pairs[at + 1]);
+        let b = last_rank(ids, pairs[at]);
+        let a = last_rank(ids, pairs[at + 1]);
         if !keep::kept_at(b, a) {
             return false;
         }

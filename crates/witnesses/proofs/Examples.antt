@@ -19,7 +19,7 @@ use Rattle.points.specs.Distance.{squares, distanceSqOf, distanceOf}
 use Rattle.candidates.specs.Generate.{candidatesFrom, candidatesOf}
 use Rattle.closure.specs.Pairs.{paired, someOf, every}
 use Rattle.closure.specs.Cycle.{linked, leads}
-use Rattle.keep.specs.Keep.{latest, keptIn, keepsPairs, readyBy, readyIn}
+use Rattle.keep.specs.Keep.{lastRank, keptIn, keepsPairs, readyBy, readyIn}
 use Rattle.fields.specs.Values.{asType, asPreference, pointAt}
 use Rattle.card.specs.Stages.{lengthFault, checkFault, startFault, headFault, countFault, contourFault, spareFault, farVertex, farFault, seekOf, repeatFault, nameFault, tagFault}
 use Rattle.card.specs.Verdict.{cycleFault, checkOf}
@@ -55,11 +55,11 @@ use Rattle.witnesses.specs.Examples.{limited, Answered, Claim}
 -- ---- answered with a tour
 
 job41-answered : Answered job41 3 3
-unfolding endOn sheetOn gathered owners firsts verticesOf outlineOf offersOf candidatesOf candidatesFrom asType asPreference pointAt nearest walked step visit chosen considered isOpen readyIn readyBy offered offer closer reachOf searched repeated pass turn alternative swap judged shorter tried atLimit row reversal flip turned rev slice contours keepsPairs keptIn latest every paired each lengthOf walk legs homesOf homeLeg distancesOf rowOf legAt legOf listed chained distanceOf distanceSqOf squares sqrtOf rootFinite halves wholeRoot digits seatsOf seekOf lowest lowestFrom u16At u32At u64At f64At bytes blockOf numberBytes pointBytes headBytes pointsBytes contourBytes contourBlocks pairBytes pairBlocks written weigh add sub mul neg lt ofBits ofFields odd size span climb round units sum trailingZeros toBits spaced target perimeterOf around reaches onEdge spotFrom lastSpot spotAt closing edges alongOf div rem le eq ofInt tourOf tourCheck roomCheck checkOf firstRefusal lengthFault checkFault startFault headFault countFault contourFault spareFault farVertex farFault repeatFault nameFault tagFault cycleFault checkAt checked starts allZero zerosAt someOf linked leads
+unfolding endOn sheetOn gathered owners firsts verticesOf outlineOf offersOf candidatesOf candidatesFrom asType asPreference pointAt nearest walked step visit chosen considered isOpen readyIn readyBy offered offer closer reachOf searched repeated pass turn alternative swap judged shorter tried atLimit row reversal flip turned rev slice contours keepsPairs keptIn lastRank every paired each lengthOf walk legs homesOf homeLeg distancesOf rowOf legAt legOf listed chained distanceOf distanceSqOf squares sqrtOf rootFinite halves wholeRoot digits seatsOf seekOf lowest lowestFrom u16At u32At u64At f64At bytes blockOf numberBytes pointBytes headBytes pointsBytes contourBytes contourBlocks pairBytes pairBlocks written weigh add sub mul neg lt ofBits ofFields odd size span climb round units sum trailingZeros toBits spaced target perimeterOf around reaches onEdge spotFrom lastSpot spotAt closing edges alongOf div rem le eq ofInt tourOf tourCheck roomCheck checkOf firstRefusal lengthFault checkFault startFault headFault countFault contourFault spareFault farVertex farFault repeatFault nameFault tagFault cycleFault checkAt checked starts allZero zerosAt someOf linked leads
 job41-answered = refl
 
 limited-answered : Answered limited 3 6
-unfolding endOn sheetOn gathered owners firsts verticesOf outlineOf offersOf candidatesOf candidatesFrom asType asPreference pointAt nearest walked step visit chosen considered isOpen readyIn readyBy offered offer closer reachOf searched repeated pass turn alternative swap judged shorter tried atLimit row reversal flip turned rev slice contours keepsPairs keptIn latest every paired each lengthOf walk legs homesOf homeLeg distancesOf rowOf legAt legOf listed chained distanceOf distanceSqOf squares sqrtOf rootFinite halves wholeRoot digits seatsOf seekOf lowest lowestFrom u16At u32At u64At f64At bytes blockOf numberBytes pointBytes headBytes pointsBytes contourBytes contourBlocks pairBytes pairBlocks written weigh add sub mul neg lt ofBits ofFields odd size span climb round units sum trailingZeros toBits spaced target perimeterOf around reaches onEdge spotFrom lastSpot spotAt closing edges alongOf div rem le eq ofInt tourOf tourCheck roomCheck checkOf firstRefusal lengthFault checkFault startFault headFault countFault contourFault spareFault farVertex farFault repeatFault nameFault tagFault cycleFault checkAt checked starts allZero zerosAt someOf linked leads
+unfolding endOn sheetOn gathered owners firsts verticesOf outlineOf offersOf candidatesOf candidatesFrom asType asPreference pointAt nearest walked step visit chosen considered isOpen readyIn readyBy offered offer closer reachOf searched repeated pass turn alternative swap judged shorter tried atLimit row reversal flip turned rev slice contours keepsPairs keptIn lastRank every paired each lengthOf walk legs homesOf homeLeg distancesOf rowOf legAt legOf listed chained distanceOf distanceSqOf squares sqrtOf rootFinite halves wholeRoot digits seatsOf seekOf lowest lowestFrom u16At u32At u64At f64At bytes blockOf numberBytes pointBytes headBytes pointsBytes contourBytes contourBlocks pairBytes pairBlocks written weigh add sub mul neg lt ofBits ofFields odd size span climb round units sum trailingZeros toBits spaced target perimeterOf around reaches onEdge spotFrom lastSpot spotAt closing edges alongOf div rem le eq ofInt tourOf tourCheck roomCheck checkOf firstRefusal lengthFault checkFault startFault headFault countFault contourFault spareFault farVertex farFault repeatFault nameFault tagFault cycleFault checkAt checked starts allZero zerosAt someOf linked leads
 limited-answered = refl
 
 -- ---- on the grid
@@ -71,21 +71,21 @@ each-on (c ∷ cs) h zero l = and-l (gridPoint (pierced c)) (gridPoints (map pie
 each-on (c ∷ cs) h (suc a) l = each-on cs (and-r (gridPoint (pierced c)) (gridPoints (map pierced cs)) h) a (omega arith)
 
 job41-on-grid : OnGrid (written job41)
-unfolding endOn sheetOn gathered owners firsts verticesOf outlineOf offersOf candidatesOf candidatesFrom asType asPreference pointAt nearest walked step visit chosen considered isOpen readyIn readyBy offered offer closer reachOf searched repeated pass turn alternative swap judged shorter tried atLimit row reversal flip turned rev slice contours keepsPairs keptIn latest every paired each lengthOf walk legs homesOf homeLeg distancesOf rowOf legAt legOf listed chained distanceOf distanceSqOf squares sqrtOf rootFinite halves wholeRoot digits seatsOf seekOf lowest lowestFrom u16At u32At u64At f64At bytes blockOf numberBytes pointBytes headBytes pointsBytes contourBytes contourBlocks pairBytes pairBlocks written weigh add sub mul neg lt ofBits ofFields odd size span climb round units sum trailingZeros toBits spaced target perimeterOf around reaches onEdge spotFrom lastSpot spotAt closing edges alongOf div rem le eq ofInt gridPoints
+unfolding endOn sheetOn gathered owners firsts verticesOf outlineOf offersOf candidatesOf candidatesFrom asType asPreference pointAt nearest walked step visit chosen considered isOpen readyIn readyBy offered offer closer reachOf searched repeated pass turn alternative swap judged shorter tried atLimit row reversal flip turned rev slice contours keepsPairs keptIn lastRank every paired each lengthOf walk legs homesOf homeLeg distancesOf rowOf legAt legOf listed chained distanceOf distanceSqOf squares sqrtOf rootFinite halves wholeRoot digits seatsOf seekOf lowest lowestFrom u16At u32At u64At f64At bytes blockOf numberBytes pointBytes headBytes pointsBytes contourBytes contourBlocks pairBytes pairBlocks written weigh add sub mul neg lt ofBits ofFields odd size span climb round units sum trailingZeros toBits spaced target perimeterOf around reaches onEdge spotFrom lastSpot spotAt closing edges alongOf div rem le eq ofInt gridPoints
 job41-on-grid = record { home = tt; candidate = each-on (candidatesOn (written job41)) tt }
 
 limited-on-grid : OnGrid (written limited)
-unfolding endOn sheetOn gathered owners firsts verticesOf outlineOf offersOf candidatesOf candidatesFrom asType asPreference pointAt nearest walked step visit chosen considered isOpen readyIn readyBy offered offer closer reachOf searched repeated pass turn alternative swap judged shorter tried atLimit row reversal flip turned rev slice contours keepsPairs keptIn latest every paired each lengthOf walk legs homesOf homeLeg distancesOf rowOf legAt legOf listed chained distanceOf distanceSqOf squares sqrtOf rootFinite halves wholeRoot digits seatsOf seekOf lowest lowestFrom u16At u32At u64At f64At bytes blockOf numberBytes pointBytes headBytes pointsBytes contourBytes contourBlocks pairBytes pairBlocks written weigh add sub mul neg lt ofBits ofFields odd size span climb round units sum trailingZeros toBits spaced target perimeterOf around reaches onEdge spotFrom lastSpot spotAt closing edges alongOf div rem le eq ofInt gridPoints
+unfolding endOn sheetOn gathered owners firsts verticesOf outlineOf offersOf candidatesOf candidatesFrom asType asPreference pointAt nearest walked step visit chosen considered isOpen readyIn readyBy offered offer closer reachOf searched repeated pass turn alternative swap judged shorter tried atLimit row reversal flip turned rev slice contours keepsPairs keptIn lastRank every paired each lengthOf walk legs homesOf homeLeg distancesOf rowOf legAt legOf listed chained distanceOf distanceSqOf squares sqrtOf rootFinite halves wholeRoot digits seatsOf seekOf lowest lowestFrom u16At u32At u64At f64At bytes blockOf numberBytes pointBytes headBytes pointsBytes contourBytes contourBlocks pairBytes pairBlocks written weigh add sub mul neg lt ofBits ofFields odd size span climb round units sum trailingZeros toBits spaced target perimeterOf around reaches onEdge spotFrom lastSpot spotAt closing edges alongOf div rem le eq ofInt gridPoints
 limited-on-grid = record { home = tt; candidate = each-on (candidatesOn (written limited)) tt }
 
 -- ---- cut
 
 limited-moves : searchOn (written limited) 0 .moves ≡ 4
-unfolding endOn sheetOn gathered owners firsts verticesOf outlineOf offersOf candidatesOf candidatesFrom asType asPreference pointAt nearest walked step visit chosen considered isOpen readyIn readyBy offered offer closer reachOf searched repeated pass turn alternative swap judged shorter tried atLimit row reversal flip turned rev slice contours keepsPairs keptIn latest every paired each lengthOf walk legs homesOf homeLeg distancesOf rowOf legAt legOf listed chained distanceOf distanceSqOf squares sqrtOf rootFinite halves wholeRoot digits seatsOf seekOf lowest lowestFrom u16At u32At u64At f64At bytes blockOf numberBytes pointBytes headBytes pointsBytes contourBytes contourBlocks pairBytes pairBlocks written weigh add sub mul neg lt ofBits ofFields odd size span climb round units sum trailingZeros toBits spaced target perimeterOf around reaches onEdge spotFrom lastSpot spotAt closing edges alongOf div rem le eq ofInt
+unfolding endOn sheetOn gathered owners firsts verticesOf outlineOf offersOf candidatesOf candidatesFrom asType asPreference pointAt nearest walked step visit chosen considered isOpen readyIn readyBy offered offer closer reachOf searched repeated pass turn alternative swap judged shorter tried atLimit row reversal flip turned rev slice contours keepsPairs keptIn lastRank every paired each lengthOf walk legs homesOf homeLeg distancesOf rowOf legAt legOf listed chained distanceOf distanceSqOf squares sqrtOf rootFinite halves wholeRoot digits seatsOf seekOf lowest lowestFrom u16At u32At u64At f64At bytes blockOf numberBytes pointBytes headBytes pointsBytes contourBytes contourBlocks pairBytes pairBlocks written weigh add sub mul neg lt ofBits ofFields odd size span climb round units sum trailingZeros toBits spaced target perimeterOf around reaches onEdge spotFrom lastSpot spotAt closing edges alongOf div rem le eq ofInt
 limited-moves = refl
 
 limited-cut : outcomeOn (written limited) .moves ≡ 2
-unfolding endOn sheetOn gathered owners firsts verticesOf outlineOf offersOf candidatesOf candidatesFrom asType asPreference pointAt nearest walked step visit chosen considered isOpen readyIn readyBy offered offer closer reachOf searched repeated pass turn alternative swap judged shorter tried atLimit row reversal flip turned rev slice contours keepsPairs keptIn latest every paired each lengthOf walk legs homesOf homeLeg distancesOf rowOf legAt legOf listed chained distanceOf distanceSqOf squares sqrtOf rootFinite halves wholeRoot digits seatsOf seekOf lowest lowestFrom u16At u32At u64At f64At bytes blockOf numberBytes pointBytes headBytes pointsBytes contourBytes contourBlocks pairBytes pairBlocks written weigh add sub mul neg lt ofBits ofFields odd size span climb round units sum trailingZeros toBits spaced target perimeterOf around reaches onEdge spotFrom lastSpot spotAt closing edges alongOf div rem le eq ofInt
+unfolding endOn sheetOn gathered owners firsts verticesOf outlineOf offersOf candidatesOf candidatesFrom asType asPreference pointAt nearest walked step visit chosen considered isOpen readyIn readyBy offered offer closer reachOf searched repeated pass turn alternative swap judged shorter tried atLimit row reversal flip turned rev slice contours keepsPairs keptIn lastRank every paired each lengthOf walk legs homesOf homeLeg distancesOf rowOf legAt legOf listed chained distanceOf distanceSqOf squares sqrtOf rootFinite halves wholeRoot digits seatsOf seekOf lowest lowestFrom u16At u32At u64At f64At bytes blockOf numberBytes pointBytes headBytes pointsBytes contourBytes contourBlocks pairBytes pairBlocks written weigh add sub mul neg lt ofBits ofFields odd size span climb round units sum trailingZeros toBits spaced target perimeterOf around reaches onEdge spotFrom lastSpot spotAt closing edges alongOf div rem le eq ofInt
 limited-cut = refl
 
 -- ---- 12
@@ -96,7 +96,7 @@ twelve-past s place (twelve past row) = past
 -- ---- printed
 
 job41-printed : listOf (written job41) ≡ text.bytes "JOB 41 CONTOURS 3\n2 20 0 cw\n9 90 0 ccw\n7 70 0 ccw\nMOVES 1\nRAPID 4038000000000000\n"
-unfolding endOn sheetOn gathered owners firsts verticesOf outlineOf offersOf candidatesOf candidatesFrom asType asPreference pointAt nearest walked step visit chosen considered isOpen readyIn readyBy offered offer closer reachOf searched repeated pass turn alternative swap judged shorter tried atLimit row reversal flip turned rev slice contours keepsPairs keptIn latest every paired each lengthOf walk legs homesOf homeLeg distancesOf rowOf legAt legOf listed chained distanceOf distanceSqOf squares sqrtOf rootFinite halves wholeRoot digits seatsOf seekOf lowest lowestFrom u16At u32At u64At f64At bytes blockOf numberBytes pointBytes headBytes pointsBytes contourBytes contourBlocks pairBytes pairBlocks written weigh add sub mul neg lt ofBits ofFields odd size span climb round units sum trailingZeros toBits spaced target perimeterOf around reaches onEdge spotFrom lastSpot spotAt closing edges alongOf div rem le eq ofInt tourOf tourCheck roomCheck checkOf firstRefusal lengthFault checkFault startFault headFault countFault contourFault spareFault farVertex farFault repeatFault nameFault tagFault cycleFault checkAt checked starts allZero zerosAt someOf linked leads listOf tourLines refusalLine headLine stopLines stopLine placeLine nameWords wayWord outcomeLines decimalOf decimalIn hexOf
+unfolding endOn sheetOn gathered owners firsts verticesOf outlineOf offersOf candidatesOf candidatesFrom asType asPreference pointAt nearest walked step visit chosen considered isOpen readyIn readyBy offered offer closer reachOf searched repeated pass turn alternative swap judged shorter tried atLimit row reversal flip turned rev slice contours keepsPairs keptIn lastRank every paired each lengthOf walk legs homesOf homeLeg distancesOf rowOf legAt legOf listed chained distanceOf distanceSqOf squares sqrtOf rootFinite halves wholeRoot digits seatsOf seekOf lowest lowestFrom u16At u32At u64At f64At bytes blockOf numberBytes pointBytes headBytes pointsBytes contourBytes contourBlocks pairBytes pairBlocks written weigh add sub mul neg lt ofBits ofFields odd size span climb round units sum trailingZeros toBits spaced target perimeterOf around reaches onEdge spotFrom lastSpot spotAt closing edges alongOf div rem le eq ofInt tourOf tourCheck roomCheck checkOf firstRefusal lengthFault checkFault startFault headFault countFault contourFault spareFault farVertex farFault repeatFault nameFault tagFault cycleFault checkAt checked starts allZero zerosAt someOf linked leads listOf tourLines refusalLine headLine stopLines stopLine placeLine nameWords wayWord outcomeLines decimalOf decimalIn hexOf
 job41-printed = refl
 
 waiting-printed : listOf (written waiting) ≡ text.bytes "REFUSED 12 AT 1\n"
