@@ -12,11 +12,12 @@ preferred Exterior exterior interior = exterior
 preferred Interior exterior interior = interior
 
 -- as asked for; Auto cuts outlines counter-clockwise and holes clockwise
-abbrev pub settled : ContourType → CutDirectionPreference → CutDirection
-settled kind asked.Ccw = cut.Ccw
-settled kind asked.Cw = cut.Cw
-settled Exterior asked.Auto = cut.Ccw
-settled Interior asked.Auto = cut.Cw
+abbrev pub asAsked : ContourType → CutDirectionPreference → CutDirection
+asAsked kind asked.Ccw = cut.Ccw
+asAsked kind asked.Cw = cut.Cw
+asAsked Exterior asked.Auto = cut.Ccw
+asAsked Interior asked.Auto = cut.Cw
 
+-- which way round a contour is cut: by the preference for its kind
 abbrev pub directionOf : ContourType → CutDirectionPreference → CutDirectionPreference → CutDirection
-directionOf kind exterior interior = settled kind (preferred kind exterior interior)
+directionOf kind exterior interior = asAsked kind (preferred kind exterior interior)

@@ -4,7 +4,7 @@ use mathlib.Core.Path.{_≡_, refl, sym, ap, _∙_}
 use mathlib.Core.Logic.{_⊎_, inl, inr, ⊎-elim, _↔_}
 use mathlib.Core.List.{List, [], _∷_}
 use Prim.Native.Nat.{ℕ, zero, suc, _+_, _≤_, _<_}
-use native.Mathlib.Nat.{not-suc-le-zero, le-of-suc-le-suc, zero-lt-suc, add-zero, add-suc, suc-add}
+use native.Mathlib.Nat.{not-suc-le-zero, le-of-suc-le-suc, zero-lt-suc}
 use Prim.Native.Nat.{suc-le-suc}
 use native.Mathlib.Omega.{arith}
 use lib.Dec.{eqb, ltb}
@@ -17,7 +17,7 @@ use Rattle.closure.proofs.PairLaws.{same-or, lt-or, is-pair}
 use Rattle.closure.proofs.FlagLaws.{linked-is}
 use Rattle.closure.proofs.PathLaws.{or-cases, or-left, or-right, and-first, and-second, both-true, yes-or-no, linked-within}
 use Rattle.hierarchy.specs.declared.Verdict.{Verdict}
-use Rattle.keep.specs.Keep.{latest, lastPlace, keptAt, keptIn, keepsPairs, readyBy, readyIn}
+use Rattle.keep.specs.Keep.{lastRank, keptAt, keptIn, keepsPairs, readyBy, readyIn}
 use Rattle.hierarchy.specs.Sort.{both}
 use Rattle.hierarchy.specs.Questions.{pairsCheck, validSequence}
 use Rattle.hierarchy.specs.Legal.{EachOnce, Legal}
@@ -59,8 +59,8 @@ pub each-different : (n : ℕ) (order : List ℕ) → EachOnce n order → Diffe
 each-different n order each = record { within = each .within; once = each .once }
 
 -- every position has its place
-pub place-of : (n : ℕ) (order : List ℕ) → EachOnce n order → (k : ℕ) → k < n → (p : ℕ) × (p < n) × (getD order p 0 ≡ k)
-place-of n order each k h = met-at order n k (different-all n order (each-different n order each) k h)
+pub position-of : (n : ℕ) (order : List ℕ) → EachOnce n order → (k : ℕ) → k < n → (p : ℕ) × (p < n) × (getD order p 0 ≡ k)
+position-of n order each k h = met-at order n k (different-all n order (each-different n order each) k h)
 
 -- ---- a legal order leaves no cycle
 
@@ -68,14 +68,14 @@ path-forward : (n : ℕ) (pairs order : List ℕ) → Legal n pairs order → {i
     (p q : ℕ) → p < n → q < n → getD order p 0 ≡ i → getD order q 0 ≡ j → p < q
 path-forward n pairs order legal (step {i} {j} e) p q hp hq x y = legal .before p q hp hq (rw (x, y) e)
 path-forward n pairs order legal (onward {i} {m} {j} e r) p q hp hq x y =
-    let f = place-of n order (legal .each) m (linked-within n pairs i m e .1) in
+    let f = position-of n order (legal .each) m (linked-within n pairs i m e .1) in
     let a : p < f .0 = legal .before p (f .0) hp (f .1) (rw (x, f .2) e) in
     let b : f .0 < q = path-forward n pairs order legal r (f .0) q (f .1) hq (f .2) y in
     omega arith
 
 pub legal-acyclic : (n : ℕ) (pairs order : List ℕ) → Legal n pairs order → Acyclic n pairs
 legal-acyclic n pairs order legal i h r =
-    let f = place-of n order (legal .each) i h in
+    let f = position-of n order (legal .each) i h in
     let l : f .0 < f .0 = path-forward n pairs order legal r (f .0) (f .0) (f .1) (f .1) (f .2) (f .2) in
     omega arith
 
@@ -114,47 +114,42 @@ one-ready n visited pairs free low k h e = go (least n (linked n pairs) (linked-
             below : b < n
             below = ltb-true b n (and-first (ltb b n) (ltb a n) (every-at (both n) (paired pairs) b a low t))
 
--- ---- the last place of an id
+-- ---- the last rank of an id
 
-latest-none : (x k m : ℕ) (l : List ℕ) → ((q : ℕ) → q < length l → getD l q 0 ≡ x → ⊥) → latest x k m l ≡ m
-unfolding latest
-latest-none x k m [] h = refl
-latest-none x k m (y ∷ l) h = rw (ne-eqb y x (h 0 (zero-lt-suc (length l)))) (latest-none x (suc k) m l (λ q i. h (suc q) (suc-le-suc i)))
+-- what is not in the order has no last rank
+pub last-none : (order : List ℕ) (x : ℕ) → ((q : ℕ) → q < length order → getD order q 0 ≡ x → ⊥) → lastRank order x ≡ 0
+unfolding lastRank
+last-none [] x h = refl
+last-none (y ∷ l) x h = rw (last-none l x (λ q i. h (suc q) (suc-le-suc i)), ne-eqb y x (h 0 (zero-lt-suc (length l))))
 
-latest-at : (x k m p : ℕ) (l : List ℕ) → p < length l → getD l p 0 ≡ x → ((q : ℕ) → p < q → q < length l → getD l q 0 ≡ x → ⊥) → latest x k m l ≡ suc (k + p)
-unfolding latest
-latest-at x k m p [] h e later = absurd (not-suc-le-zero h)
-latest-at x k m zero (y ∷ l) h e later =
-    rw (eq-eqb y x e) (latest-none x (suc k) (suc k) l (λ q i. later (suc q) (zero-lt-suc q) (suc-le-suc i)) ∙ ap suc (sym (add-zero k)))
-latest-at x k m (suc p) (y ∷ l) h e later =
-    latest-at x (suc k) _ p l (le-of-suc-le-suc h) e (λ q i j. later (suc q) (suc-le-suc i) (suc-le-suc j)) ∙ ap suc (suc-add k p ∙ sym (add-suc k p))
+-- the last rank is one at which the id stands, and after which it does not
+pub last-at : (order : List ℕ) (x p : ℕ) → p < length order → getD order p 0 ≡ x →
+    ((q : ℕ) → p < q → q < length order → getD order q 0 ≡ x → ⊥) → lastRank order x ≡ suc p
+unfolding lastRank
+last-at [] x p h e later = absurd (not-suc-le-zero h)
+last-at (y ∷ l) x zero h e later =
+    rw (last-none l x (λ q i. later (suc q) (zero-lt-suc q) (suc-le-suc i)), eq-eqb y x e)
+last-at (y ∷ l) x (suc p) h e later =
+    rw (last-at l x p (le-of-suc-le-suc h) e (λ q i j. later (suc q) (suc-le-suc i) (suc-le-suc j)), lt-ltb 0 (suc p) (zero-lt-suc p))
 
--- what is not in the order has no last place
-pub last-none : (order : List ℕ) (x : ℕ) → ((q : ℕ) → q < length order → getD order q 0 ≡ x → ⊥) → lastPlace order x ≡ 0
-last-none order x h = latest-none x 0 0 order h
-
--- the last place is one where the id stands, and after which it does not
-pub last-at : (order : List ℕ) (x p : ℕ) → p < length order → getD order p 0 ≡ x → ((q : ℕ) → p < q → q < length order → getD order q 0 ≡ x → ⊥) → lastPlace order x ≡ suc p
-last-at order x p h e later = latest-at x 0 0 p order h e later ∙ ap suc (native.Mathlib.Nat.zero-add p)
-
--- ---- each position once: its last place is its place
+-- ---- each position once: its last rank is its rank
 
 module _ (n : ℕ) (order : List ℕ) (each : EachOnce n order) where
-  pub place-last : (p : ℕ) → p < n → lastPlace order (getD order p 0) ≡ suc p
-  place-last p h = last-at order (getD order p 0) p (omega (arith, each .size)) refl
+  pub rank-last : (p : ℕ) → p < n → lastRank order (getD order p 0) ≡ suc p
+  rank-last p h = last-at order (getD order p 0) p (omega (arith, each .size)) refl
       (λ q i j e. let s : p ≡ q = each .once p q h (omega (arith, each .size)) (sym e) in omega arith)
 
-  pub place-none : (x : ℕ) → n ≤ x → lastPlace order x ≡ 0
-  place-none x h = last-none order x (λ q i e. let l : getD order q 0 < n = each .within q (omega (arith, each .size)) in omega arith)
+  pub rank-none : (x : ℕ) → n ≤ x → lastRank order x ≡ 0
+  rank-none x h = last-none order x (λ q i e. let l : getD order q 0 < n = each .within q (omega (arith, each .size)) in omega arith)
 
   -- an order of each position once is legal exactly where it keeps the pairs
   pub keeps-legal : (pairs : List ℕ) → keepsPairs order pairs ≡ true → Legal n pairs order
   unfolding keepsPairs keptIn
   keeps-legal pairs e = record { each = each; before = λ p q hp hq t. first p q hp hq (every-at (keptIn order) (paired pairs) (getD order p 0) (getD order q 0) e (pair-linked n pairs (getD order p 0) (getD order q 0) t)) }
     where
-      first : (p q : ℕ) → p < n → q < n → keptAt (lastPlace order (getD order p 0)) (lastPlace order (getD order q 0)) ≡ true → p < q
+      first : (p q : ℕ) → p < n → q < n → keptAt (lastRank order (getD order p 0)) (lastRank order (getD order q 0)) ≡ true → p < q
       first p q hp hq t =
-          let k : keptAt (suc p) (suc q) ≡ true = rw (place-last p hp, place-last q hq) at t in
+          let k : keptAt (suc p) (suc q) ≡ true = rw (rank-last p hp, rank-last q hq) at t in
           let l : ltb (suc p) (suc q) ≡ true = rw (ne-eqb (suc p) 0 (omega arith), ne-eqb (suc q) 0 (omega arith)) at k in
           omega (arith, ltb-true (suc p) (suc q) l)
 
@@ -162,18 +157,18 @@ module _ (n : ℕ) (order : List ℕ) (each : EachOnce n order) where
   unfolding keepsPairs keptIn
   legal-keeps pairs legal = every-is (keptIn order) (paired pairs) test
     where
-      test : (b a : ℕ) → someOf (isPair b a) (paired pairs) ≡ true → keptAt (lastPlace order b) (lastPlace order a) ≡ true
+      test : (b a : ℕ) → someOf (isPair b a) (paired pairs) ≡ true → keptAt (lastRank order b) (lastRank order a) ≡ true
       test b a t = ⊎-elim
-          (λ (hb : b < n). ⊎-elim (λ (ha : a < n). inside hb ha) (λ (ha : n ≤ a). rw (place-none a ha) (or-true (eqb (lastPlace order b) 0))) (lt-or a n))
-          (λ (hb : n ≤ b). rw (place-none b hb)) (lt-or b n)
+          (λ (hb : b < n). ⊎-elim (λ (ha : a < n). inside hb ha) (λ (ha : n ≤ a). rw (rank-none a ha) (or-true (eqb (lastRank order b) 0))) (lt-or a n))
+          (λ (hb : n ≤ b). rw (rank-none b hb)) (lt-or b n)
         where
-          inside : b < n → a < n → keptAt (lastPlace order b) (lastPlace order a) ≡ true
+          inside : b < n → a < n → keptAt (lastRank order b) (lastRank order a) ≡ true
           inside hb ha =
-              let f = place-of n order each b hb in
-              let g = place-of n order each a ha in
+              let f = position-of n order each b hb in
+              let g = position-of n order each a ha in
               let l : f .0 < g .0 = legal .before (f .0) (g .0) (f .1) (g .1) (rw (f .2, g .2) (linked-pair n pairs b a hb ha t)) in
-              let x : lastPlace order b ≡ suc (f .0) = ap (lastPlace order) (sym (f .2)) ∙ place-last (f .0) (f .1) in
-              let y : lastPlace order a ≡ suc (g .0) = ap (lastPlace order) (sym (g .2)) ∙ place-last (g .0) (g .1) in
+              let x : lastRank order b ≡ suc (f .0) = ap (lastRank order) (sym (f .2)) ∙ rank-last (f .0) (f .1) in
+              let y : lastRank order a ≡ suc (g .0) = ap (lastRank order) (sym (g .2)) ∙ rank-last (g .0) (g .1) in
               rw (x, y) (or-right (eqb (suc (f .0)) 0) (eqb (suc (g .0)) 0 || ltb (suc (f .0)) (suc (g .0))) (or-right (eqb (suc (g .0)) 0) (ltb (suc (f .0)) (suc (g .0))) (lt-ltb (suc (f .0)) (suc (g .0)) (omega arith))))
 
   pub keeps-exactly : (pairs : List ℕ) → (keepsPairs order pairs ≡ true) ↔ Legal n pairs order

@@ -1,4 +1,4 @@
--- The arrays of the topological order, step by step. Assumes nothing.
+-- The arrays of Kahn's order, step by step. Assumes nothing.
 use mathlib.Core.Bool.{Bool, true, false, cond, _&&_, and-false}
 use mathlib.Core.Path.{_≡_, refl, sym, ap, _∙_, subst}
 use mathlib.Core.Logic.{⊎-elim}
@@ -9,12 +9,13 @@ use native.Mathlib.Omega.{arith}
 use lib.Dec.{eqb, ltb}
 use borrow.Author.Tests.{eq-eqb, ne-eqb, lt-ltb, le-ltb}
 use lib.ListN.{length, getD, set, take, drop, replicate, length-set, length-append, length-replicate, length-drop, take-append-drop}
-use lib.Seq.{getD-set-same, getD-set-other, take-suc, take-suc-set, take-at, getD-take}
+use lib.Seq.{getD-set-same, getD-set-other, take-suc, take-suc-set, take-at, take-all, drop-cons, getD-take, take-append-le, drop-append-le}
 use Rattle.closure.specs.Limits.{CONTOURS}
 use Rattle.closure.specs.Pairs.{Pair, paired}
 use Rattle.closure.proofs.PairLaws.{same-or, lt-or, pairAt, paired-more, paired-end}
 use Rattle.hierarchy.specs.Fill.{padded, Filled}
-use Rattle.hierarchy.specs.Sort.{Sorting, both, heldBack, tallied, freeBelow, loosened, released, settled, unsettled, sortedBy, heldCount, standing, Sound, Stands}
+use Rattle.hierarchy.specs.Sort.{Kahn, both, heldBack, tallied, freeBelow, untaken, loosened, released, frontTaken, queueTaken, sortedBy}
+use Rattle.hierarchy.specs.Code.{heldCount, standing, firstTaken, Roomy, Stands}
 use Rattle.answer.specs.declared.Check.{Check}
 use Rattle.hierarchy.specs.declared.Order.{Order}
 use Rattle.hierarchy.specs.Questions.{orderOf}
@@ -126,49 +127,49 @@ held-yes : (w : ℕ) → (w ≡ 0 → ⊥) → held w ≡ 1
 held-yes w d = rw (ne-eqb w 0 d)
 
 -- the array is as long as the limit
-sound-length : (w o : List ℕ) (k : ℕ) → Sound w o k → length o ≡ CONTOURS
-sound-length w o k s =
+roomy-length : (w o : List ℕ) (k : ℕ) → Roomy w o k → length o ≡ CONTOURS
+roomy-length w o k s =
     let e : length o ≡ length (padded CONTOURS (take k o)) = ap length (s .filled .holds) in
     let f : length (padded CONTOURS (take k o)) ≡ length (take k o) + (CONTOURS - length (take k o)) = length-append (take k o) (replicate (CONTOURS - length (take k o)) 0) ∙ ap (λ (z : ℕ). length (take k o) + z) (length-replicate {A = ℕ} (CONTOURS - length (take k o)) 0) in
     omega (arith, s .filled .counts, s .room)
 
-module _ (w o : List ℕ) (k a : ℕ) (sound : Sound w o k) (ha : a < CONTOURS) where
+module _ (w o : List ℕ) (k a : ℕ) (roomy : Roomy w o k) (ha : a < CONTOURS) where
   in-waits : a < length w
-  in-waits = omega (arith, sound .size)
+  in-waits = omega (arith, roomy .size)
 
   -- there is a place left for a position that one pair holds back
   pub room-left : getD w a 0 ≡ 1 → k < CONTOURS
   room-left e =
       let h : heldCount (set w a 0) + held (getD w a 0) ≡ heldCount w + held 0 = held-set w a 0 in-waits in
-      omega (arith, held-yes (getD w a 0) (omega arith), held-no 0 refl, sound .room)
+      omega (arith, held-yes (getD w a 0) (omega arith), held-no 0 refl, roomy .room)
 
   pub loosen-last : getD w a 0 ≡ 1 → Stands (loosened (standing w o k) a) (set w a 0) (set o k a) (k + 1)
   unfolding loosened
   loosen-last e = record {
-    sound = record {
-      size = length-set w a 0 ∙ sound .size;
-      filled = rw longer (filled-more CONTOURS o k (take k o) a (room-left e) (sound .filled));
+    roomy = record {
+      size = length-set w a 0 ∙ roomy .size;
+      filled = rw longer (filled-more CONTOURS o k (take k o) a (room-left e) (roomy .filled));
       room =
           let h : heldCount (set w a 0) + held (getD w a 0) ≡ heldCount w + held 0 = held-set w a 0 in-waits in
-          omega (arith, held-yes (getD w a 0) (omega arith), held-no 0 refl, sound .room);
+          omega (arith, held-yes (getD w a 0) (omega arith), held-no 0 refl, roomy .room);
     };
     is = rw (longer, e);
   }
     where
       longer : take (k + 1) (set o k a) ≡ take k o ++ (a ∷ [])
-      longer = rw (add-one k) (take-suc-set o k a (omega (arith, sound-length w o k sound, room-left e)))
+      longer = rw (add-one k) (take-suc-set o k a (omega (arith, roomy-length w o k roomy, room-left e)))
 
   pub loosen-one : (v : ℕ) → v ≡ getD w a 0 - 1 → (getD w a 0 ≡ 1 → ⊥) → Stands (loosened (standing w o k) a) (set w a v) o k
   unfolding loosened
   loosen-one v p d = record {
-    sound = record {
-      size = length-set w a v ∙ sound .size;
-      filled = sound .filled;
+    roomy = record {
+      size = length-set w a v ∙ roomy .size;
+      filled = roomy .filled;
       room =
           let h : heldCount (set w a v) + held (getD w a 0) ≡ heldCount w + held v = held-set w a v in-waits in
           ⊎-elim
-          (λ (z : getD w a 0 ≡ 0). omega (arith, held-no (getD w a 0) z, held-no v (omega arith), sound .room))
-          (λ (z : getD w a 0 ≡ 0 → ⊥). omega (arith, held-yes (getD w a 0) z, held-yes v (omega arith), sound .room)) (same-or (getD w a 0) 0);
+          (λ (z : getD w a 0 ≡ 0). omega (arith, held-no (getD w a 0) z, held-no v (omega arith), roomy .room))
+          (λ (z : getD w a 0 ≡ 0 → ⊥). omega (arith, held-yes (getD w a 0) z, held-yes v (omega arith), roomy .room)) (same-or (getD w a 0) 0);
     };
     is = rw (p, ne-eqb (getD w a 0) 1 d, append-nil (take k o));
   }
@@ -187,15 +188,15 @@ module _ (b a x n : ℕ) where
 
 -- ---- all pairs of one position
 
-pub record ReleasePart (n x : ℕ) (pairs : List ℕ) (at : ℕ) (s : Sorting) (w o : List ℕ) (k : ℕ) : Type 0 where
+pub record ReleasePart (n x : ℕ) (pairs : List ℕ) (at : ℕ) (s : Kahn) (w o : List ℕ) (k : ℕ) : Type 0 where
   pub within : at ≤ length pairs
-  pub sound : Sound w o k
+  pub roomy : Roomy w o k
   pub left : released n x (paired (drop at pairs)) (standing w o k) ≡ released n x (paired pairs) s
 
-pub release-none : (n x : ℕ) (pairs w o : List ℕ) (k : ℕ) → Sound w o k → ReleasePart n x pairs 0 (standing w o k) w o k
-release-none n x pairs w o k sound = record { within = omega arith; sound = sound; left = refl }
+pub release-none : (n x : ℕ) (pairs w o : List ℕ) (k : ℕ) → Roomy w o k → ReleasePart n x pairs 0 (standing w o k) w o k
+release-none n x pairs w o k roomy = record { within = omega arith; roomy = roomy; left = refl }
 
-module _ (n x : ℕ) (pairs : List ℕ) (at : ℕ) (s : Sorting) (w o : List ℕ) (k : ℕ) (r : Bool) (more : at + 1 < length pairs) (part : ReleasePart n x pairs at s w o k)
+module _ (n x : ℕ) (pairs : List ℕ) (at : ℕ) (s : Kahn) (w o : List ℕ) (k : ℕ) (r : Bool) (more : at + 1 < length pairs) (part : ReleasePart n x pairs at s w o k)
     (is : r ≡ (eqb (getD pairs at 0) x && both n (pairAt pairs at))) where
   release-walk : released n x (paired (drop (at + 2) pairs)) (cond r (loosened (standing w o k) (getD pairs (at + 1) 0)) (standing w o k)) ≡ released n x (paired pairs) s
   unfolding released
@@ -204,12 +205,12 @@ module _ (n x : ℕ) (pairs : List ℕ) (at : ℕ) (s : Sorting) (w o : List ℕ
   pub release-hit : (a : ℕ) (w' o' : List ℕ) (k' : ℕ) → a ≡ getD pairs (at + 1) 0 → r ≡ true → Stands (loosened (standing w o k) a) w' o' k' → ReleasePart n x pairs (at + 2) s w' o' k'
   release-hit a w' o' k' p t stands = record {
     within = omega arith;
-    sound = stands .sound;
+    roomy = stands .roomy;
     left = rw (stands .is, p) (rw t at release-walk);
   }
 
   pub release-miss : r ≡ false → ReleasePart n x pairs (at + 2) s w o k
-  release-miss t = record { within = omega arith; sound = part .sound; left = rw t at release-walk }
+  release-miss t = record { within = omega arith; roomy = part .roomy; left = rw t at release-walk }
 
   -- a pair that counts has its second below the limit
   pub release-low : (a : ℕ) → a ≡ getD pairs (at + 1) 0 → n ≤ CONTOURS → r ≡ true → a < CONTOURS
@@ -220,46 +221,77 @@ module _ (n x : ℕ) (pairs : List ℕ) (at : ℕ) (s : Sorting) (w o : List ℕ
       none : n ≤ a → (eqb (getD pairs at 0) x && both n (pairAt pairs at)) ≡ false
       none h = rw (both-no n (pairAt pairs at) (λ _ l. omega (arith, rw (← p) at l))) (and-false (eqb (getD pairs at 0) x))
 
-pub release-all : (n x : ℕ) (pairs : List ℕ) (at : ℕ) (s : Sorting) (w o : List ℕ) (k : ℕ) → length pairs ≤ at + 1 → ReleasePart n x pairs at s w o k → Stands (released n x (paired pairs) s) w o k
+pub release-all : (n x : ℕ) (pairs : List ℕ) (at : ℕ) (s : Kahn) (w o : List ℕ) (k : ℕ) → length pairs ≤ at + 1 → ReleasePart n x pairs at s w o k → Stands (released n x (paired pairs) s) w o k
 unfolding released
-release-all n x pairs at s w o k all part = record { sound = part .sound; is = rw (paired-end pairs at all) at (part .left) }
+release-all n x pairs at s w o k all part = record { roomy = part .roomy; is = rw (paired-end pairs at all) at (part .left) }
 
--- ---- one position of the order after the other
+-- ---- one position of the queue after the other
 
-pub record SettlePart (n : ℕ) (pairs : List ℕ) (i : ℕ) (s : Sorting) (w o : List ℕ) (k : ℕ) : Type 0 where
-  pub sound : Sound w o k
-  pub left : settled (CONTOURS - i) n (paired pairs) i (standing w o k) ≡ settled CONTOURS n (paired pairs) 0 s
+-- what comes free joins the queue at its end: it does not matter how many of its first are taken
+module _ (i : ℕ) (s : Kahn) (h : i ≤ length (s .queue)) where
+  loosened-behind : (a : ℕ) → loosened (firstTaken i s) a ≡ firstTaken i (loosened s a)
+  unfolding loosened
+  loosened-behind a = let l = cond (eqb (getD (s .waits) a 0) 1) (a ∷ []) [] in rw (take-append-le i (s .queue) l h, drop-append-le i (s .queue) l h)
 
-pub settle-none : (n : ℕ) (pairs w o : List ℕ) (k : ℕ) → Sound w o k → SettlePart n pairs 0 (standing w o k) w o k
-settle-none n pairs w o k sound = record { sound = sound; left = refl }
+  loosened-longer : (a : ℕ) → i ≤ length (loosened s a .queue)
+  unfolding loosened
+  loosened-longer a = omega (arith, length-append (s .queue) (cond (eqb (getD (s .waits) a 0) 1) (a ∷ []) []))
 
-pub settled-step : (most n : ℕ) (ps : List Pair) (i : ℕ) (s : Sorting) → i < length (s .order) → settled (suc most) n ps i s ≡ settled most n ps (suc i) (released n (getD (s .order) i 0) ps s)
-unfolding settled
-settled-step most n ps i s h = rw (lt-ltb i (length (s .order)) h)
-
-pub settled-end : (most n : ℕ) (ps : List Pair) (i : ℕ) (s : Sorting) → length (s .order) ≤ i → settled most n ps i s ≡ s
-unfolding settled
-settled-end zero n ps i s h = refl
-settled-end (suc most) n ps i s h = rw (le-ltb i (length (s .order)) h)
-
-pub settle-more : (n : ℕ) (pairs : List ℕ) (i : ℕ) (s : Sorting) (w o : List ℕ) (k x : ℕ) (w' o' : List ℕ) (k' : ℕ) → i < k → x ≡ getD o i 0 → SettlePart n pairs i s w o k →
-    Stands (released n x (paired pairs) (standing w o k)) w' o' k' → SettlePart n pairs (i + 1) s w' o' k'
-settle-more n pairs i s w o k x w' o' k' h e part stands = record {
-  sound = stands .sound;
-  left =
-      let c : k ≡ length (take k o) = part .sound .filled .counts in
-      let f : CONTOURS - i ≡ suc (CONTOURS - (i + 1)) = omega (arith, part .sound .room) in
-      rw (stands .is, e, add-one i) (sym (ap (λ (z : ℕ). released-on z) (getD-take k o i 0 h)) ∙ sym (settled-step (CONTOURS - suc i) n (paired pairs) i (standing w o k) (omega arith)) ∙ (rw (f, add-one i) at (part .left)));
-}
+released-behind : (n x i : ℕ) (ps : List Pair) (s : Kahn) → i ≤ length (s .queue) → released n x ps (firstTaken i s) ≡ firstTaken i (released n x ps s)
+unfolding released
+released-behind n x i [] s h = refl
+released-behind n x i (p ∷ more) s h = go (eqb (p .before) x && both n p) (released-behind n x i more)
   where
-    released-on : ℕ → Sorting
-    released-on z = settled (CONTOURS - suc i) n (paired pairs) (suc i) (released n z (paired pairs) (standing w o k))
+    go : (b : Bool) → ((t : Kahn) → i ≤ length (t .queue) → released n x more (firstTaken i t) ≡ firstTaken i (released n x more t)) →
+        released n x more (cond b (loosened (firstTaken i s) (p .after)) (firstTaken i s)) ≡ firstTaken i (released n x more (cond b (loosened s (p .after)) s))
+    go true rec = ap (released n x more) (loosened-behind i s h (p .after)) ∙ rec (loosened s (p .after)) (loosened-longer i s h (p .after))
+    go false rec = rec s h
 
-pub settle-all : (n : ℕ) (pairs : List ℕ) (i : ℕ) (s : Sorting) (w o : List ℕ) (k : ℕ) → k ≤ i → SettlePart n pairs i s w o k → Stands (settled CONTOURS n (paired pairs) 0 s) w o k
-settle-all n pairs i s w o k h part = record {
-  sound = part .sound;
-  is = sym (settled-end (CONTOURS - i) n (paired pairs) i (standing w o k) (omega (arith, part .sound .filled .counts))) ∙ part .left;
+-- the front is the position behind those that are taken
+pub front-taken : (n i : ℕ) (ps : List Pair) (s : Kahn) → i < length (s .queue) →
+    frontTaken n ps (firstTaken i s) ≡ firstTaken (suc i) (released n (getD (s .queue) i 0) ps s)
+unfolding frontTaken
+front-taken n i ps s h =
+    rw (drop-cons (s .queue) i 0 h, ← take-suc (s .queue) i 0 h) (released-behind n (getD (s .queue) i 0) (suc i) ps s h)
+
+pub queue-step : (most n i : ℕ) (ps : List Pair) (s : Kahn) → i < length (s .queue) →
+    queueTaken (suc most) n ps (firstTaken i s) ≡ queueTaken most n ps (firstTaken (suc i) (released n (getD (s .queue) i 0) ps s))
+unfolding queueTaken
+queue-step most n i ps s h =
+    rw (lt-ltb 0 (length (drop i (s .queue))) (omega (arith, length-drop i (s .queue))), front-taken n i ps s h)
+
+pub queue-end : (most n i : ℕ) (ps : List Pair) (s : Kahn) → length (s .queue) ≤ i → queueTaken most n ps (firstTaken i s) ≡ firstTaken i s
+unfolding queueTaken
+queue-end zero n i ps s h = refl
+queue-end (suc most) n i ps s h = rw (le-ltb 0 (length (drop i (s .queue))) (omega (arith, length-drop i (s .queue))))
+
+pub record QueuePart (n : ℕ) (pairs : List ℕ) (i : ℕ) (s : Kahn) (w o : List ℕ) (k : ℕ) : Type 0 where
+  pub roomy : Roomy w o k
+  pub left : queueTaken (CONTOURS - i) n (paired pairs) (firstTaken i (standing w o k)) ≡ queueTaken CONTOURS n (paired pairs) s
+
+pub queue-none : (n : ℕ) (pairs w o : List ℕ) (k : ℕ) → Roomy w o k → QueuePart n pairs 0 (standing w o k) w o k
+queue-none n pairs w o k roomy = record { roomy = roomy; left = refl }
+
+pub queue-more : (n : ℕ) (pairs : List ℕ) (i : ℕ) (s : Kahn) (w o : List ℕ) (k x : ℕ) (w' o' : List ℕ) (k' : ℕ) → i < k → x ≡ getD o i 0 →
+    QueuePart n pairs i s w o k → Stands (released n x (paired pairs) (standing w o k)) w' o' k' → QueuePart n pairs (i + 1) s w' o' k'
+queue-more n pairs i s w o k x w' o' k' h e part stands = record {
+  roomy = stands .roomy;
+  left =
+      let c : k ≡ length (take k o) = part .roomy .filled .counts in
+      let f : CONTOURS - i ≡ suc (CONTOURS - (i + 1)) = omega (arith, part .roomy .room) in
+      let x-is : x ≡ getD (take k o) i 0 = e ∙ sym (getD-take k o i 0 h) in
+      ap (λ (t : Kahn). queueTaken (CONTOURS - (i + 1)) n (paired pairs) (firstTaken (i + 1) t)) (stands .is)
+      ∙ rw (x-is, add-one i)
+      (sym (queue-step (CONTOURS - suc i) n i (paired pairs) (standing w o k) (omega arith)) ∙ (rw (f, add-one i) at (part .left)));
 }
+
+pub queue-all : (n : ℕ) (pairs : List ℕ) (i : ℕ) (s : Kahn) (w o : List ℕ) (k : ℕ) → k ≤ i → QueuePart n pairs i s w o k →
+    Filled CONTOURS o k ((queueTaken CONTOURS n (paired pairs) s) .taken)
+queue-all n pairs i s w o k h part =
+    let c : k ≡ length (take k o) = part .roomy .filled .counts in
+    let e : (queueTaken CONTOURS n (paired pairs) s) .taken ≡ take k o =
+    ap (λ (t : Kahn). t .taken) (sym (part .left) ∙ queue-end (CONTOURS - i) n i (paired pairs) (standing w o k) (omega arith)) ∙ take-all i (take k o) (omega arith) in
+    rw e (part .roomy .filled)
 
 -- ---- how it stands at first
 
@@ -302,10 +334,10 @@ tallied-length n (p ∷ more) w = tallied-length n more (cond (both n p) (heldBa
     go true = length-set w (p .after) (getD w (p .after) 0 + 1)
     go false = refl
 
-pub stands-first : (n : ℕ) (pairs w o : List ℕ) (k : ℕ) → n ≤ CONTOURS → w ≡ tallied n (paired pairs) (replicate CONTOURS 0) → Filled CONTOURS o k (freeBelow w n) → Stands (unsettled n (paired pairs)) w o k
-unfolding unsettled
+pub stands-first : (n : ℕ) (pairs w o : List ℕ) (k : ℕ) → n ≤ CONTOURS → w ≡ tallied n (paired pairs) (replicate CONTOURS 0) → Filled CONTOURS o k (freeBelow w n) → Stands (untaken n (paired pairs)) w o k
+unfolding untaken
 stands-first n pairs w o k low e f = record {
-  sound = record { size = size; filled = rw is (f); room = omega (arith, f .counts, free-room w n (omega (arith, size)), size) };
+  roomy = record { size = size; filled = rw is (f); room = omega (arith, f .counts, free-room w n (omega (arith, size)), size) };
   is = rw (is, e);
 }
   where
@@ -319,9 +351,10 @@ order-of : (items : List ℕ) (count : ℕ) (l : List ℕ) → Filled CONTOURS i
 order-of items count l f = rw (f .holds, f .counts)
 
 -- the whole order, as the code hands it back
-pub sorted-is : (n : ℕ) (pairs w o : List ℕ) (k : ℕ) (w' o' : List ℕ) (k' : ℕ) → Stands (unsettled n (paired pairs)) w o k → Stands (settled CONTOURS n (paired pairs) 0 (standing w o k)) w' o' k' →
+pub sorted-is : (n : ℕ) (pairs w o : List ℕ) (k : ℕ) (o' : List ℕ) (k' : ℕ) → Stands (untaken n (paired pairs)) w o k →
+    Filled CONTOURS o' k' ((queueTaken CONTOURS n (paired pairs) (standing w o k)) .taken) →
     _≡_ {A = Order} (record { check = Check.Fine; positions = o'; count = k' }) (orderOf Check.Fine (sortedBy n pairs))
 unfolding sortedBy
-sorted-is n pairs w o k w' o' k' first last =
-    let e : take k' o' ≡ (settled CONTOURS n (paired pairs) 0 (unsettled n (paired pairs))) .order = ap (λ (s : Sorting). s .order) (last .is ∙ ap (settled CONTOURS n (paired pairs) 0) (first .is)) in
-    order-of o' k' (settled CONTOURS n (paired pairs) 0 (unsettled n (paired pairs)) .order) (rw e at (last .sound .filled))
+sorted-is n pairs w o k o' k' first last =
+    order-of o' k' ((queueTaken CONTOURS n (paired pairs) (untaken n (paired pairs))) .taken)
+    (subst (λ (s : Kahn). Filled CONTOURS o' k' ((queueTaken CONTOURS n (paired pairs) s) .taken)) (first .is) last)

@@ -9,7 +9,7 @@ use native.Mathlib.Omega.{arith}
 use lib.Dec.{eqb, ltb}
 use borrow.Author.Tests.{eq-eqb, ne-eqb, eqb-true, eqb-false, not-true, lt-ltb, le-ltb, ltb-true}
 use lib.ListN.{length, getD, set, replicate, length-set, length-append, length-replicate, List·getD-append}
-use lib.Seq.{getD-set-same, getD-set-other, getD-append-seam}
+use lib.Seq.{getD-set-same, getD-set-other, getD-append-seam, take-all}
 use Rattle.closure.specs.Limits.{CONTOURS}
 use Rattle.closure.specs.Pairs.{Pair, paired, someOf, isPair}
 use Rattle.closure.specs.Cycle.{linked, onCycle, Acyclic, firstOnCycle}
@@ -19,12 +19,13 @@ use Rattle.answer.specs.Lowest.{lowest}
 use Rattle.answer.proofs.LowestLaws.{LowestAt, Nowhere, at-is, absent-is, search-through}
 use Rattle.closure.proofs.PairLaws.{same-or, lt-or, is-pair}
 use Rattle.closure.proofs.PathLaws.{or-cases, or-left, or-right, and-first, and-second, both-true, yes-or-no, true-false, linked-within, absent-exactly}
-use Rattle.hierarchy.specs.Sort.{Sorting, both, heldBack, tallied, freeBelow, loosened, released, settled, unsettled, sortedBy}
+use Rattle.hierarchy.specs.Sort.{Kahn, both, heldBack, tallied, freeBelow, untaken, loosened, released, queueTaken, sortedBy}
+use Rattle.hierarchy.specs.Code.{firstTaken}
 use Rattle.hierarchy.specs.declared.Order.{Order}
 use Rattle.hierarchy.specs.Questions.{pairsCheck, orderOf, topologicalSort}
 use Rattle.hierarchy.specs.Legal.{Legal}
 use Rattle.hierarchy.proofs.CheckLaws.{fine-small, sort-cycle, sort-told}
-use Rattle.hierarchy.proofs.SortLaws.{both-yes, zeros, tallied-length}
+use Rattle.hierarchy.proofs.SortLaws.{both-yes, zeros, tallied-length, queue-step, queue-end}
 use Rattle.hierarchy.proofs.CountLaws.{anyBelow, met, met-is, met-at, Different, met-not, different-few, all-many, Least, least}
 use Rattle.hierarchy.proofs.OrderLaws.{linked-pair, pair-linked, legal-acyclic}
 
@@ -293,30 +294,30 @@ record Grown (o k : List ℕ) : Type 0 where
 grown-on : (o k l : List ℕ) → Grown o k → Grown k l → Grown o l
 grown-on o k l f g = record { longer = omega (arith, f .longer, g .longer); kept = λ q h. g .kept q (omega (arith, f .longer)) ∙ f .kept q h }
 
-record Walked (n : ℕ) (pairs : List ℕ) (done : ℕ → Bool) (x : ℕ) (rest : List Pair) (o : List ℕ) (s : Sorting) : Type 0 where
-  mid : Mid n pairs done x rest (s .waits) (s .order)
-  grown : Grown o (s .order)
+record Walked (n : ℕ) (pairs : List ℕ) (done : ℕ → Bool) (x : ℕ) (rest : List Pair) (o : List ℕ) (s : Kahn) : Type 0 where
+  mid : Mid n pairs done x rest (s .waits) (s .queue)
+  grown : Grown o (s .queue)
 
-walk-one : (n : ℕ) → n ≤ CONTOURS → (pairs : List ℕ) (done : ℕ → Bool) (x : ℕ) (p : Pair) (rest : List Pair) (s : Sorting) → Mid n pairs done x (p ∷ rest) (s .waits) (s .order) →
-    Walked n pairs done x rest (s .order) (cond (eqb (p .before) x && both n p) (loosened s (p .after)) s)
+walk-one : (n : ℕ) → n ≤ CONTOURS → (pairs : List ℕ) (done : ℕ → Bool) (x : ℕ) (p : Pair) (rest : List Pair) (s : Kahn) → Mid n pairs done x (p ∷ rest) (s .waits) (s .queue) →
+    Walked n pairs done x rest (s .queue) (cond (eqb (p .before) x && both n p) (loosened s (p .after)) s)
 unfolding loosened into v
 walk-one n small pairs done x p rest s mid = ⊎-elim
     (λ (t : (eqb (p .before) x && both n p) ≡ true). rw t (⊎-elim
     (λ (one : getD (s .waits) (p .after) 0 ≡ 1). rw (eq-eqb (getD (s .waits) (p .after) 0) 1 one) (record {
-      mid = mid-free n small pairs done x p rest (s .waits) (s .order) mid t one;
-      grown = record { longer = omega (arith, push-length (s .order) (p .after)); kept = push-old (s .order) (p .after) };
+      mid = mid-free n small pairs done x p rest (s .waits) (s .queue) mid t one;
+      grown = record { longer = omega (arith, push-length (s .queue) (p .after)); kept = push-old (s .queue) (p .after) };
     }))
-    (λ (d : getD (s .waits) (p .after) 0 ≡ 1 → ⊥). rw (ne-eqb (getD (s .waits) (p .after) 0) 1 d, append-nil (s .order)) (record {
-      mid = mid-still n small pairs done x p rest (s .waits) (s .order) mid t d;
+    (λ (d : getD (s .waits) (p .after) 0 ≡ 1 → ⊥). rw (ne-eqb (getD (s .waits) (p .after) 0) 1 d, append-nil (s .queue)) (record {
+      mid = mid-still n small pairs done x p rest (s .waits) (s .queue) mid t d;
       grown = record { longer = omega arith; kept = λ q h. refl };
     })) (same-or (getD (s .waits) (p .after) 0) 1)))
     (λ (f : (eqb (p .before) x && both n p) ≡ false). rw f (record {
-      mid = mid-pass n small pairs done x p rest (s .waits) (s .order) mid f;
+      mid = mid-pass n small pairs done x p rest (s .waits) (s .queue) mid f;
       grown = record { longer = omega arith; kept = λ q h. refl };
     })) (yes-or-no (eqb (p .before) x && both n p))
 
-walk-all : (n : ℕ) → n ≤ CONTOURS → (pairs : List ℕ) (done : ℕ → Bool) (x : ℕ) (rest : List Pair) (s : Sorting) → Mid n pairs done x rest (s .waits) (s .order) →
-    Walked n pairs done x [] (s .order) (released n x rest s)
+walk-all : (n : ℕ) → n ≤ CONTOURS → (pairs : List ℕ) (done : ℕ → Bool) (x : ℕ) (rest : List Pair) (s : Kahn) → Mid n pairs done x rest (s .waits) (s .queue) →
+    Walked n pairs done x [] (s .queue) (released n x rest s)
 unfolding released
 walk-all n small pairs done x [] s mid = record { mid = mid; grown = record { longer = omega arith; kept = λ q h. refl } }
 walk-all n small pairs done x (p ∷ rest) s mid =
@@ -326,10 +327,10 @@ walk-all n small pairs done x (p ∷ rest) s mid =
 
 -- ---- one position after the other
 
--- the first i of the order are done
-record Outer (n : ℕ) (pairs : List ℕ) (i : ℕ) (s : Sorting) : Type 0 where
-  within : i ≤ length (s .order)
-  mid : Mid n pairs (met (s .order) i) 0 [] (s .waits) (s .order)
+-- the first i of the order, seen as the queue, are done
+record Outer (n : ℕ) (pairs : List ℕ) (i : ℕ) (s : Kahn) : Type 0 where
+  within : i ≤ length (s .queue)
+  mid : Mid n pairs (met (s .queue) i) 0 [] (s .waits) (s .queue)
 
 -- with no pairs left to walk it does not matter whose they were
 whose : (n : ℕ) (pairs : List ℕ) (done other : ℕ → Bool) (x y : ℕ) (w o : List ℕ) → ((b : ℕ) → done b ≡ other b) → Mid n pairs done x [] w o → Mid n pairs other y [] w o
@@ -343,41 +344,50 @@ whose n pairs done other x y w o same mid = subst (λ (d : ℕ → Bool). Mid n 
   known = mid .known;
 })
 
-take-next : (n : ℕ) (pairs : List ℕ) (i : ℕ) (s : Sorting) → i < length (s .order) → Outer n pairs i s → Mid n pairs (met (s .order) (suc i)) (getD (s .order) i 0) (paired pairs) (s .waits) (s .order)
+take-next : (n : ℕ) (pairs : List ℕ) (i : ℕ) (s : Kahn) → i < length (s .queue) → Outer n pairs i s → Mid n pairs (met (s .queue) (suc i)) (getD (s .queue) i 0) (paired pairs) (s .waits) (s .queue)
 unfolding pairCount anyBelow
 take-next n pairs i s h outer = record {
   size = outer .mid .size;
   counts = λ a l.
-      let e : getD (s .waits) a 0 ≡ pairCount (holds n (met (s .order) i) a) (paired pairs) + 0 = outer .mid .counts a l in
-      let f : pairCount (holds n (met (s .order) i) a) (paired pairs) ≡ pairCount (holds n (met (s .order) (suc i)) a) (paired pairs) + pairCount (goes n (getD (s .order) i 0) a) (paired pairs) =
-      count-split n a (getD (s .order) i 0) (met (s .order) i) (met (s .order) (suc i)) (met-not n (s .order) (length (s .order)) i h (outer .mid .different)) (λ b. refl) (paired pairs) in
+      let e : getD (s .waits) a 0 ≡ pairCount (holds n (met (s .queue) i) a) (paired pairs) + 0 = outer .mid .counts a l in
+      let f : pairCount (holds n (met (s .queue) i) a) (paired pairs) ≡ pairCount (holds n (met (s .queue) (suc i)) a) (paired pairs) + pairCount (goes n (getD (s .queue) i 0) a) (paired pairs) =
+      count-split n a (getD (s .queue) i 0) (met (s .queue) i) (met (s .queue) (suc i)) (met-not n (s .queue) (length (s .queue)) i h (outer .mid .different)) (λ b. refl) (paired pairs) in
       omega arith;
   listed = outer .mid .listed;
   different = outer .mid .different;
   early = outer .mid .early;
-  known = λ b e. let g = met-at (s .order) (suc i) b e in (g .0, omega (arith, g .1), g .2);
+  known = λ b e. let g = met-at (s .queue) (suc i) b e in (g .0, omega (arith, g .1), g .2);
 }
 
-outer-step : (n : ℕ) → n ≤ CONTOURS → (pairs : List ℕ) (i : ℕ) (s : Sorting) → i < length (s .order) → Outer n pairs i s → Outer n pairs (suc i) (released n (getD (s .order) i 0) (paired pairs) s)
+outer-step : (n : ℕ) → n ≤ CONTOURS → (pairs : List ℕ) (i : ℕ) (s : Kahn) → i < length (s .queue) → Outer n pairs i s → Outer n pairs (suc i) (released n (getD (s .queue) i 0) (paired pairs) s)
 outer-step n small pairs i s h outer =
-    let all = walk-all n small pairs (met (s .order) (suc i)) (getD (s .order) i 0) (paired pairs) s (take-next n pairs i s h outer) in
-    let s' = released n (getD (s .order) i 0) (paired pairs) s in
+    let all = walk-all n small pairs (met (s .queue) (suc i)) (getD (s .queue) i 0) (paired pairs) s (take-next n pairs i s h outer) in
+    let s' = released n (getD (s .queue) i 0) (paired pairs) s in
     record {
       within = omega (arith, all .grown .longer);
-      mid = whose n pairs (met (s .order) (suc i)) (met (s' .order) (suc i)) (getD (s .order) i 0) 0 (s' .waits) (s' .order)
-          (λ b. met-same (s .order) (s' .order) (suc i) b (λ q l. sym (all .grown .kept q (omega arith)))) (all .mid);
+      mid = whose n pairs (met (s .queue) (suc i)) (met (s' .queue) (suc i)) (getD (s .queue) i 0) 0 (s' .waits) (s' .queue)
+          (λ b. met-same (s .queue) (s' .queue) (suc i) b (λ q l. sym (all .grown .kept q (omega arith)))) (all .mid);
     }
 
 -- all that is in the order is done
-outer-all : (n : ℕ) → n ≤ CONTOURS → (pairs : List ℕ) (most i : ℕ) (s : Sorting) → CONTOURS ≤ most + i → Outer n pairs i s →
-    (let s' = settled most n (paired pairs) i s in Outer n pairs (length (s' .order)) s')
-unfolding settled
+record Ended (n : ℕ) (pairs : List ℕ) (end : Kahn) : Type 0 where
+  whole : Kahn
+  is : end ≡ firstTaken (length (whole .queue)) whole
+  outer : Outer n pairs (length (whole .queue)) whole
+
+ended-at : (n : ℕ) (pairs : List ℕ) (i : ℕ) (s end : Kahn) → i ≡ length (s .queue) → end ≡ firstTaken i s → Outer n pairs i s → Ended n pairs end
+ended-at n pairs i s end e is outer = record { whole = s; is = rw (← e) is; outer = rw (← e) outer }
+
+outer-all : (n : ℕ) → n ≤ CONTOURS → (pairs : List ℕ) (most i : ℕ) (s : Kahn) → CONTOURS ≤ most + i → Outer n pairs i s →
+    Ended n pairs (queueTaken most n (paired pairs) (firstTaken i s))
 outer-all n small pairs zero i s h outer =
-    let e : i ≡ length (s .order) = omega (arith, different-few n (s .order) (length (s .order)) (outer .mid .different), outer .within) in
-    subst (λ (z : ℕ). Outer n pairs z s) e outer
+    let few : length (s .queue) ≤ n = different-few n (s .queue) (length (s .queue)) (outer .mid .different) in
+    ended-at n pairs i s _ (omega (arith, outer .within)) (queue-end zero n i (paired pairs) s (omega arith)) outer
 outer-all n small pairs (suc most) i s h outer = ⊎-elim
-    (λ (l : i < length (s .order)). rw (lt-ltb i (length (s .order)) l) (outer-all n small pairs most (suc i) (released n (getD (s .order) i 0) (paired pairs) s) (omega arith) (outer-step n small pairs i s l outer)))
-    (λ (l : length (s .order) ≤ i). rw (le-ltb i (length (s .order)) l) (let e : i ≡ length (s .order) = omega (arith, outer .within) in subst (λ (z : ℕ). Outer n pairs z s) e outer)) (lt-or i (length (s .order)))
+    (λ (l : i < length (s .queue)). subst (Ended n pairs) (sym (queue-step most n i (paired pairs) s l))
+    (outer-all n small pairs most (suc i) (released n (getD (s .queue) i 0) (paired pairs) s) (omega arith) (outer-step n small pairs i s l outer)))
+    (λ (l : length (s .queue) ≤ i). ended-at n pairs i s _ (omega (arith, outer .within)) (queue-end (suc most) n i (paired pairs) s l) outer)
+    (lt-or i (length (s .queue)))
 
 -- ---- how it stands at first
 
@@ -394,8 +404,8 @@ tallied-counts n small none no' a h (p ∷ ps) w size = ⊎-elim
     (λ (d : p .after ≡ a → ⊥). let g : getD (heldBack w (p .after)) a 0 ≡ getD w a 0 = getD-set-other w (p .after) a (getD w (p .after) 0 + 1) 0 (λ s. d (sym s)) in rw (ne-eqb (p .after) a d) (omega arith)) (same-or (p .after) a)))
     (λ (f : both n p ≡ false). rw f (let rec : getD (tallied n ps w) a 0 ≡ getD w a 0 + pairCount (holds n none a) ps = tallied-counts n small none no' a h ps w size in omega arith)) (yes-or-no (both n p))
 
-outer-first : (n : ℕ) → n ≤ CONTOURS → (pairs : List ℕ) → Outer n pairs 0 (unsettled n (paired pairs))
-unfolding unsettled anyBelow pairCount
+outer-first : (n : ℕ) → n ≤ CONTOURS → (pairs : List ℕ) → Outer n pairs 0 (untaken n (paired pairs))
+unfolding untaken anyBelow pairCount
 outer-first n small pairs = record {
   within = omega arith;
   mid = record {
@@ -438,29 +448,32 @@ outer-first n small pairs = record {
 -- ---- the whole order
 
 module _ (n : ℕ) (small : n ≤ CONTOURS) (pairs : List ℕ) (free : Acyclic n pairs) where
-  end : Sorting
-  end = settled CONTOURS n (paired pairs) 0 (unsettled n (paired pairs))
+  ended : Ended n pairs (queueTaken CONTOURS n (paired pairs) (firstTaken 0 (untaken n (paired pairs))))
+  ended = outer-all n small pairs CONTOURS 0 (untaken n (paired pairs)) (omega arith) (outer-first n small pairs)
 
-  whole : Outer n pairs (length (end .order)) end
+  end : Kahn
+  end = ended .whole
+
+  whole : Outer n pairs (length (end .queue)) end
   unfolding end
-  whole = outer-all n small pairs CONTOURS 0 (unsettled n (paired pairs)) (omega arith) (outer-first n small pairs)
+  whole = ended .outer
 
   -- a position that is not in the order would wait for one that is not either, and so on without end
-  complete : (k : ℕ) → k < n → met (end .order) (length (end .order)) k ≡ true
+  complete : (k : ℕ) → k < n → met (end .queue) (length (end .queue)) k ≡ true
   unfolding pairCount
-  complete k h = ⊎-elim (λ (t : met (end .order) (length (end .order)) k ≡ true). t) (λ (f : met (end .order) (length (end .order)) k ≡ false). absurd (never (least n (linked n pairs) (linked-within n pairs) free missing k h (rw f)))) (yes-or-no (met (end .order) (length (end .order)) k))
+  complete k h = ⊎-elim (λ (t : met (end .queue) (length (end .queue)) k ≡ true). t) (λ (f : met (end .queue) (length (end .queue)) k ≡ false). absurd (never (least n (linked n pairs) (linked-within n pairs) free missing k h (rw f)))) (yes-or-no (met (end .queue) (length (end .queue)) k))
     where
       missing : ℕ → Bool
-      missing b = not (met (end .order) (length (end .order)) b)
+      missing b = not (met (end .queue) (length (end .queue)) b)
 
       never : (m : ℕ) × Least n (linked n pairs) (linked-within n pairs) free missing m → ⊥
       never (m, l) = l .none (q .0 .before) low (and-second (eqb (q .0 .after) m) (missing (q .0 .before)) (and-second (both n (q .0)) (eqb (q .0 .after) m && missing (q .0 .before)) (q .2))) (rw same at (linked-pair n pairs (q .0 .before) (q .0 .after) low (rw same (l .within)) (q .1)))
         where
           waits : getD (end .waits) m 0 ≡ 0 → ⊥
-          waits = eqb-false (getD (end .waits) m 0) 0 (sym (whole .mid .listed m (l .within)) ∙ not-true (met (end .order) (length (end .order)) m) (l .holds))
+          waits = eqb-false (getD (end .waits) m 0) 0 (sym (whole .mid .listed m (l .within)) ∙ not-true (met (end .queue) (length (end .queue)) m) (l .holds))
 
-          q : (p : Pair) × (someOf (isPair (p .before) (p .after)) (paired pairs) ≡ true) × (holds n (met (end .order) (length (end .order))) m p ≡ true)
-          q = count-some (holds n (met (end .order) (length (end .order))) m) (paired pairs) (λ e. waits (whole .mid .counts m (l .within) ∙ rw e (omega arith)))
+          q : (p : Pair) × (someOf (isPair (p .before) (p .after)) (paired pairs) ≡ true) × (holds n (met (end .queue) (length (end .queue))) m p ≡ true)
+          q = count-some (holds n (met (end .queue) (length (end .queue))) m) (paired pairs) (λ e. waits (whole .mid .counts m (l .within) ∙ rw e (omega arith)))
 
           low : q .0 .before < n
           low = ltb-true (q .0 .before) n (and-first (ltb (q .0 .before) n) (ltb (q .0 .after) n) (and-first (both n (q .0)) (eqb (q .0 .after) m && missing (q .0 .before)) (q .2)))
@@ -468,10 +481,10 @@ module _ (n : ℕ) (small : n ≤ CONTOURS) (pairs : List ℕ) (free : Acyclic n
           same : q .0 .after ≡ m
           same = eqb-true (q .0 .after) m (and-first (eqb (q .0 .after) m) (missing (q .0 .before)) (and-second (both n (q .0)) (eqb (q .0 .after) m && missing (q .0 .before)) (q .2)))
 
-  full : length (end .order) ≡ n
-  full = omega (arith, different-few n (end .order) (length (end .order)) (whole .mid .different), all-many n (end .order) (length (end .order)) complete)
+  full : length (end .queue) ≡ n
+  full = omega (arith, different-few n (end .queue) (length (end .queue)) (whole .mid .different), all-many n (end .queue) (length (end .queue)) complete)
 
-  end-legal : Legal n pairs (end .order)
+  end-legal : Legal n pairs (end .queue)
   end-legal = record {
     each = record {
       size = full;
@@ -479,15 +492,17 @@ module _ (n : ℕ) (small : n ≤ CONTOURS) (pairs : List ℕ) (free : Acyclic n
       once = λ p q h i e. whole .mid .different .once p q (omega (arith, full)) (omega (arith, full)) e;
     };
     before = λ p q h i l.
-        let f = whole .mid .early q (omega (arith, full)) (getD (end .order) p 0) l in
+        let f = whole .mid .early q (omega (arith, full)) (getD (end .queue) p 0) l in
         let e : f .0 ≡ p = whole .mid .different .once (f .0) p (omega (arith, f .1, full)) (omega (arith, full)) (f .2) in
         omega (arith, f .1);
   }
 
   -- the topological order has each position once, and each pair's first before its second
   pub sorted-legal : Legal n pairs (sortedBy n pairs)
-  unfolding sortedBy end
-  sorted-legal = end-legal
+  unfolding sortedBy untaken end
+  sorted-legal =
+      let e : sortedBy n pairs ≡ end .queue = ap (λ (s : Kahn). s .taken) (ended .is) ∙ take-all (length (end .queue)) (end .queue) (omega arith) in
+      subst (Legal n pairs) (sym e) end-legal
 
 -- ---- the theorems
 

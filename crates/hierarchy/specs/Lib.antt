@@ -1,4 +1,5 @@
 pub mod Fill
 pub mod Sort
+pub mod Code
 pub mod Questions
 pub mod Legal

@@ -1,18 +1,18 @@
--- The topological order: positions are taken in the order in which nothing holds them back any more. Assumes nothing.
+-- Kahn's topological order: positions are taken in the order in which nothing holds them back any more. Assumes nothing.
 use mathlib.Core.Bool.{Bool, cond, _&&_}
 use mathlib.Core.List.{List, [], _∷_, _++_}
-use mathlib.Core.Path.{_≡_}
-use Prim.Native.Nat.{ℕ, zero, suc, _+_, _-_, _≤_}
+use Prim.Native.Nat.{ℕ, zero, suc, _+_, _-_}
 use lib.Dec.{ltb, eqb}
-use lib.ListN.{length, getD, set, take, replicate}
+use lib.ListN.{length, getD, set, drop, replicate}
 use Rattle.closure.specs.Limits.{CONTOURS}
 use Rattle.closure.specs.Pairs.{Pair, paired}
-use Rattle.hierarchy.specs.Fill.{Filled}
 
--- how many pairs hold each position back, and the positions that none holds back, in the order in which they came free
-pub record Sorting : Type 0 where
+-- how far it has come: the positions taken, in their order; the queue of those that nothing holds back any more, in the order in which they
+-- came free; and how many pairs still hold each position back
+pub record Kahn : Type 0 where
+  pub taken : List ℕ
+  pub queue : List ℕ
   pub waits : List ℕ
-  pub order : List ℕ
 
 -- both positions are below n; other pairs are passed over
 abbrev pub both : ℕ → Pair → Bool
@@ -32,58 +32,39 @@ unfoldable pub freeBelow : List ℕ → ℕ → List ℕ
 freeBelow w zero = []
 freeBelow w (suc k) = freeBelow w k ++ cond (eqb (getD w k 0) 0) (k ∷ []) []
 
--- one pair less holds position a back; where it was the last one, a comes next in the order
-unfoldable pub loosened : Sorting → ℕ → Sorting
+-- before any is taken, the queue has those that no pair holds back
+unfoldable pub untaken : ℕ → List Pair → Kahn
+unfolding tallied freeBelow
+untaken n ps = let waits = tallied n ps (replicate CONTOURS 0) in record { taken = []; queue = freeBelow waits n; waits = waits }
+
+-- one pair less holds position a back; where it was the last one, a joins the queue
+unfoldable pub loosened : Kahn → ℕ → Kahn
 loosened s a = record {
+  taken = s .taken;
+  queue = s .queue ++ cond (eqb (getD (s .waits) a 0) 1) (a ∷ []) [];
   waits = set (s .waits) a (getD (s .waits) a 0 - 1);
-  order = s .order ++ cond (eqb (getD (s .waits) a 0) 1) (a ∷ []) [];
 }
 
--- x is taken: its pairs, in the order of the list, hold nothing back any more
-unfoldable pub released : ℕ → ℕ → List Pair → Sorting → Sorting
+-- x's pairs, in the order of the list, hold nothing back any more
+unfoldable pub released : ℕ → ℕ → List Pair → Kahn → Kahn
 unfolding loosened
 released n x [] s = s
 released n x (p ∷ more) s = released n x more (cond (eqb (p .before) x && both n p) (loosened s (p .after)) s)
 
--- the positions of the order are taken one after the other from place k on, at most so many
-unfoldable pub settled : ℕ → ℕ → List Pair → ℕ → Sorting → Sorting
+-- the front of the queue is taken, and its pairs hold nothing back any more
+unfoldable pub frontTaken : ℕ → List Pair → Kahn → Kahn
 unfolding released
-settled zero n ps k s = s
-settled (suc most) n ps k s =
-    let further = settled most n ps (suc k) (released n (getD (s .order) k 0) ps s) in
-    cond (ltb k (length (s .order))) further s
+frontTaken n ps s =
+    let x = getD (s .queue) 0 0 in
+    released n x ps (record { taken = s .taken ++ (x ∷ []); queue = drop 1 (s .queue); waits = s .waits })
 
--- how it stands before any is taken
-unfoldable pub unsettled : ℕ → List Pair → Sorting
-unfolding tallied freeBelow
-unsettled n ps = record {
-  waits = tallied n ps (replicate CONTOURS 0);
-  order = freeBelow (tallied n ps (replicate CONTOURS 0)) n;
-}
+-- one after the other is taken until the queue is empty, but at most so many
+unfoldable pub queueTaken : ℕ → ℕ → List Pair → Kahn → Kahn
+unfolding frontTaken
+queueTaken zero n ps s = s
+queueTaken (suc most) n ps s = let further = queueTaken most n ps (frontTaken n ps s) in cond (ltb 0 (length (s .queue))) further s
 
--- the order of the n positions, each taken as soon as it is its turn
+-- the order of the n positions: each is taken in its turn
 unfoldable pub sortedBy : ℕ → List ℕ → List ℕ
-unfolding paired settled unsettled
-sortedBy n pairs = (settled CONTOURS n (paired pairs) 0 (unsettled n (paired pairs))) .order
-
--- ---- how the code holds it: two arrays and a count
-
--- so many of the positions are held back
-unfoldable pub heldCount : List ℕ → ℕ
-heldCount [] = 0
-heldCount (w ∷ more) = heldCount more + cond (eqb w 0) 0 1
-
--- the arrays as they stand
-abbrev pub standing : List ℕ → List ℕ → ℕ → Sorting
-standing waits order count = record { waits = waits; order = take count order }
-
--- there is a place in the order for every position still held back
-pub record Sound (waits order : List ℕ) (count : ℕ) : Type 0 where
-  pub size : length waits ≡ CONTOURS
-  pub filled : Filled CONTOURS order count (take count order)
-  pub room : count + heldCount waits ≤ CONTOURS
-
--- the arrays hold this
-pub record Stands (s : Sorting) (waits order : List ℕ) (count : ℕ) : Type 0 where
-  pub sound : Sound waits order count
-  pub is : standing waits order count ≡ s
+unfolding paired queueTaken untaken
+sortedBy n pairs = (queueTaken CONTOURS n (paired pairs) (untaken n (paired pairs))) .taken

@@ -12,10 +12,11 @@ ghost use Rattle.answer.specs.declared.Check.{Check};
 ghost use Rattle.closure.specs.Limits.{CONTOURS, PAIRS};
 ghost use Rattle.closure.specs.Pairs.{paired, someOf, isPair};
 ghost use lib.ListN.{length, replicate};
-ghost use Rattle.keep.specs.Keep.{lastPlace, keepsPairs};
+ghost use Rattle.keep.specs.Keep.{lastRank, keepsPairs};
 ghost use Rattle.hierarchy.specs.Questions.{pairsCheck, picked, endsAt, startsAt, pairListOf, idsOf, numContours, precedencesOf, violatesOf, predecessorsOf, successorsOf, validSequence, orderOf, topologicalSort};
 ghost use Rattle.hierarchy.specs.Fill.{Filled};
-ghost use Rattle.hierarchy.specs.Sort.{both, tallied, freeBelow, loosened, released, settled, sortedBy, standing, Sound, Stands};
+ghost use Rattle.hierarchy.specs.Sort.{both, tallied, freeBelow, loosened, released, queueTaken, sortedBy};
+ghost use Rattle.hierarchy.specs.Code.{standing, Roomy, Stands};
 
 // A number, or why there is none.
 pub enum Count {
@@ -228,9 +229,9 @@ pub fn successors(contours: usize, pairs: &[u32], id: u32) -> Ids
     list_after(pairs, id)
 }
 
-// The last place of an id, counted from 1; 0 where it is not there.
-fn last_place(ids: &[u32], id: u32) -> usize
-    ensures { λ r. ⌜ r ≡ lastPlace (now (ids .entry)) id ⌝ }
+// The last rank of an id, counted from 1; 0 where it is not there.
+fn last_rank(ids: &[u32], id: u32) -> usize
+    ensures { λ r. ⌜ r ≡ lastRank (now (ids .entry)) id ⌝ }
 {
     let mut met = 0;
     let mut i = 0;
@@ -244,14 +245,14 @@ fn last_place(ids: &[u32], id: u32) -> usize
     met
 }
 
-// Whether ids as given keep to the pairs, going by last places.
+// Whether ids as given keep to the pairs, going by last ranks.
 fn keeps_ids(ids: &[u32], pairs: &[u32]) -> bool
     ensures { λ r. ⌜ r ≡ keepsPairs (now (ids .entry)) (now (pairs .entry)) ⌝ }
 {
     let mut at = 0;
     while at + 1 < pairs.len() {
-        let b = last_place(ids, pairs[at]);
-        let a = last_place(ids, pairs[at + 1]);
+        let b = last_rank(ids, pairs[at]);
+        let a = last_rank(ids, pairs[at + 1]);
         if !keep::kept_at(b, a) {
             return false;
         }
@@ -333,14 +334,14 @@ fn less(w: usize) -> usize
     w - 1
 }
 
-// One pair less holds a back; where it was the last one, a comes next in the order.
+// One pair less holds a back; where it was the last one, a joins the queue.
 fn loosen(
     a: usize,
     waits: &mut [usize; CONTOURS],
     order: &mut [u32; CONTOURS],
     count: usize,
 ) -> usize
-    requires { ⌜ (a < CONTOURS) × Sound (now waits) (now order) count ⌝ }
+    requires { ⌜ (a < CONTOURS) × Roomy (now waits) (now order) count ⌝ }
     ensures { λ r. ⌜ Stands (loosened (standing (now (waits .entry)) (now (order .entry)) count) a) (now (waits .exit)) (now (order .exit)) r ⌝ }
 {
     let w = waits[a];
@@ -366,7 +367,7 @@ fn counts(b: u32, a: u32, x: u32, n: usize) -> bool
     false
 }
 
-// x is taken: its pairs hold nothing back any more.
+// x's pairs hold nothing back any more.
 fn release(
     pairs: &[u32],
     n: usize,
@@ -375,7 +376,7 @@ fn release(
     order: &mut [u32; CONTOURS],
     before: usize,
 ) -> usize
-    requires { ⌜ (n ≤ CONTOURS) × Sound (now waits) (now order) before ⌝ }
+    requires { ⌜ (n ≤ CONTOURS) × Roomy (now waits) (now order) before ⌝ }
     ensures { λ r. ⌜ Stands (released n x (paired (now (pairs .entry))) (standing (now (waits .entry)) (now (order .entry)) before)) (now (waits .exit)) (now (order .exit)) r ⌝ }
 {
     let mut count = before;
@@ -391,16 +392,16 @@ fn release(
     count
 }
 
-// The positions of the order are taken one after the other, and those that come free join it.
-fn settle(
+// The positions of the queue are taken one after the other, and those that come free join it: the order is all of them.
+fn take_queue(
     pairs: &[u32],
     n: usize,
     waits: &mut [usize; CONTOURS],
     order: &mut [u32; CONTOURS],
     free: usize,
 ) -> usize
-    requires { ⌜ (n ≤ CONTOURS) × Sound (now waits) (now order) free ⌝ }
-    ensures { λ r. ⌜ Stands (settled CONTOURS n (paired (now (pairs .entry))) 0 (standing (now (waits .entry)) (now (order .entry)) free)) (now (waits .exit)) (now (order .exit)) r ⌝ }
+    requires { ⌜ (n ≤ CONTOURS) × Roomy (now waits) (now order) free ⌝ }
+    ensures { λ r. ⌜ Filled CONTOURS (now (order .exit)) r ((queueTaken CONTOURS n (paired (now (pairs .entry))) (standing (now (waits .entry)) (now (order .entry)) free)) .taken) ⌝ }
 {
     let mut count = free;
     let mut i = 0;
@@ -420,7 +421,7 @@ fn sorted(n: usize, pairs: &[u32]) -> Order
     let mut waits = tally(pairs, n);
     let mut order = [0u32; CONTOURS];
     let free = list_free(&waits, n, &mut order);
-    let count = settle(pairs, n, &mut waits, &mut order, free);
+    let count = take_queue(pairs, n, &mut waits, &mut order, free);
     Order {
         check: Check::Fine,
         positions: order,

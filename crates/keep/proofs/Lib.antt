@@ -1,1 +1,1 @@
-pub mod PlaceLaws
+pub mod RankLaws

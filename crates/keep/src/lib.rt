@@ -3,7 +3,8 @@
 ghost use mathlib.Core.Path.{_≡_};
 ghost use Prim.Native.Nat.{_<_};
 ghost use lib.ListN.{length, getD};
-ghost use Rattle.keep.specs.Keep.{PlacesOf, keptAt, keepsPairs, readyBy, readyIn};
+ghost use Rattle.keep.specs.Keep.{keptAt, keepsPairs, readyBy, readyIn};
+ghost use Rattle.keep.specs.Code.{RanksOf};
 
 // A byte as an index.
 fn wide(x: u8) -> usize
@@ -12,34 +13,34 @@ fn wide(x: u8) -> usize
     x as usize
 }
 
-// The last place of every byte in the order, counted from 1, where the places fit into a byte; a byte
+// The last rank of every byte in the order, counted from 1, where the ranks fit into a byte; a byte
 // that is not there keeps what it has.
-fn note_places(order: &[u8], places: &mut [u8; 256])
-    requires { ⌜ (length (now order) < 256) × (length (now places) ≡ 256) ⌝ }
-    ensures { λ r. ⌜ PlacesOf (now (order .entry)) (now (places .entry)) (now (places .exit)) ⌝ }
+fn note_ranks(order: &[u8], ranks: &mut [u8; 256])
+    requires { ⌜ (length (now order) < 256) × (length (now ranks) ≡ 256) ⌝ }
+    ensures { λ r. ⌜ RanksOf (now (order .entry)) (now (ranks .entry)) (now (ranks .exit)) ⌝ }
 {
     let mut i = 0;
     while i < order.len() {
         let x = wide(order[i]);
         i += 1;
-        places[x] = i as u8;
+        ranks[x] = i as u8;
     }
 }
 
 // The same for an order of any length.
-fn note_long(order: &[u8], places: &mut [usize; 256])
-    requires { ⌜ length (now places) ≡ 256 ⌝ }
-    ensures { λ r. ⌜ PlacesOf (now (order .entry)) (now (places .entry)) (now (places .exit)) ⌝ }
+fn note_long(order: &[u8], ranks: &mut [usize; 256])
+    requires { ⌜ length (now ranks) ≡ 256 ⌝ }
+    ensures { λ r. ⌜ RanksOf (now (order .entry)) (now (ranks .entry)) (now (ranks .exit)) ⌝ }
 {
     let mut i = 0;
     while i < order.len() {
         let x = wide(order[i]);
         i += 1;
-        places[x] = i;
+        ranks[x] = i;
     }
 }
 
-// Whether two last places keep a pair: either is not there, or the first comes before the second.
+// Whether two last ranks keep a pair: either is not there, or the first comes before the second.
 pub fn kept_at(b: usize, a: usize) -> bool
     ensures { λ r. ⌜ r ≡ keptAt b a ⌝ }
 {
@@ -49,7 +50,7 @@ pub fn kept_at(b: usize, a: usize) -> bool
     b < a
 }
 
-// The same for places that fit into a byte.
+// The same for ranks that fit into a byte.
 fn kept_by(first: u8, second: u8) -> bool
     ensures { λ r. ⌜ r ≡ keptAt first second ⌝ }
 {
@@ -59,18 +60,18 @@ fn kept_by(first: u8, second: u8) -> bool
     first < second
 }
 
-// Whether an order of fewer than 256 entries keeps to pairs: the table of places is small.
+// Whether an order of fewer than 256 entries keeps to pairs: the table of ranks is small.
 fn keeps_short(order: &[u8], pairs: &[u8]) -> bool
     requires { ⌜ length (now order) < 256 ⌝ }
     ensures { λ r. ⌜ r ≡ keepsPairs (now (order .entry)) (now (pairs .entry)) ⌝ }
 {
-    let mut places = [0u8; 256];
-    note_places(order, &mut places);
+    let mut ranks = [0u8; 256];
+    note_ranks(order, &mut ranks);
     let mut at = 0;
     while at + 1 < pairs.len() {
         let b = wide(pairs[at]);
         let a = wide(pairs[at + 1]);
-        if !kept_by(places[b], places[a]) {
+        if !kept_by(ranks[b], ranks[a]) {
             return false;
         }
         at += 2;
@@ -82,13 +83,13 @@ fn keeps_short(order: &[u8], pairs: &[u8]) -> bool
 fn keeps_long(order: &[u8], pairs: &[u8]) -> bool
     ensures { λ r. ⌜ r ≡ keepsPairs (now (order .entry)) (now (pairs .entry)) ⌝ }
 {
-    let mut places = [0usize; 256];
-    note_long(order, &mut places);
+    let mut ranks = [0usize; 256];
+    note_long(order, &mut ranks);
     let mut at = 0;
     while at + 1 < pairs.len() {
         let b = wide(pairs[at]);
         let a = wide(pairs[at + 1]);
-        if !kept_at(places[b], places[a]) {
+        if !kept_at(ranks[b], ranks[a]) {
             return false;
         }
         at += 2;
@@ -96,7 +97,7 @@ fn keeps_long(order: &[u8], pairs: &[u8]) -> bool
     true
 }
 
-// Whether an order of positions keeps to pairs of positions, going by last places.
+// Whether an order of positions keeps to pairs of positions, going by last ranks.
 pub fn keeps_pairs(order: &[u8], pairs: &[u8]) -> bool
     ensures { λ r. ⌜ r ≡ keepsPairs (now (order .entry)) (now (pairs .entry)) ⌝ }
 {
@@ -106,7 +107,7 @@ pub fn keeps_pairs(order: &[u8], pairs: &[u8]) -> bool
     keeps_long(order, pairs)
 }
 
-// The flag at a place; 0 past the end.
+// The flag at a position; 0 past the end.
 fn flag_at(flags: &[u8], i: usize) -> u8
     ensures { λ r. ⌜ r ≡ getD (now (flags .entry)) i 0 ⌝ }
 {

@@ -18,7 +18,12 @@ unfoldable pub wholeRoot : ℕ → ℕ
 unfolding digits size
 wholeRoot n = digits (size n) n
 
--- twice n's root, cut to a whole number: but odd wherever the root goes on beyond its whole part, so that a rounding sees that there is more
+-- the marker of a root that goes on beyond its whole part: 1 there, 0 where n is a square
+abbrev pub goesOn : ℕ → ℕ
+goesOn n = cond (eqb (wholeRoot n * wholeRoot n) n) 0 1
+
+-- n's root in half steps, as a rounding needs to see it: an even number is a whole root; an odd one, half a step above the whole part, stands
+-- for every root between two whole numbers, since it lies on the same side of each of them
 unfoldable pub halves : ℕ → ℕ
 unfolding wholeRoot
-halves n = 2 * wholeRoot n + cond (eqb (wholeRoot n * wholeRoot n) n) 0 1
+halves n = 2 * wholeRoot n + goesOn n

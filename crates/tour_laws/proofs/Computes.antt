@@ -9,7 +9,7 @@ use Rattle.points.specs.Along.{alongOf}
 use Rattle.candidates.specs.Along.{around, perimeterOf, reaches, onEdge, spotFrom, lastSpot, spotAt}
 use Rattle.candidates.specs.Generate.{spaced, target, candidatesFrom, candidatesOf}
 use Rattle.closure.specs.Pairs.{every}
-use Rattle.keep.specs.Keep.{latest, keptIn, keepsPairs, readyBy, readyIn}
+use Rattle.keep.specs.Keep.{lastRank, keptIn, keepsPairs, readyBy, readyIn}
 use Rattle.fields.specs.Values.{asType, asPreference, pointAt}
 use Rattle.card_laws.proofs.Starred.{verdict-computes}
 use Rattle.table.specs.Walk.{legs, walk}
@@ -29,6 +29,6 @@ unfolding verdict-computes tourOf tourCheck roomCheck endOn sheetOn gathered own
     candidatesOf candidatesFrom spaced target perimeterOf around reaches onEdge spotFrom lastSpot spotAt closing edges alongOf
     asType asPreference pointAt nearest walked step visit chosen considered isOpen readyIn readyBy offered offer closer reachOf
     searched repeated pass turn alternative swap judged shorter tried atLimit row reversal flip turned rev slice
-    contours keepsPairs keptIn latest every each lengthOf walk legs homesOf homeLeg distancesOf rowOf legAt legOf listed chained
+    contours keepsPairs keptIn lastRank every each lengthOf walk legs homesOf homeLeg distancesOf rowOf legAt legOf listed chained
     distanceOf distanceSqOf squares sqrtOf rootFinite halves wholeRoot digits add sub mul div rem neg lt le eq ofInt sum
 tour-computes = tt

@@ -5,7 +5,7 @@ use borrow.Author.Needs.{needs}
 use borrow.Author.Tests.{not-true, not-false}
 use Rattle.closure.proofs.PairLaws.{EveryPart, every-none}
 use Rattle.keep.specs.Keep.{keptIn}
-use Rattle.keep.proofs.PlaceLaws.{ids-kept, ids-broken, pairs-kept}
+use Rattle.keep.proofs.RankLaws.{pair-kept, pair-broken, pairs-kept}
 use Rattle.hierarchy.proofs.keeps_ids.Statement.{statement}
 use Rattle.hierarchy.proofs.keeps_ids.Tie as tie
 
@@ -21,32 +21,32 @@ loop-holds c = every-none _ _
 add-loop : tie.Need-add-loop Inv-loop μ-loop
 add-loop c = search needs
 
-mul-last-place : tie.Need-mul-last-place Inv-loop μ-loop
-mul-last-place c = search needs
+mul-last-rank : tie.Need-mul-last-rank Inv-loop μ-loop
+mul-last-rank c = search needs
 
-shared-slice-read-last-place : tie.Need-shared-slice-read-last-place Inv-loop μ-loop
-shared-slice-read-last-place c = search needs
+shared-slice-read-last-rank : tie.Need-shared-slice-read-last-rank Inv-loop μ-loop
+shared-slice-read-last-rank c = search needs
 
-last-place-requires : tie.Need-last-place-requires Inv-loop μ-loop
-last-place-requires c κs = search needs
+last-rank-requires : tie.Need-last-rank-requires Inv-loop μ-loop
+last-rank-requires c κs = search needs
 
-add-last-place : tie.Need-add-last-place Inv-loop μ-loop
-add-last-place c = search needs
+add-last-rank : tie.Need-add-last-rank Inv-loop μ-loop
+add-last-rank c = search needs
 
-mul-last-place-2 : tie.Need-mul-last-place-2 Inv-loop μ-loop
-mul-last-place-2 c = search needs
+mul-last-rank-2 : tie.Need-mul-last-rank-2 Inv-loop μ-loop
+mul-last-rank-2 c = search needs
 
-shared-slice-read-last-place-2 : tie.Need-shared-slice-read-last-place-2 Inv-loop μ-loop
-shared-slice-read-last-place-2 c = search needs
+shared-slice-read-last-rank-2 : tie.Need-shared-slice-read-last-rank-2 Inv-loop μ-loop
+shared-slice-read-last-rank-2 c = search needs
 
-last-place-requires-2 : tie.Need-last-place-requires-2 Inv-loop μ-loop
-last-place-requires-2 c κs = search needs
+last-rank-requires-2 : tie.Need-last-rank-requires-2 Inv-loop μ-loop
+last-rank-requires-2 c κs = search needs
 
 kept-at-requires : tie.Need-kept-at-requires Inv-loop μ-loop
 kept-at-requires c κs = search needs
 
 returns : tie.Need-returns Inv-loop μ-loop
-returns c = let h = c .before .before .before .before .before .before in ids-broken _ _ _ _ _ _ (c .before .before .before .before .last-place .ensures) (c .before .before .last-place2 .ensures) (h .loop-test .taken) (h .before .loop .inv) (c .before .kept-at .ensures) (not-true _ (c .if1 .taken))
+returns c = let h = c .before .before .before .before .before .before in pair-broken _ _ _ _ _ _ (c .before .before .before .before .last-rank .ensures) (c .before .before .last-rank2 .ensures) (h .loop-test .taken) (h .before .loop .inv) (c .before .kept-at .ensures) (not-true _ (c .if1 .taken))
 
 add-at : tie.Need-add-at Inv-loop μ-loop
 add-at c = search needs
@@ -55,7 +55,7 @@ loop-less : tie.Need-loop-less Inv-loop μ-loop
 loop-less c = search needs
 
 loop-again : tie.Need-loop-again Inv-loop μ-loop
-loop-again c = let h = c .before .before .before .before .before .before in ids-kept _ _ _ _ _ _ (c .before .before .before .before .last-place .ensures) (c .before .before .last-place2 .ensures) (h .loop-test .taken) (h .before .loop .inv) (c .before .kept-at .ensures) (not-false _ (c .if1 .left))
+loop-again c = let h = c .before .before .before .before .before .before in pair-kept _ _ _ _ _ _ (c .before .before .before .before .last-rank .ensures) (c .before .before .last-rank2 .ensures) (h .loop-test .taken) (h .before .loop .inv) (c .before .kept-at .ensures) (not-false _ (c .if1 .left))
 
 returns-2 : tie.Need-returns-2 Inv-loop μ-loop
 returns-2 c = pairs-kept _ _ _ (c .loop-test .left) (c .before .loop .inv)
@@ -68,13 +68,13 @@ keeps-ids-spec =
     μ-loop
     loop-holds
     add-loop
-    mul-last-place
-    shared-slice-read-last-place
-    last-place-requires
-    add-last-place
-    mul-last-place-2
-    shared-slice-read-last-place-2
-    last-place-requires-2
+    mul-last-rank
+    shared-slice-read-last-rank
+    last-rank-requires
+    add-last-rank
+    mul-last-rank-2
+    shared-slice-read-last-rank-2
+    last-rank-requires-2
     kept-at-requires
     returns
     add-at

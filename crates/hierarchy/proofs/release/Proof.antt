@@ -2,7 +2,7 @@
 use Prim.Native.Nat.{_-_}
 use lib.ListN.{length}
 use borrow.Author.Needs.{needs}
-use Rattle.hierarchy.specs.Sort.{standing}
+use Rattle.hierarchy.specs.Code.{standing}
 use Rattle.hierarchy.proofs.SortLaws.{ReleasePart, release-none, release-hit, release-miss, release-low, release-all}
 use Rattle.hierarchy.proofs.release.Statement.{statement}
 use Rattle.hierarchy.proofs.release.Tie as tie
@@ -44,7 +44,7 @@ wide32-requires : tie.Need-wide32-requires Inv-loop μ-loop
 wide32-requires c κs = search needs
 
 loosen-requires : tie.Need-loosen-requires Inv-loop μ-loop
-loosen-requires c κs = let h = c .before .before .before .before .before .before .before in (release-low _ _ _ _ _ _ _ _ _ (h .loop-test .taken) (h .before .loop .inv) (c .before .before .before .before .counts .ensures) _ (c .before .before .wide32 .ensures) (search needs) (c .before .before .before .if1 .taken), h .before .loop .inv .sound)
+loosen-requires c κs = let h = c .before .before .before .before .before .before .before in (release-low _ _ _ _ _ _ _ _ _ (h .loop-test .taken) (h .before .loop .inv) (c .before .before .before .before .counts .ensures) _ (c .before .before .wide32 .ensures) (search needs) (c .before .before .before .if1 .taken), h .before .loop .inv .roomy)
 
 loop-less : tie.Need-loop-less Inv-loop μ-loop
 loop-less c = search needs

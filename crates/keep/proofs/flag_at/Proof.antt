@@ -1,4 +1,4 @@
--- `hierarchy::flag_at` meets its contract. Assumes nothing.
+-- `keep::flag_at` meets its contract. Assumes nothing.
 use mathlib.Core.Path.{sym}
 use lib.ListN.{List·getD-eq-default}
 use borrow.Author.Needs.{needs}

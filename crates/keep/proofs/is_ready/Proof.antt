@@ -1,11 +1,11 @@
--- `hierarchy::is_ready` meets its contract. Assumes nothing.
+-- `keep::is_ready` meets its contract. Assumes nothing.
 use Prim.Native.Nat.{_-_}
 use lib.ListN.{length}
 use borrow.Author.Needs.{needs}
 use borrow.Author.Tests.{not-true, not-false}
 use Rattle.closure.proofs.PairLaws.{EveryPart, every-none}
 use Rattle.keep.specs.Keep.{readyBy}
-use Rattle.keep.proofs.PlaceLaws.{pair-ready, pair-waits, pairs-ready}
+use Rattle.keep.proofs.RankLaws.{pair-ready, pair-waits, pairs-ready}
 use Rattle.keep.proofs.is_ready.Statement.{statement}
 use Rattle.keep.proofs.is_ready.Tie as tie
 

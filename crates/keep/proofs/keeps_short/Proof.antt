@@ -1,22 +1,22 @@
--- `hierarchy::keeps_short` meets its contract. Assumes nothing.
+-- `keep::keeps_short` meets its contract. Assumes nothing.
 use Prim.Native.Nat.{_-_}
 use lib.ListN.{length}
 use borrow.Author.Needs.{needs}
 use borrow.Author.Tests.{not-true, not-false}
 use Rattle.closure.proofs.PairLaws.{EveryPart, every-none}
 use Rattle.keep.specs.Keep.{keptIn}
-use Rattle.keep.proofs.PlaceLaws.{pair-kept, pair-broken, pairs-kept}
+use Rattle.keep.proofs.RankLaws.{table-rank, pair-kept, pair-broken, pairs-kept}
 use Rattle.keep.proofs.keeps_short.Statement.{statement}
 use Rattle.keep.proofs.keeps_short.Tie as tie
 
 abbrev Inv-loop : tie.InvT-loop
-Inv-loop order pairs places at₀ at = EveryPart (keptIn order) pairs at
+Inv-loop order pairs ranks at₀ at = EveryPart (keptIn order) pairs at
 
 abbrev μ-loop : tie.MeasureT-loop
-μ-loop order pairs places at₀ at = length pairs - at
+μ-loop order pairs ranks at₀ at = length pairs - at
 
-note-places-requires : tie.Need-note-places-requires Inv-loop μ-loop
-note-places-requires c κs = search needs
+note-ranks-requires : tie.Need-note-ranks-requires Inv-loop μ-loop
+note-ranks-requires c κs = search needs
 
 loop-holds : tie.Need-loop-holds Inv-loop μ-loop
 loop-holds c = every-none _ _
@@ -49,7 +49,13 @@ kept-by-requires : tie.Need-kept-by-requires Inv-loop μ-loop
 kept-by-requires c κs = search needs
 
 returns : tie.Need-returns Inv-loop μ-loop
-returns c = let h = c .before .before .before .before .before .before in let w = c .before .before .before .before in let v = c .before .before in pair-broken _ _ _ _ _ _ _ (h .before .before .note-places .ensures) (w .wide .ensures .0) (v .wide2 .ensures .0) (w .wide .ensures .1) (v .wide2 .ensures .1) (h .loop-test .taken) (h .before .loop .inv) (c .before .kept-by .ensures) (not-true _ (c .if1 .taken))
+returns c =
+    let h = c .before .before .before .before .before .before in
+    let w = c .before .before .before .before .wide .ensures in
+    let v = c .before .before .wide2 .ensures in
+    let table = h .before .before .note-ranks .ensures in
+    pair-broken _ _ _ _ _ _ (table-rank _ _ _ _ table (w .0) (w .1)) (table-rank _ _ _ _ table (v .0) (v .1)) (h .loop-test .taken) (h .before .loop .inv)
+    (c .before .kept-by .ensures) (not-true _ (c .if1 .taken))
 
 add-at : tie.Need-add-at Inv-loop μ-loop
 add-at c = search needs
@@ -58,7 +64,13 @@ loop-less : tie.Need-loop-less Inv-loop μ-loop
 loop-less c = search needs
 
 loop-again : tie.Need-loop-again Inv-loop μ-loop
-loop-again c = let h = c .before .before .before .before .before .before in let w = c .before .before .before .before in let v = c .before .before in pair-kept _ _ _ _ _ _ _ (h .before .before .note-places .ensures) (w .wide .ensures .0) (v .wide2 .ensures .0) (w .wide .ensures .1) (v .wide2 .ensures .1) (h .loop-test .taken) (h .before .loop .inv) (c .before .kept-by .ensures) (not-false _ (c .if1 .left))
+loop-again c =
+    let h = c .before .before .before .before .before .before in
+    let w = c .before .before .before .before .wide .ensures in
+    let v = c .before .before .wide2 .ensures in
+    let table = h .before .before .note-ranks .ensures in
+    pair-kept _ _ _ _ _ _ (table-rank _ _ _ _ table (w .0) (w .1)) (table-rank _ _ _ _ table (v .0) (v .1)) (h .loop-test .taken) (h .before .loop .inv)
+    (c .before .kept-by .ensures) (not-false _ (c .if1 .left))
 
 returns-2 : tie.Need-returns-2 Inv-loop μ-loop
 returns-2 c = pairs-kept _ _ _ (c .loop-test .left) (c .before .loop .inv)
@@ -69,7 +81,7 @@ keeps-short-spec =
     (tie.spec
     Inv-loop
     μ-loop
-    note-places-requires
+    note-ranks-requires
     loop-holds
     add-loop
     shared-slice-read-wide

@@ -1,5 +1,5 @@
--- `hierarchy::kept_at` meets its contract. Assumes nothing.
-use Rattle.keep.proofs.PlaceLaws.{kept-absent, kept-there}
+-- `keep::kept_at` meets its contract. Assumes nothing.
+use Rattle.keep.proofs.RankLaws.{kept-absent, kept-there}
 use Rattle.keep.proofs.kept_at.Statement.{statement}
 use Rattle.keep.proofs.kept_at.Tie as tie
 

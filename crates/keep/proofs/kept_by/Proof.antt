@@ -1,5 +1,5 @@
--- `hierarchy::kept_by` meets its contract. Assumes nothing.
-use Rattle.keep.proofs.PlaceLaws.{kept-absent, kept-there}
+-- `keep::kept_by` meets its contract. Assumes nothing.
+use Rattle.keep.proofs.RankLaws.{kept-absent, kept-there}
 use Rattle.keep.proofs.kept_by.Statement.{statement}
 use Rattle.keep.proofs.kept_by.Tie as tie
 

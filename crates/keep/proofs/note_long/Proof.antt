@@ -1,19 +1,19 @@
--- `hierarchy::note_long` meets its contract. Assumes nothing.
+-- `keep::note_long` meets its contract. Assumes nothing.
 use Prim.Native.Nat.{_-_}
 use lib.ListN.{length}
 use borrow.Author.Needs.{needs}
-use Rattle.keep.proofs.PlaceLaws.{PlacesPart, places-none, places-more, places-all}
+use Rattle.keep.proofs.RankLaws.{RanksPart, ranks-none, ranks-more, ranks-all}
 use Rattle.keep.proofs.note_long.Statement.{statement}
 use Rattle.keep.proofs.note_long.Tie as tie
 
 abbrev Inv-loop : tie.InvT-loop
-Inv-loop order places₀ i₀ places i = PlacesPart order i places₀ places
+Inv-loop order ranks₀ i₀ ranks i = RanksPart order i ranks₀ ranks
 
 abbrev μ-loop : tie.MeasureT-loop
-μ-loop order places₀ i₀ places i = length order - i
+μ-loop order ranks₀ i₀ ranks i = length order - i
 
 loop-holds : tie.Need-loop-holds Inv-loop μ-loop
-loop-holds c = places-none _ _ (c .before .pre)
+loop-holds c = ranks-none _ _ (c .before .pre)
 
 shared-slice-read-wide : tie.Need-shared-slice-read-wide Inv-loop μ-loop
 shared-slice-read-wide c = search needs
@@ -24,20 +24,20 @@ wide-requires c κs = search needs
 add-i : tie.Need-add-i Inv-loop μ-loop
 add-i c = search needs
 
-mul-places : tie.Need-mul-places Inv-loop μ-loop
-mul-places c = search needs
+mul-ranks : tie.Need-mul-ranks Inv-loop μ-loop
+mul-ranks c = search needs
 
-element-write-places : tie.Need-element-write-places Inv-loop μ-loop
-element-write-places c = search needs
+element-write-ranks : tie.Need-element-write-ranks Inv-loop μ-loop
+element-write-ranks c = search needs
 
 loop-less : tie.Need-loop-less Inv-loop μ-loop
 loop-less c = search needs
 
 loop-again : tie.Need-loop-again Inv-loop μ-loop
-loop-again c = places-more _ _ _ _ _ (c .wide .ensures .0) (c .wide .ensures .1) (c .before .before .loop-test .taken) (c .before .before .before .loop .inv)
+loop-again c = ranks-more _ _ _ _ _ (c .wide .ensures .0) (c .wide .ensures .1) (c .before .before .loop-test .taken) (c .before .before .before .loop .inv)
 
 returns : tie.Need-returns Inv-loop μ-loop
-returns c = places-all _ _ _ _ (c .loop-test .left) (c .before .loop .inv)
+returns c = ranks-all _ _ _ _ (c .loop-test .left) (c .before .loop .inv)
 
 pub note-long-spec : {M : Type 1} → statement M
 note-long-spec =
@@ -49,8 +49,8 @@ note-long-spec =
     shared-slice-read-wide
     wide-requires
     add-i
-    mul-places
-    element-write-places
+    mul-ranks
+    element-write-ranks
     loop-less
     loop-again
     returns)

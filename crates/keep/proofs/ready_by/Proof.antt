@@ -1,5 +1,5 @@
--- `hierarchy::ready_by` meets its contract. Assumes nothing.
-use Rattle.keep.proofs.PlaceLaws.{ready-other, ready-flag}
+-- `keep::ready_by` meets its contract. Assumes nothing.
+use Rattle.keep.proofs.RankLaws.{ready-other, ready-flag}
 use borrow.Author.Needs.{needs}
 use Rattle.keep.proofs.ready_by.Statement.{statement}
 use Rattle.keep.proofs.ready_by.Tie as tie

@@ -1,10 +1,10 @@
--- `hierarchy::last_place` meets its contract. Assumes nothing.
+-- `hierarchy::last_rank` meets its contract. Assumes nothing.
 use Prim.Native.Nat.{_-_}
 use lib.ListN.{length}
 use borrow.Author.Needs.{needs}
-use Rattle.keep.proofs.PlaceLaws.{LatestPart, latest-none, latest-here, latest-other, latest-all}
-use Rattle.hierarchy.proofs.last_place.Statement.{statement}
-use Rattle.hierarchy.proofs.last_place.Tie as tie
+use Rattle.keep.proofs.RankLaws.{LatestPart, latest-none, latest-here, latest-other, latest-all}
+use Rattle.hierarchy.proofs.last_rank.Statement.{statement}
+use Rattle.hierarchy.proofs.last_rank.Tie as tie
 
 abbrev Inv-loop : tie.InvT-loop
 Inv-loop ids id met₀ i₀ met i = LatestPart id ids i met
@@ -39,8 +39,8 @@ loop-again-2 c = let h = c .before .before in latest-other _ _ _ _ (h .loop-test
 returns : tie.Need-returns Inv-loop μ-loop
 returns c = latest-all _ _ _ _ (c .loop-test .left) (c .before .loop .inv)
 
-pub last-place-spec : {M : Type 1} → statement M
-last-place-spec =
+pub last-rank-spec : {M : Type 1} → statement M
+last-rank-spec =
     tie.close
     (tie.spec
     Inv-loop

@@ -1,21 +1,21 @@
--- `hierarchy::settle` meets its contract. Assumes nothing.
+-- `hierarchy::take_queue` meets its contract. Assumes nothing.
 use Prim.Native.Nat.{_-_}
 use mathlib.Core.Path.{refl}
 use borrow.Author.Needs.{needs}
 use Rattle.closure.specs.Limits.{CONTOURS}
-use Rattle.hierarchy.specs.Sort.{standing}
-use Rattle.hierarchy.proofs.SortLaws.{SettlePart, settle-none, settle-more, settle-all}
-use Rattle.hierarchy.proofs.settle.Statement.{statement}
-use Rattle.hierarchy.proofs.settle.Tie as tie
+use Rattle.hierarchy.specs.Code.{standing}
+use Rattle.hierarchy.proofs.SortLaws.{QueuePart, queue-none, queue-more, queue-all}
+use Rattle.hierarchy.proofs.take_queue.Statement.{statement}
+use Rattle.hierarchy.proofs.take_queue.Tie as tie
 
 abbrev Inv-loop : tie.InvT-loop
-Inv-loop pairs n waits₀ order₀ free count₀ i₀ waits order count i = SettlePart n pairs i (standing waits₀ order₀ free) waits order count
+Inv-loop pairs n waits₀ order₀ free count₀ i₀ waits order count i = QueuePart n pairs i (standing waits₀ order₀ free) waits order count
 
 abbrev μ-loop : tie.MeasureT-loop
 μ-loop pairs n waits₀ order₀ free count₀ i₀ waits order count i = CONTOURS - i
 
 loop-holds : tie.Need-loop-holds Inv-loop μ-loop
-loop-holds c = settle-none _ _ _ _ _ (c .before .pre .1)
+loop-holds c = queue-none _ _ _ _ _ (c .before .pre .1)
 
 mul-x : tie.Need-mul-x Inv-loop μ-loop
 mul-x c = search needs
@@ -24,7 +24,7 @@ element-copy-out-x : tie.Need-element-copy-out-x Inv-loop μ-loop
 element-copy-out-x c = search needs
 
 release-requires : tie.Need-release-requires Inv-loop μ-loop
-release-requires c κs = (search needs, c .before .before .before .before .loop .inv .sound)
+release-requires c κs = (search needs, c .before .before .before .before .loop .inv .roomy)
 
 add-i : tie.Need-add-i Inv-loop μ-loop
 add-i c = search needs
@@ -35,13 +35,13 @@ loop-less c = search needs
 loop-again : tie.Need-loop-again Inv-loop μ-loop
 loop-again c =
     let h = c .before .before .before .before in
-    settle-more _ _ _ _ _ _ _ _ _ _ _ (h .loop-test .taken) refl (h .before .loop .inv) (c .release .ensures)
+    queue-more _ _ _ _ _ _ _ _ _ _ _ (h .loop-test .taken) refl (h .before .loop .inv) (c .release .ensures)
 
 returns : tie.Need-returns Inv-loop μ-loop
-returns c = settle-all _ _ _ _ _ _ _ (c .loop-test .left) (c .before .loop .inv)
+returns c = queue-all _ _ _ _ _ _ _ (c .loop-test .left) (c .before .loop .inv)
 
-pub settle-spec : {M : Type 1} → statement M
-settle-spec =
+pub take-queue-spec : {M : Type 1} → statement M
+take-queue-spec =
     tie.close
     (tie.spec
     Inv-loop

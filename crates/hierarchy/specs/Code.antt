@@ -1,0 +1,34 @@
+-- How the code holds Kahn's order: in one array the positions taken and behind them the queue, in another the waits. Assumes nothing.
+use mathlib.Core.Bool.{cond}
+use mathlib.Core.List.{List, [], _∷_}
+use mathlib.Core.Path.{_≡_}
+use Prim.Native.Nat.{ℕ, _+_, _≤_}
+use lib.Dec.{eqb}
+use lib.ListN.{length, take, drop}
+use Rattle.closure.specs.Limits.{CONTOURS}
+use Rattle.hierarchy.specs.Fill.{Filled}
+use Rattle.hierarchy.specs.Sort.{Kahn}
+
+-- so many of the positions are held back
+unfoldable pub heldCount : List ℕ → ℕ
+heldCount [] = 0
+heldCount (w ∷ more) = heldCount more + cond (eqb w 0) 0 1
+
+-- the arrays as they stand, all that is in the order seen as the queue
+abbrev pub standing : List ℕ → List ℕ → ℕ → Kahn
+standing waits order count = record { taken = []; queue = take count order; waits = waits }
+
+-- the first i of that queue are taken
+abbrev pub firstTaken : ℕ → Kahn → Kahn
+firstTaken i s = record { taken = take i (s .queue); queue = drop i (s .queue); waits = s .waits }
+
+-- the order has room for every position still held back
+pub record Roomy (waits order : List ℕ) (count : ℕ) : Type 0 where
+  pub size : length waits ≡ CONTOURS
+  pub filled : Filled CONTOURS order count (take count order)
+  pub room : count + heldCount waits ≤ CONTOURS
+
+-- the arrays hold this
+pub record Stands (s : Kahn) (waits order : List ℕ) (count : ℕ) : Type 0 where
+  pub roomy : Roomy waits order count
+  pub is : standing waits order count ≡ s
