@@ -12,5 +12,4 @@ pub mod NextLaws
 pub mod Demand2
 pub mod Demand3
 pub mod Starred
-pub mod Hosts
 pub mod Unique

@@ -139,9 +139,6 @@ of-tours = record {
   solve-nn = λ s. one _;
   homes-of = λ all home. one _;
   bits-of = λ x. one _;
-  jl-check = λ s. one _;
-  jl-tour = λ s room moves bits. one _;
-  jl-place = λ s candidate contour within. one _;
 }
 
 pub claim : Claim

@@ -52,7 +52,6 @@ use Rattle.solve.specs.declared.Outcome.{Outcome}
 use Rattle.solve.specs.Solve.{Solved}
 use Rattle.tour.specs.Tour.{noDistances, tourOf}
 use Rattle.tour.specs.Questions.{locatedOf}
-use Rattle.tour.specs.Hosts.{hostTour, hostPlace}
 use Rattle.questions.specs.Nearest.{nearestOf}
 use Rattle.questions.specs.Order.{evaluated}
 use Rattle.questions.specs.Index.{pickedOf, globalOf}
@@ -180,9 +179,6 @@ pub record OfTours : Type 0 where
   pub solve-nn : (s : List ℕ) → OneAnswer (Is (nearestOf s))
   pub homes-of : (all : Instance) (home : Point) → OneAnswer (Is (homed (all .items) (all .count) home noDistances))
   pub bits-of : (x : Float) → OneAnswer (Is (toBits binary64 x))
-  pub jl-check : (s : List ℕ) → OneAnswer (Is (codeOf (checkOf s)))
-  pub jl-tour : (s room : List ℕ) (moves bits : ℕ) → OneAnswer (Is (hostTour s room moves bits))
-  pub jl-place : (s : List ℕ) (candidate contour within : ℕ) → OneAnswer (Is (hostPlace (locatedOf s candidate) contour within))
 
 abbrev pub Claim : Type 0
 Claim = OfNumbers × OfBlocks × OfCost × OfCandidates × OfPairs × OfCards × OfReader × OfSearch × OfTours

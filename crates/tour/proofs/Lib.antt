@@ -1,4 +1,3 @@
 pub mod RunLaws
 pub mod DoorLaws
-pub mod HostLaws
 pub mod PlaceLaws

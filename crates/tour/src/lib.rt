@@ -4,8 +4,7 @@ ghost use mathlib.Core.Path.{_≡_};
 ghost use Prim.Native.Nat.{_*_};
 ghost use lib.Dec.{leb};
 ghost use lib.Ieee.{toBits, binary64};
-ghost use Rattle.answer.specs.declared.Check.the-variants.{Fine, Refused};
-ghost use Rattle.answer.specs.Code.{codeOf};
+ghost use Rattle.answer.specs.declared.Check.the-variants.{Fine};
 ghost use Rattle.answer.specs.Lowest.{refuseIf};
 ghost use Rattle.fields.specs.Layout.{contoursOf};
 ghost use Rattle.card.specs.Verdict.{checkOf};
@@ -15,14 +14,12 @@ ghost use Rattle.table.specs.Distances.{homed};
 ghost use Rattle.tour.specs.Search.{countOn, tableOn, sheetOn, endOn};
 ghost use Rattle.tour.specs.Tour.{left, noDistances, roomCheck, toured, touredUnless, tourOf};
 ghost use Rattle.tour.specs.Questions.{placeOn, locatedUnless, locatedOf};
-ghost use Rattle.tour.specs.Hosts.{hosted, hostTour, pointed, hostPlace};
 use answer::Check;
 use answer::Point;
 use answer::Refusal;
 use fields::CANDIDATES;
 use instance::Instance;
 use solve::Outcome;
-use table::ENTRIES;
 
 // Where a candidate is: its contour, and its number within that contour.
 pub struct Place {
@@ -162,15 +159,6 @@ pub fn global_to_local(card: &[u8], number: usize) -> Located
     }
 }
 
-// ---- for hosts
-
-// A refusal as one number.
-fn told(r: Refusal) -> u64
-    ensures { λ a. ⌜ a ≡ codeOf (Refused r) ⌝ }
-{
-    answer::code(Check::Refused(r))
-}
-
 // A float's bits, one pattern for what is no number.
 pub fn bits_of(x: f64) -> u64
     ensures { λ r. ⌜ r ≡ toBits binary64 x ⌝ }
@@ -179,50 +167,4 @@ pub fn bits_of(x: f64) -> u64
         return 0x7ff8_0000_0000_0000;
     }
     f64::to_bits(x)
-}
-
-// A card's check as one number: 0, or the refusal's number times 2^32 plus its place.
-#[no_mangle]
-pub extern "C" fn jl_check(card: &[u8]) -> u64
-    ensures { λ r. ⌜ r ≡ codeOf (checkOf (now (card .entry))) ⌝ }
-{
-    answer::code(card::check(card))
-}
-
-// The tour of a card into a room of bytes, with the trials and the bits of the length through lent numbers. A refusal keeps them all.
-#[no_mangle]
-pub extern "C" fn jl_tour(
-    card: &[u8],
-    tour: &mut [u8],
-    moves: &mut u64,
-    length_bits: &mut u64,
-) -> u64
-    ensures { λ r. ⌜ hosted r (now (tour .exit)) (now (moves .exit)) (now («length_bits» .exit))
-        ≡ hostTour (now (card .entry)) (now (tour .entry)) (now (moves .entry)) (now («length_bits» .entry)) ⌝ }
-{
-    let mut table = [0.0; ENTRIES];
-    match crate::tour(card, tour, &mut table) {
-        Toured::Refused(r) => told(r),
-        Toured::Done(o) => {
-            *moves = o.moves;
-            *length_bits = bits_of(o.length);
-            0
-        }
-    }
-}
-
-// Where a candidate is, through lent numbers that a refusal keeps.
-#[no_mangle]
-pub extern "C" fn jl_place(card: &[u8], candidate: u64, contour: &mut u64, within: &mut u64) -> u64
-    ensures { λ r. ⌜ pointed r (now (contour .exit)) (now (within .exit))
-        ≡ hostPlace (locatedOf (now (card .entry)) candidate) (now (contour .entry)) (now (within .entry)) ⌝ }
-{
-    match global_to_local(card, candidate as usize) {
-        Located::Refused(r) => told(r),
-        Located::At(p) => {
-            *contour = p.contour as u64;
-            *within = p.within as u64;
-            0
-        }
-    }
 }
