@@ -29,7 +29,8 @@ use Rattle.improve.specs.Search.{lengthIn}
 use Rattle.improve.proofs.LengthLaws.{HomeFits, never-longer}
 use Rattle.solve.specs.declared.Outcome.{Outcome}
 use Rattle.tour.specs.declared.Toured.the-variants.{Done}
-use Rattle.tour.specs.Search.{homeOn, candidatesOn, countOn, ownersOn, homesOn, sheetOn, startOn, endOn, tourOn, outcomeOn}
+use Rattle.instance.specs.Search.{homeOn, candidatesOn, countOn, ownersOn, homesOn, sheetOn}
+use Rattle.tour.specs.Search.{startOn, endOn, tourOn, outcomeOn}
 use Rattle.tour.specs.Tour.{Left, tourOf}
 use Rattle.demands.specs.Demand3.{stopOn, OnGrid, legsOn, nearness, excess, Good, Claim}
 use Rattle.demands.proofs.AskedLaws.{toured-if, done-fine, fine-nothing}

@@ -25,7 +25,8 @@ use Rattle.instance.specs.Gather.{gathered, offersOf}
 use Rattle.instance.proofs.FineLaws.{some-offers}
 use Rattle.instance.proofs.OwnerLaws.{first-at, grouped}
 use Rattle.solve.specs.Solve.{groundIn}
-use Rattle.tour.specs.Search.{homeOn, candidatesOn, countOn, ownersOn, firstsOn, pairsOn, sheetOn, startOn, endOn, tourOn}
+use Rattle.instance.specs.Search.{homeOn, candidatesOn, countOn, ownersOn, firstsOn, pairsOn, sheetOn}
+use Rattle.tour.specs.Search.{startOn, endOn, tourOn}
 use Rattle.demands.specs.Demand1.{LegalOrder}
 use Rattle.demands.proofs.BelowLaws.{AllBelow, below-at, below-kept, start-below}
 use Rattle.demands.proofs.GatherLaws.{firsts-below, ends-gathered, candidate-near}

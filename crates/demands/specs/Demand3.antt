@@ -16,7 +16,8 @@ use Rattle.improve.specs.Search.{contours}
 use Rattle.solve.specs.declared.Outcome.{Outcome}
 use Rattle.fields.specs.Layout.{contoursOf}
 use Rattle.tour.specs.declared.Toured.the-variants.{Done}
-use Rattle.tour.specs.Search.{homeOn, candidatesOn, countOn, ownersOn, startOn}
+use Rattle.instance.specs.Search.{homeOn, candidatesOn, countOn, ownersOn}
+use Rattle.tour.specs.Search.{startOn}
 use Rattle.tour.specs.Tour.{tourOf}
 use Rattle.demands.specs.Demand1.{LegalOrder}
 

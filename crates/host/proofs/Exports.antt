@@ -20,7 +20,7 @@ use Rattle.card_laws.specs.Table.{Given, one, two, three, four, five, three-lat
 use Rattle.card_laws.proofs.Verdicts.{exactly}
 use Rattle.table.proofs.PlaceLaws.{square-small}
 use Rattle.instance.proofs.FineLaws.{few-candidates}
-use Rattle.tour.specs.Search.{countOn}
+use Rattle.instance.specs.Search.{countOn}
 use Rattle.tour.specs.Tour.{Left, roomCheck, tourCheck, toured, touredUnless, tourOf}
 use Rattle.host.specs.Hosts.{Hosted, hostCheck, hostedUnless, hostTour}
 use Rattle.host.specs.Exports.{asTold, Coded, TourTold, Claim}

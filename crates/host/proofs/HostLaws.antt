@@ -23,11 +23,12 @@ use Rattle.solve.specs.declared.Outcome.{Outcome}
 use Rattle.tour.specs.declared.Toured.{Toured}
 use Rattle.tour.specs.declared.Toured.the-variants as answer
 use Rattle.solve.specs.Solve.{placed}
-use Rattle.tour.specs.Search.{countOn, tourOn, outcomeOn}
+use Rattle.instance.specs.Search.{countOn}
+use Rattle.tour.specs.Search.{tourOn, outcomeOn}
 use Rattle.tour.specs.Tour.{Left, left, roomCheck, tourCheck, toured, touredUnless, tourOf}
-use Rattle.tour.specs.declared.Place.{Place}
-use Rattle.tour.specs.declared.Located.{Located}
-use Rattle.tour.specs.declared.Located.the-variants as located
+use Rattle.questions.specs.declared.Place.{Place}
+use Rattle.questions.specs.declared.Located.{Located}
+use Rattle.questions.specs.declared.Located.the-variants as located
 use Rattle.host.specs.Hosts.{pointed, hostPlace, hosted, hostCheck, hostedUnless, hostTour}
 
 -- the library's own table is large enough for every accepted card

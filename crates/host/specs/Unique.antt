@@ -4,7 +4,7 @@ use Prim.Native.Nat.{ℕ}
 use Rattle.answer.specs.Code.{codeOf}
 use Rattle.answer.specs.Unique.{OneAnswer, Is}
 use Rattle.card.specs.Verdict.{checkOf}
-use Rattle.tour.specs.Questions.{locatedOf}
+use Rattle.questions.specs.Index.{locatedOf}
 use Rattle.host.specs.Hosts.{hostTour, hostPlace}
 
 pub record Unique : Type 0 where

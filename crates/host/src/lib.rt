@@ -4,12 +4,12 @@ ghost use mathlib.Core.Path.{_≡_};
 ghost use Rattle.answer.specs.declared.Check.the-variants.{Refused};
 ghost use Rattle.answer.specs.Code.{codeOf};
 ghost use Rattle.card.specs.Verdict.{checkOf};
-ghost use Rattle.tour.specs.Questions.{locatedOf};
+ghost use Rattle.questions.specs.Index.{locatedOf};
 ghost use Rattle.host.specs.Hosts.{hosted, hostTour, pointed, hostPlace};
 use answer::Check;
 use answer::Refusal;
+use questions::Located;
 use table::ENTRIES;
-use tour::Located;
 use tour::Toured;
 
 // A refusal as one number.
@@ -55,7 +55,7 @@ pub extern "C" fn jl_place(card: &[u8], candidate: u64, contour: &mut u64, withi
     ensures { λ r. ⌜ pointed r (now (contour .exit)) (now (within .exit))
         ≡ hostPlace (locatedOf (now (card .entry)) candidate) (now (contour .entry)) (now (within .entry)) ⌝ }
 {
-    match tour::global_to_local(card, candidate as usize) {
+    match questions::global_to_local(card, candidate as usize) {
         Located::Refused(r) => told(r),
         Located::At(p) => {
             *contour = p.contour as u64;

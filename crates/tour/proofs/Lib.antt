@@ -1,3 +1,2 @@
 pub mod RunLaws
 pub mod DoorLaws
-pub mod PlaceLaws

@@ -1,3 +1,2 @@
 pub mod Search
 pub mod Tour
-pub mod Questions

@@ -43,7 +43,8 @@ use Rattle.card_laws.specs.Table.{Given, twelve, Past11}
 use Rattle.card_laws.proofs.Starred.{examples}
 use Rattle.card_laws.proofs.Verdicts.{exactly}
 use Rattle.exact.specs.Grid.{gridPoint, gridPoints}
-use Rattle.tour.specs.Search.{candidatesOn, sheetOn, endOn, outcomeOn}
+use Rattle.instance.specs.Search.{candidatesOn, sheetOn}
+use Rattle.tour.specs.Search.{endOn, outcomeOn}
 use Rattle.tour.specs.Tour.{tourCheck, roomCheck, tourOf}
 use Rattle.text.specs.Text as text
 use Rattle.text.specs.Text.{decimalIn, decimalOf, hexOf}
