@@ -51,7 +51,7 @@ no-cargo:
 
 # The archives that Rust and C link, for this machine.
 archives:
-	hosts/native/archive.sh probe tour
+	hosts/native/archive.sh probe host
 
 differential: archives
 	$(ORACLE) differential -- --seed $(SEED)
@@ -65,7 +65,7 @@ soak: archives
 
 # Over archives that count which of their code is reached, so that what reaches more is tried further.
 fuzz:
-	hosts/native/archive.sh --covered tour
+	hosts/native/archive.sh --covered host
 	$(MAKE) --no-print-directory archives
 	cp target/staticlib/libprobe.a target/covered/
 	JAMBOLIVE_ARCHIVES=target/covered $(ORACLE) fuzz --features covered --target-dir target/fuzz \

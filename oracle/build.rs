@@ -7,7 +7,7 @@ fn main() {
     println!("cargo:rerun-if-env-changed=JAMBOLIVE_ARCHIVES");
     let folder = top.join(std::env::var("JAMBOLIVE_ARCHIVES").unwrap_or("target/staticlib".to_string()));
     println!("cargo:rustc-link-search=native={}", folder.display());
-    for archive in ["probe", "tour"] {
+    for archive in ["probe", "host"] {
         let path = folder.join(format!("lib{archive}.a"));
         println!("cargo:rerun-if-changed={}", path.display());
         assert!(path.exists(), "{} is not there: run `make archives` first", path.display());

@@ -1,4 +1,4 @@
-/* In which order to cut a sheet: the calls of the proved library, target/staticlib/libtour.a (and -lm).
+/* In which order to cut a sheet: the calls of the proved library, target/staticlib/libhost.a (and -lm).
  *
  * A card is any `bytes` bytes at `card`. Every call answers one number: 0, or why it refuses, as the refusal's
  * number times 2^32 plus its place; docs/CARD.md says what each number and place means. Nothing that is lent is kept,

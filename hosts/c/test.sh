@@ -7,7 +7,7 @@ cd "$(dirname "$0")/../.."
 command -v cc >/dev/null || { echo 'C host: left out, no cc on this machine'; exit 0; }
 list=target/staticlib/list
 # -lm: the remainder of two floats is the C library's fmod
-cc -std=c11 -O2 -Wall -Wextra -Werror -pedantic -o "$list" hosts/c/list.c target/staticlib/libtour.a -lm
+cc -std=c11 -O2 -Wall -Wextra -Werror -pedantic -o "$list" hosts/c/list.c target/staticlib/libhost.a -lm
 
 prints() { # WORDS..: the program, run on every input
     cards=0

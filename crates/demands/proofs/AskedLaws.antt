@@ -18,7 +18,8 @@ use Rattle.card.specs.Verdict.{checkOf}
 use Rattle.card_laws.proofs.Verdicts.{exactly}
 use Rattle.solve.specs.declared.Outcome.{Outcome}
 use Rattle.tour.specs.declared.Toured.the-variants as answer
-use Rattle.tour.specs.Search.{countOn, outcomeOn}
+use Rattle.instance.specs.Search.{countOn}
+use Rattle.tour.specs.Search.{outcomeOn}
 use Rattle.tour.specs.Tour.{Left, roomCheck, tourCheck, toured, touredUnless, tourOf}
 use Rattle.demands.specs.Demand1.{small-room, small-table, GivenWith, by-card, thirteen, Nothing, Asked}
 

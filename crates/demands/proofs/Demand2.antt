@@ -34,7 +34,8 @@ use Rattle.instance.proofs.FineLaws.{outline-whole}
 use Rattle.instance.proofs.OwnerLaws.{first-at, gathered-grows, owner-at}
 use Rattle.solve.specs.declared.Outcome.{Outcome}
 use Rattle.tour.specs.declared.Toured.the-variants.{Done}
-use Rattle.tour.specs.Search.{homeOn, candidatesOn, countOn, ownersOn, sheetOn, startOn, endOn, tourOn, outcomeOn}
+use Rattle.instance.specs.Search.{homeOn, candidatesOn, countOn, ownersOn, sheetOn}
+use Rattle.tour.specs.Search.{startOn, endOn, tourOn, outcomeOn}
 use Rattle.tour.specs.Tour.{Left, tourOf}
 use Rattle.demands.specs.Demand2.{ownOn, Numbered, Apart, Trials, begunOn, searchOn, passesOn, Begins, Order, Cut, Claim}
 use Rattle.demands.proofs.AskedLaws.{toured-if, done-fine, fine-nothing}

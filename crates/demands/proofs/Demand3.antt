@@ -21,7 +21,8 @@ use Rattle.improve.specs.Search.{lengthIn}
 use Rattle.improve.proofs.LengthLaws.{never-longer}
 use Rattle.solve.specs.declared.Outcome.{Outcome}
 use Rattle.tour.specs.declared.Toured.the-variants.{Done}
-use Rattle.tour.specs.Search.{sheetOn, startOn, endOn, tourOn, outcomeOn}
+use Rattle.instance.specs.Search.{sheetOn}
+use Rattle.tour.specs.Search.{startOn, endOn, tourOn, outcomeOn}
 use Rattle.tour.specs.Tour.{Left, tourOf}
 use Rattle.tour_laws.proofs.TourLaws.{start-visits, tour-long, tour-legal, tour-visits}
 use Rattle.demands.specs.Demand3.{OnGrid, legsOn, nearness, excess, Good, Claim}

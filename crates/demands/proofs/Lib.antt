@@ -7,5 +7,4 @@ pub mod Demand2
 pub mod NearLaws
 pub mod Demand3
 pub mod Starred
-pub mod Hosts
 pub mod Unique

@@ -22,7 +22,7 @@ use Rattle.exact.proofs.SumLaws.{length-plain}
 use Rattle.exact.proofs.RouteLaws.{computed, squares, route-legs, route-near, route-length, route-excess}
 use Rattle.improve.specs.Search.{lengthIn}
 use Rattle.improve.proofs.LengthLaws.{HomeFits}
-use Rattle.tour.specs.Search.{homeOn, candidatesOn, countOn, ownersOn, homesOn, sheetOn}
+use Rattle.instance.specs.Search.{homeOn, candidatesOn, countOn, ownersOn, homesOn, sheetOn}
 use Rattle.tour_laws.specs.Visits.{AllBelow, Visits}
 use Rattle.tour_laws.proofs.GatherLaws.{ends-gathered}
 use Rattle.tour_laws.proofs.RouteLaws.{evaluated}

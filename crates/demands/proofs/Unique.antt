@@ -99,6 +99,7 @@ of-cards = record {
   position-of = λ s id. one _;
   pair-places = λ s. one _;
   gather = λ s. one _;
+  prepare = λ s. one _;
 }
 
 of-reader : OfReader
@@ -137,11 +138,9 @@ of-tours = record {
   candidate = λ s number. one _;
   evaluate = λ s order. one _;
   solve-nn = λ s. one _;
-  homes-of = λ all home. one _;
+  locate = λ all a. one _;
+  order-check = λ n owner t order. one _;
   bits-of = λ x. one _;
-  jl-check = λ s. one _;
-  jl-tour = λ s room moves bits. one _;
-  jl-place = λ s candidate contour within. one _;
 }
 
 pub claim : Claim

@@ -16,7 +16,8 @@ use Rattle.card_laws.specs.Table.{Given, Sound, Past11}
 use Rattle.card_laws.specs.Orders.{LegalOrder, RefusedWith}
 use Rattle.card.specs.Verdict.{checkOf}
 use Rattle.tour.specs.declared.Toured.the-variants as answer
-use Rattle.tour.specs.Search.{countOn, outcomeOn}
+use Rattle.instance.specs.Search.{countOn}
+use Rattle.tour.specs.Search.{outcomeOn}
 use Rattle.tour.specs.Tour.{tourOf}
 
 -- ---- 13

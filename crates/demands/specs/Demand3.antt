@@ -17,7 +17,8 @@ use Rattle.solve.specs.declared.Outcome.{Outcome}
 use Rattle.fields.specs.Layout.{contoursOf}
 use Rattle.card_laws.specs.Orders.{LegalOrder}
 use Rattle.tour.specs.declared.Toured.the-variants.{Done}
-use Rattle.tour.specs.Search.{homeOn, candidatesOn, countOn, ownersOn, startOn}
+use Rattle.instance.specs.Search.{homeOn, candidatesOn, countOn, ownersOn}
+use Rattle.tour.specs.Search.{startOn}
 use Rattle.tour.specs.Tour.{tourOf}
 
 -- where candidate a of the card is pierced

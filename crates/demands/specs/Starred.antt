@@ -17,7 +17,8 @@ use Rattle.fields.specs.Layout.{jobOf, idOf, tagOf}
 use Rattle.card_laws.specs.Card.{Card}
 use Rattle.card_laws.specs.Write.{written}
 use Rattle.card_laws.specs.Examples.{asJob41, job41, selfPair, waiting, verdictOn}
-use Rattle.tour.specs.Search.{candidatesOn, ownersOn, firstsOn, tourOn, outcomeOn}
+use Rattle.instance.specs.Search.{candidatesOn, ownersOn, firstsOn}
+use Rattle.tour.specs.Search.{tourOn, outcomeOn}
 
 -- the root of one pattern of bits is another
 abbrev pub HasRoot : ℕ → ℕ → Type 0

@@ -48,14 +48,13 @@ use Rattle.improve.specs.Search.{Sheet, State}
 use Rattle.improve.specs.Code.{Reached}
 use Rattle.instance.specs.declared.Instance.{Instance}
 use Rattle.instance.specs.Room.{instanceOf}
+use Rattle.instance.specs.Prepared.{preparedOf}
 use Rattle.solve.specs.declared.Outcome.{Outcome}
 use Rattle.solve.specs.Solve.{Solved}
-use Rattle.tour.specs.Tour.{noDistances, tourOf}
-use Rattle.tour.specs.Questions.{locatedOf}
-use Rattle.tour.specs.Hosts.{hostTour, hostPlace}
+use Rattle.tour.specs.Tour.{tourOf}
 use Rattle.questions.specs.Nearest.{nearestOf}
-use Rattle.questions.specs.Order.{evaluated}
-use Rattle.questions.specs.Index.{pickedOf, globalOf}
+use Rattle.questions.specs.Order.{orderCheck, evaluated}
+use Rattle.questions.specs.Index.{pickedOf, placeIn, locatedOf, globalOf}
 
 -- answer, root
 pub record OfNumbers : Type 0 where
@@ -142,6 +141,7 @@ pub record OfCards : Type 0 where
   pub position-of : (s : List ℕ) (id : ℕ) → OneAnswer (Is (positionOf s id))
   pub pair-places : (s : List ℕ) → OneAnswer (Is (namedOf s))
   pub gather : (s : List ℕ) → OneAnswer (Is (instanceOf s))
+  pub prepare : (s : List ℕ) → OneAnswer (Is (preparedOf s))
 
 -- reader: on a slice and a place, on the struct that holds both, and over a card
 pub record OfReader : Type 0 where
@@ -178,11 +178,9 @@ pub record OfTours : Type 0 where
   pub candidate : (s : List ℕ) (number : ℕ) → OneAnswer (Is (pickedOf s number))
   pub evaluate : (s order : List ℕ) → OneAnswer (Is (evaluated s order))
   pub solve-nn : (s : List ℕ) → OneAnswer (Is (nearestOf s))
-  pub homes-of : (all : Instance) (home : Point) → OneAnswer (Is (homed (all .items) (all .count) home noDistances))
+  pub locate : (all : Instance) (a : ℕ) → OneAnswer (Is (placeIn all a))
+  pub order-check : (n : ℕ) (owner : List ℕ) (t : ℕ) (order : List ℕ) → OneAnswer (Is (orderCheck n owner t order))
   pub bits-of : (x : Float) → OneAnswer (Is (toBits binary64 x))
-  pub jl-check : (s : List ℕ) → OneAnswer (Is (codeOf (checkOf s)))
-  pub jl-tour : (s room : List ℕ) (moves bits : ℕ) → OneAnswer (Is (hostTour s room moves bits))
-  pub jl-place : (s : List ℕ) (candidate contour within : ℕ) → OneAnswer (Is (hostPlace (locatedOf s candidate) contour within))
 
 abbrev pub Claim : Type 0
 Claim = OfNumbers × OfBlocks × OfCost × OfCandidates × OfPairs × OfCards × OfReader × OfSearch × OfTours

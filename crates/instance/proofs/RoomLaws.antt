@@ -5,7 +5,7 @@ use Prim.Native.Nat.{ℕ, zero, suc, _+_, _*_, _-_, _<_, _≤_}
 use native.Mathlib.Nat.{sub-zero, zero-sub}
 use native.Mathlib.Numerals.{add-one}
 use native.Mathlib.Omega.{arith}
-use lib.ListN.{length, take, drop, set, replicate, length-append, length-replicate}
+use lib.ListN.{length, take, drop, getD, set, replicate, length-append, length-replicate}
 use lib.Seq.{paste, sets-eq, take-append-seam, take-at, drop-append-add, length-take-le}
 use lib.Ieee.{Float}
 use Rattle.answer.specs.declared.Point.{Point}
@@ -64,3 +64,14 @@ pub flat-more : (ps : List Point) (p : Point) → flat (ps ++ (p ∷ [])) ≡ fl
 unfolding flat
 flat-more [] p = refl
 flat-more (q ∷ more) p = ap (λ (l : List Float). q .x ∷ q .y ∷ l) (flat-more more p)
+
+-- what is not used of a room reads as 0, as what lies outside of a list does
+none-at : (size a : ℕ) → _≡_ {A = ℕ} (getD (replicate size 0) a 0) 0
+none-at zero a = refl
+none-at (suc size) zero = refl
+none-at (suc size) (suc a) = none-at size a
+
+pub padded-at : (l : List ℕ) (size a : ℕ) → getD (l ++ replicate size 0) a 0 ≡ getD l a 0
+padded-at [] size a = none-at size a
+padded-at (x ∷ l) size zero = refl
+padded-at (x ∷ l) size (suc a) = padded-at l size a

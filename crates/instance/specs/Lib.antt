@@ -1,2 +1,4 @@
 pub mod Gather
 pub mod Room
+pub mod Search
+pub mod Prepared

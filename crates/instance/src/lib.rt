@@ -1,17 +1,20 @@
-// A card's candidates gathered for the search: all of them, contour after contour, with the contour that each belongs to and the
-// number of each contour's first. Every question takes the card as any bytes; a card whose head asks for more than can be held has
-// no contours here.
+// A card prepared for the search: all its candidates, contour after contour, with the contour that each belongs to and the number of
+// each contour's first; how far each is from home; and the pairs as positions. Every question takes the card as any bytes; a card whose
+// head asks for more than can be held has no contours here.
 ghost use mathlib.Core.Path.{_≡_};
 ghost use mathlib.Core.List.{[]};
 ghost use Prim.Native.Nat.{min};
-ghost use Rattle.fields.specs.Limits.{vertexLimit};
+ghost use Rattle.table.specs.Distances.{homed};
 ghost use Rattle.candidates.specs.Generate.{filled};
 ghost use Rattle.instance.specs.Gather.{outlineOf, offersOf, heldOf};
 ghost use Rattle.instance.specs.Room.{outlined, heldAt, joined, Roomy, instanceOf};
+ghost use Rattle.instance.specs.Prepared.{noDistances, preparedOf};
 use answer::CutDirection;
+use answer::Point;
 use candidates::Candidate;
 use candidates::Candidates;
 use closure::CONTOURS;
+use closure::PAIRS;
 use fields::CANDIDATES;
 use fields::PER_CONTOUR;
 use fields::VERTICES;
@@ -21,6 +24,9 @@ const NUMBERS: usize = 2 * VERTICES;
 
 // A number for each contour, and one for the end.
 const FIRSTS: usize = CONTOURS + 1;
+
+// Two positions a pair.
+const SEATS: usize = 2 * PAIRS;
 
 // What is held of a card: the first `count` items are its candidates, each with the contour that it belongs to, and of `first` the
 // first `contours` are the numbers of the contours' first candidates, with the count after them.
@@ -32,27 +38,36 @@ pub struct Instance {
     pub count: usize,
 }
 
+// What every door reads of a card: what is held of it, the distances of its candidates from home, and of `pairs` the first `seats` are
+// its pairs as positions of contours, before and after in turn.
+pub struct Prepared {
+    pub all: Instance,
+    pub homes: [f64; CANDIDATES],
+    pub pairs: [u8; SEATS],
+    pub seats: usize,
+}
+
 // A contour's vertices, two numbers each: the first `count` of the numbers.
 struct Outline {
     numbers: [f64; NUMBERS],
     count: usize,
 }
 
-// As many vertices as there are, or as can be held.
-fn most(v: usize) -> usize
-    ensures { λ r. ⌜ r ≡ min v vertexLimit ⌝ }
+// As many as there are, or as can be held.
+fn most(v: usize, limit: usize) -> usize
+    ensures { λ r. ⌜ r ≡ min v limit ⌝ }
 {
-    if v < VERTICES {
+    if v < limit {
         return v;
     }
-    VERTICES
+    limit
 }
 
 // Contour k's vertices.
 fn outline_of(card: &[u8], k: usize) -> Outline
     ensures { λ r. ⌜ r ≡ outlined (outlineOf (now (card .entry)) k) ⌝ }
 {
-    let v = most(fields::vertices(card, k));
+    let v = most(fields::vertices(card, k), VERTICES);
     let mut numbers = [0.0; NUMBERS];
     let mut j = 0;
     while j < v {
@@ -162,4 +177,31 @@ pub fn gather(card: &[u8]) -> Instance
         k += 1;
     }
     all
+}
+
+// How far each candidate is from home.
+fn homes_of(all: Instance, home: Point) -> [f64; CANDIDATES]
+    ensures { λ r. ⌜ r ≡ homed (all .items) (all .count) home noDistances ⌝ }
+{
+    let mut homes = [0.0; CANDIDATES];
+    let items = all.items;
+    table::fill_home(&mut homes, items, all.count, home);
+    homes
+}
+
+// All that the doors read of a card.
+pub fn prepare(card: &[u8]) -> Prepared
+    ensures { λ r. ⌜ r ≡ preparedOf (now (card .entry)) ⌝ }
+{
+    let all = gather(card);
+    let homes = homes_of(all, fields::home(card));
+    let named = card::pair_places(card);
+    let pairs = named.places;
+    let seats = 2 * most(fields::pairs(card), PAIRS);
+    Prepared {
+        all,
+        homes,
+        pairs,
+        seats,
+    }
 }

@@ -23,7 +23,8 @@ use Rattle.solve.specs.declared.Outcome.{Outcome}
 use Rattle.solve.specs.Solve.{placed}
 use Rattle.tour.specs.declared.Toured.{Toured}
 use Rattle.tour.specs.declared.Toured.the-variants as answer
-use Rattle.tour.specs.Search.{countOn, tourOn, outcomeOn}
+use Rattle.instance.specs.Search.{countOn}
+use Rattle.tour.specs.Search.{tourOn, outcomeOn}
 use Rattle.tour.specs.Tour.{Left, left, roomCheck, tourCheck, toured, touredUnless, tourOf}
 use Rattle.tour.proofs.DoorLaws.{rooms-fine}
 use Rattle.tour_laws.proofs.TourLaws.{tour-long}

@@ -24,9 +24,10 @@ use Rattle.card_laws.proofs.Facts.{accepted}
 use Rattle.instance.specs.Gather.{wayOf}
 use Rattle.instance.proofs.FineLaws.{few-candidates}
 use Rattle.solve.specs.declared.Outcome.{Outcome}
-use Rattle.tour.specs.declared.Place.{Place}
-use Rattle.tour.specs.Search.{countOn, tourOn, outcomeOn}
-use Rattle.tour.specs.Questions.{placeOn}
+use Rattle.questions.specs.declared.Place.{Place}
+use Rattle.instance.specs.Search.{countOn}
+use Rattle.tour.specs.Search.{tourOn, outcomeOn}
+use Rattle.questions.specs.Index.{placeOn}
 use Rattle.tour_laws.specs.Visits.{AllBelow}
 use Rattle.tour_laws.proofs.TourLaws.{tour-long, tour-among}
 use Rattle.text.specs.Page.{over}

@@ -1,10 +1,10 @@
 -- Each line of the list, from the texts that were put one after the other. Assumes nothing.
-use mathlib.Core.Path.{_≡_, refl, sym, ap, _∙_}
+use mathlib.Core.Path.{_≡_, sym, ap, _∙_}
 use mathlib.Core.List.{List, [], _∷_, _++_, append-assoc, append-nil}
-use Prim.Native.Nat.{ℕ, zero, suc, _+_, _-_, _<_, _≤_}
+use Prim.Native.Nat.{ℕ, _+_, _<_, _≤_}
 use native.Mathlib.Numerals.{add-one}
 use lib.Ieee.{toBits, binary64}
-use lib.ListN.{length, take, getD, replicate}
+use lib.ListN.{length, take, getD}
 use lib.Seq.{take-suc, take-all}
 use Rattle.answer.specs.declared.Check.the-variants.{Fine}
 use Rattle.answer.specs.declared.ContourType.{ContourType}
@@ -20,14 +20,14 @@ use Rattle.reader.specs.OnCard.{headOf}
 use Rattle.card.specs.Verdict.{checkOf}
 use Rattle.instance.specs.declared.Instance.{Instance}
 use Rattle.instance.specs.Gather.{wayOf}
-use Rattle.instance.specs.Room.{heldAt, instanceOf}
-use Rattle.instance.proofs.FineLaws.{instance-is}
+use Rattle.instance.specs.Room.{instanceOf}
 use Rattle.solve.specs.declared.Outcome.{Outcome}
-use Rattle.tour.specs.declared.Place.{Place}
-use Rattle.tour.specs.Questions.{placeOn}
+use Rattle.questions.specs.declared.Place.{Place}
+use Rattle.questions.specs.Index.{placeIn}
+use Rattle.questions.proofs.IndexLaws.{place-on}
 use Rattle.text.specs.Page.{Page, put}
 use Rattle.text.specs.Text.{bytes, decimalOf, hexOf}
-use Rattle.list.specs.Lines.{headLine, wayWord, nameWords, placeLine, stopLine, stopLines, outcomeLines, tourLines, refusalLine, placeIn}
+use Rattle.list.specs.Lines.{headLine, wayWord, nameWords, placeLine, stopLine, stopLines, outcomeLines, tourLines, refusalLine}
 use Rattle.text.proofs.PageLaws.{put-then, put-same}
 
 pub head-put : (s : List ℕ) (h : Head) (p q r t : Page) → h ≡ headOf s → q ≡ put (bytes "JOB " ++ decimalOf (h .job)) p → r ≡ put (bytes " CONTOURS " ++ decimalOf (h .contours)) q → t ≡ put (bytes "\n") r
@@ -73,24 +73,6 @@ unfolding tourLines
 tour-put s tour o p q r t e f g = put-then _ _ p r t (put-then _ _ p q r e f) g
 
 -- ---- the stops
-
--- what is not used of a room reads as 0, as what lies outside of a list does
-none-at : (size a : ℕ) → _≡_ {A = ℕ} (getD (replicate size 0) a 0) 0
-none-at zero a = refl
-none-at (suc size) zero = refl
-none-at (suc size) (suc a) = none-at size a
-
-padded-at : (l : List ℕ) (size a : ℕ) → getD (l ++ replicate size 0) a 0 ≡ getD l a 0
-padded-at [] size a = none-at size a
-padded-at (x ∷ l) size zero = refl
-padded-at (x ∷ l) size (suc a) = padded-at l size a
-
-pub place-held : (all : Instance) (a k from within : ℕ) → k ≡ getD (all .owner) a 0 → from ≡ getD (all .first) k 0 → within ≡ a - from → record { contour = k; within = within } ≡ placeIn all a
-place-held all a k from within e f g = rw (g, f, e)
-
-pub place-on : (s : List ℕ) → checkOf s ≡ Fine → (all : Instance) → all ≡ instanceOf s → (a : ℕ) → placeIn all a ≡ placeOn s a
-unfolding heldAt
-place-on s fine all is a = rw (is, instance-is s fine) (simp padded-at)
 
 stops-last : (s tour : List ℕ) (a : ℕ) → stopLines s (tour ++ (a ∷ [])) ≡ stopLines s tour ++ stopLine s a
 unfolding stopLines

@@ -1,8 +1,7 @@
 -- The list of a card s, line by line. Assumes nothing.
 use mathlib.Core.List.{List, [], _∷_, _++_}
-use Prim.Native.Nat.{ℕ, _-_}
+use Prim.Native.Nat.{ℕ}
 use lib.Ieee.{toBits, binary64}
-use lib.ListN.{getD}
 use Rattle.answer.specs.declared.Check.{Check}
 use Rattle.answer.specs.declared.Check.the-variants.{Fine, Refused}
 use Rattle.answer.specs.declared.CutDirection.{CutDirection}
@@ -10,12 +9,11 @@ use Rattle.answer.specs.declared.CutDirection.the-variants.{Ccw, Cw}
 use Rattle.answer.specs.declared.Refusal.{Refusal}
 use Rattle.fields.specs.Layout.{jobOf, contoursOf, idOf, tagOf}
 use Rattle.card.specs.Verdict.{checkOf}
-use Rattle.instance.specs.declared.Instance.{Instance}
 use Rattle.instance.specs.Gather.{wayOf}
 use Rattle.solve.specs.declared.Outcome.{Outcome}
-use Rattle.tour.specs.declared.Place.{Place}
+use Rattle.questions.specs.declared.Place.{Place}
 use Rattle.tour.specs.Search.{tourOn, outcomeOn}
-use Rattle.tour.specs.Questions.{placeOn}
+use Rattle.questions.specs.Index.{placeOn}
 use Rattle.text.specs.Text.{bytes, decimalOf, hexOf}
 
 -- which job it is, and how many contours it has
@@ -67,7 +65,3 @@ listUnless (Refused r) s = refusalLine r
 unfoldable pub listOf : List ℕ → List ℕ
 unfolding tourLines refusalLine
 listOf s = listUnless (checkOf s) s
-
--- where candidate a is, read from what was gathered
-abbrev pub placeIn : Instance → ℕ → Place
-placeIn all a = record { contour = getD (all .owner) a 0; within = a - getD (all .first) (getD (all .owner) a 0) 0 }

@@ -1,22 +1,22 @@
 // A card's list as a text: the stops of its tour, one to a line, or the one line of a refusal; and that text on standard output.
 ghost use mathlib.Core.Path.{_≡_};
-ghost use Prim.Native.Nat.{_-_, _≤_, min};
+ghost use Prim.Native.Nat.{_≤_, min};
 ghost use lib.ListN.{length, take};
 ghost use Rattle.answer.specs.declared.Check.the-variants.{Fine};
 ghost use Rattle.card.specs.Verdict.{checkOf};
 ghost use Rattle.instance.specs.Gather.{wayOf};
 ghost use Rattle.instance.specs.Room.{instanceOf};
 ghost use Rattle.text.specs.Page.{paged, put, over};
-ghost use Rattle.list.specs.Lines.{headLine, wayWord, nameWords, placeLine, stopLines, outcomeLines, tourLines, refusalLine, listOf, placeIn};
+ghost use Rattle.list.specs.Lines.{headLine, wayWord, nameWords, placeLine, stopLines, outcomeLines, tourLines, refusalLine, listOf};
 ghost use Rattle.list.specs.Fits.{longest};
 use answer::CutDirection;
 use answer::Refusal;
 use closure::CONTOURS;
 use instance::Instance;
 use libc::STDOUT_FILENO;
+use questions::Place;
 use solve::Outcome;
 use table::ENTRIES;
-use tour::Place;
 use tour::Toured;
 
 // The most bytes that the first line has, a stop's line, and the two last lines.
@@ -79,29 +79,6 @@ fn put_place(card: &[u8], p: Place, page: &mut [u8], at: usize) -> usize
     put_way(page, number, way(card, k))
 }
 
-// How far one number is above another.
-fn above(a: u8, from: u8) -> usize
-    ensures { λ r. ⌜ r ≡ a - from ⌝ }
-{
-    if a < from {
-        return 0;
-    }
-    (a - from) as usize
-}
-
-// Where candidate a is, read from what was gathered.
-fn place(all: Instance, a: u8) -> Place
-    ensures { λ r. ⌜ r ≡ placeIn all a ⌝ }
-{
-    let owner = all.owner;
-    let first = all.first;
-    let k = table::byte_at(&owner, a as usize) as usize;
-    Place {
-        contour: k,
-        within: above(a, table::byte_at(&first, k)),
-    }
-}
-
 // All stops of a tour, in the order in which they are cut.
 fn put_stops(card: &[u8], all: Instance, tour: &[u8], page: &mut [u8], at: usize) -> usize
     requires { ⌜ checkOf (now card) ≡ Fine ⌝ }
@@ -111,7 +88,7 @@ fn put_stops(card: &[u8], all: Instance, tour: &[u8], page: &mut [u8], at: usize
     let mut next = at;
     let mut p = 0;
     while p < tour.len() {
-        next = put_place(card, place(all, tour[p]), page, next);
+        next = put_place(card, questions::locate(all, tour[p] as usize), page, next);
         p += 1;
     }
     next

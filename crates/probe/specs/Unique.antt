@@ -1,5 +1,5 @@
--- For each door two answers that meet its promise are equal: what it tells, and all that it is lent, afterwards. It stands here and not in `demands`:
--- this library must not reach `tour`, whose exports its static library would then hold. Assumes nothing.
+-- For each door two answers that meet its promise are equal: what it tells, and all that it is lent, afterwards. It stands here and not in
+-- `demands`, which knows nothing of the test doors. Assumes nothing.
 use mathlib.Core.List.{List, []}
 use Prim.Native.Nat.{ℕ}
 use lib.Ieee.{Float}

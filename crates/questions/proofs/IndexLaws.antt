@@ -21,14 +21,18 @@ use Rattle.fields.specs.Layout.{contoursOf}
 use Rattle.card.specs.Verdict.{checkOf}
 use Rattle.card.proofs.GroupLaws.{last-stage}
 use Rattle.instance.specs.declared.Instance.{Instance}
-use Rattle.instance.specs.Room.{instanceOf}
+use Rattle.instance.specs.Room.{heldAt, instanceOf}
+use Rattle.instance.specs.Search.{candidatesOn, countOn, firstsOn}
+use Rattle.instance.specs.Prepared.{HeldOn}
+use Rattle.instance.proofs.RoomLaws.{padded-at}
+use Rattle.instance.proofs.FineLaws.{instance-is}
 use Rattle.instance.proofs.OwnerLaws.{gathered-grows, first-at}
-use Rattle.tour.specs.Search.{candidatesOn, countOn, firstsOn}
-use Rattle.tour.specs.Questions.{numberCheck}
-use Rattle.tour.proofs.RunLaws.{count-on, contours-on, items-on, first-on}
+use Rattle.questions.specs.declared.Place.{Place}
+use Rattle.questions.specs.declared.Located.{Located}
+use Rattle.questions.specs.declared.Located.the-variants as located
 use Rattle.questions.specs.declared.Picked.{Picked}
 use Rattle.questions.specs.declared.Picked.the-variants as picked
-use Rattle.questions.specs.Index.{pickedUnless, pickedOf, localCheck, countUnless, globalOf}
+use Rattle.questions.specs.Index.{numberCheck, pickedUnless, pickedOf, placeIn, placeOn, locatedUnless, locatedOf, localCheck, countUnless, globalOf}
 
 -- an element of a list is the same whatever stands past the end
 any-default : {A : Type 0} (l : List A) (a : ℕ) (d e : A) → a < length l → getD l a d ≡ getD l a e
@@ -36,35 +40,42 @@ any-default [] a d e h = absurd (not-suc-le-zero h)
 any-default (x ∷ l) zero d e h = refl
 any-default (x ∷ l) (suc a) d e h = any-default l a d e (le-of-suc-le-suc h)
 
-module _ (s : List ℕ) (fine : checkOf s ≡ Fine) (all : Instance) (is : all ≡ instanceOf s) where
+module _ (s : List ℕ) (all : Instance) (held : HeldOn s all) where
   -- ---- a candidate
 
   module _ (a : ℕ) where
     pub no-such-candidate : all .count ≤ a → picked.Refused (record { number = 15; place = a }) ≡ pickedUnless (refuseIf (leb (countOn s) a) 15 a) (getD (candidatesOn s) a blank)
-    no-such-candidate h = let e = count-on s fine all is in rw (le-leb (countOn s) a (omega arith))
+    no-such-candidate h = let e = held .count in rw (le-leb (countOn s) a (omega arith))
 
     pub candidate-is : (d : Candidate) → a < all .count → picked.Is (getD (all .items) a d) ≡ pickedUnless (refuseIf (leb (countOn s) a) 15 a) (getD (candidatesOn s) a blank)
     candidate-is d h =
-        let e = count-on s fine all is in
-        let same : getD (all .items) a d ≡ getD (candidatesOn s) a d = sym (getD-take (all .count) (all .items) a d h) ∙ ap (λ (l : List Candidate). getD l a d) (items-on s fine all is) in
+        let e = held .count in
+        let same : getD (all .items) a d ≡ getD (candidatesOn s) a d = sym (getD-take (all .count) (all .items) a d h) ∙ ap (λ (l : List Candidate). getD l a d) (held .items .front) in
         rw (lt-leb (countOn s) a (omega arith), same) (ap picked.Is (any-default (candidatesOn s) a d blank (omega arith)))
+
+    pub no-such-number : all .count ≤ a → located.Refused (record { number = 15; place = a })
+        ≡ locatedUnless (refuseIf (leb (countOn s) a) 15 a) (placeOn s a)
+    no-such-number h = let e = held .count in rw (le-leb (countOn s) a (omega arith))
+
+    pub place-is : (p : Place) → a < all .count → p ≡ placeOn s a → located.At p ≡ locatedUnless (refuseIf (leb (countOn s) a) 15 a) (placeOn s a)
+    place-is p h e = let l = held .count in rw (e, lt-leb (countOn s) a (omega arith))
 
   -- ---- a number
 
   module _ (k j : ℕ) where
     pub no-such-contour : all .contours ≤ k → count.Refused (record { number = 15; place = k }) ≡ countUnless (localCheck s k j) (getD (firstsOn s) k 0 + j)
     unfolding localCheck firstRefusal
-    no-such-contour h = let e = contours-on s fine all is in rw (le-leb (contoursOf s) k (omega arith))
+    no-such-contour h = let e = held .contours in rw (le-leb (contoursOf s) k (omega arith))
 
     module _ (h : k < all .contours) (from end : ℕ) (ef : from ≡ getD (all .first) k 0) (ee : end ≡ getD (all .first) (k + 1) 0) where
       below : k < contoursOf s
-      below = let e = contours-on s fine all is in omega arith
+      below = let e = held .contours in omega arith
 
       from-is : from ≡ getD (firstsOn s) k 0
-      from-is = ef ∙ sym (getD-take (all .contours + 1) (all .first) k 0 (omega arith)) ∙ ap (λ (l : List ℕ). getD l k 0) (first-on s fine all is)
+      from-is = ef ∙ sym (getD-take (all .contours + 1) (all .first) k 0 (omega arith)) ∙ ap (λ (l : List ℕ). getD l k 0) (held .first .front)
 
       end-is : end ≡ getD (firstsOn s) (k + 1) 0
-      end-is = ee ∙ sym (getD-take (all .contours + 1) (all .first) (k + 1) 0 (omega arith)) ∙ ap (λ (l : List ℕ). getD l (k + 1) 0) (first-on s fine all is)
+      end-is = ee ∙ sym (getD-take (all .contours + 1) (all .first) (k + 1) 0 (omega arith)) ∙ ap (λ (l : List ℕ). getD l (k + 1) 0) (held .first .front)
 
       pub rising : from ≤ end
       rising =
@@ -82,6 +93,17 @@ module _ (s : List ℕ) (fine : checkOf s ≡ Fine) (all : Instance) (is : all �
       unfolding localCheck firstRefusal
       number-is g = rw (lt-leb (contoursOf s) k below, ← end-is, ← from-is, lt-leb (end - from) j g)
 
+-- ---- where a candidate is
+
+pub place-held : (all : Instance) (a k from within : ℕ) → k ≡ getD (all .owner) a 0 → from ≡ getD (all .first) k 0 → within ≡ a - from
+    → record { contour = k; within = within } ≡ placeIn all a
+place-held all a k from within e f g = rw (g, f, e)
+
+-- what was gathered of an accepted card says where its candidates are
+pub place-on : (s : List ℕ) → checkOf s ≡ Fine → (all : Instance) → all ≡ instanceOf s → (a : ℕ) → placeIn all a ≡ placeOn s a
+unfolding heldAt
+place-on s fine all is a = rw (is, instance-is s fine) (simp padded-at)
+
 -- ---- the doors
 
 module _ (s : List ℕ) (c : Check) (is : c ≡ checkOf s) where
@@ -95,6 +117,17 @@ module _ (s : List ℕ) (c : Check) (is : c ≡ checkOf s) where
       let known = refuseIf (leb (countOn s) a) 15 a in
       let same : known ≡ numberCheck s a = rw (← is, e) (last-stage known known refl) in
       f ∙ ap (λ (x : Check). pickedUnless x (getD (candidatesOn s) a blank)) same
+
+  pub place-refused : (a : ℕ) (r : Refusal) → c ≡ Refused r → located.Refused r ≡ locatedOf s a
+  unfolding locatedOf numberCheck firstRefusal
+  place-refused a r e = rw (← is, e)
+
+  pub place-fine : (a : ℕ) (l : Located) → c ≡ Fine → l ≡ locatedUnless (refuseIf (leb (countOn s) a) 15 a) (placeOn s a) → l ≡ locatedOf s a
+  unfolding locatedOf numberCheck firstRefusal
+  place-fine a l e f =
+      let known = refuseIf (leb (countOn s) a) 15 a in
+      let same : known ≡ numberCheck s a = rw (← is, e) (last-stage known known refl) in
+      f ∙ ap (λ (x : Check). locatedUnless x (placeOn s a)) same
 
   pub global-refused : (k j : ℕ) (r : Refusal) → c ≡ Refused r → count.Refused r ≡ globalOf s k j
   unfolding globalOf firstRefusal

@@ -1,7 +1,7 @@
 -- The start that no pair binds, as it is handed out. Assumes nothing.
 use mathlib.Core.Path.{_≡_, sym, ap, _∙_}
 use mathlib.Core.List.{List, [], _++_}
-use Prim.Native.Nat.{ℕ, _≤_}
+use Prim.Native.Nat.{ℕ, _+_, _≤_}
 use lib.ListN.{length, take, drop}
 use lib.Seq.{length-take-le}
 use lib.Ieee.{Float}
@@ -11,29 +11,38 @@ use Rattle.answer.specs.declared.Refusal.{Refusal}
 use Rattle.closure.specs.Limits.{CONTOURS}
 use Rattle.fields.specs.Layout.{contoursOf}
 use Rattle.card.specs.Verdict.{checkOf}
+use Rattle.table.specs.Distances.{distancesOf}
 use Rattle.start.specs.Nearest.{nearest}
 use Rattle.start.specs.Code.{groundOf, Written}
 use Rattle.solve.specs.Solve.{placed}
-use Rattle.tour.specs.Search.{countOn, firstsOn, homesOn, tableOn}
-use Rattle.tour.proofs.DoorLaws.{room-back}
+use Rattle.solve.proofs.RoomLaws.{room-back}
+use Rattle.instance.specs.declared.Prepared.{Prepared}
+use Rattle.instance.specs.Search.{sheetOn}
+use Rattle.instance.specs.Prepared.{PreparedOn, sheetIn}
+use Rattle.instance.proofs.PreparedLaws.{sheet-on}
 use Rattle.questions.specs.declared.Stops.{Stops}
-use Rattle.questions.specs.Nearest.{nearestOn, noStops, stopsOf, nearestOf}
+use Rattle.questions.specs.Nearest.{nearestIn, nearestOn, noStops, stopsOf, nearestOf}
 
 -- a part for n stops is lent
 pub stops-lent : (n : ℕ) → n ≤ CONTOURS → n ≡ length (take n noStops)
 stops-lent n h = sym (length-take-le n noStops h)
 
-pub nearest-is : (s : List ℕ) (homes table : List Float) (t : ℕ) (first : List ℕ) → homes ≡ homesOn s → table ≡ tableOn s → t ≡ countOn s → first ≡ firstsOn s
-    → (n : ℕ) → n ≡ contoursOf s → n ≤ CONTOURS → (part : List ℕ) (count : ℕ)
-    → Written (nearest (groundOf homes table t first []) (length (take n noStops))) (take n noStops) count part → length part ≡ length (take n noStops)
-    → record { check = Fine; entries = part ++ drop n noStops; count = count } ≡ stopsOf (nearestOn s)
-unfolding nearestOn
-nearest-is s homes table t first h d c f n en few part count w k =
-    let size : length (take n noStops) ≡ contoursOf s = sym (stops-lent n few) ∙ en in
-    let same : nearest (groundOf homes table t first []) (length (take n noStops)) ≡ nearestOn s = rw (size, h, d, c, f) in
-    let held : part ≡ placed (nearestOn s) (take n noStops) = w .held ∙ ap (λ (l : List ℕ). placed l (take n noStops)) same in
-    let entries : part ++ drop n noStops ≡ placed (nearestOn s) noStops = room-back (nearestOn s) noStops part n held k in
-    let counted : count ≡ length (nearestOn s) = w .counted ∙ ap length same in
+-- the stops written to it, on the whole room
+pub nearest-is : (p : Prepared) (table : List Float) → let t = p .all .count in let n = p .all .contours in
+    table ≡ distancesOf (take t (p .all .items)) (take t (p .all .owner)) → n ≤ CONTOURS → (part : List ℕ) (count : ℕ)
+    → Written (nearest (groundOf (take t (p .homes)) table t (take (n + 1) (p .all .first)) []) (length (take n noStops))) (take n noStops) count part
+    → length part ≡ length (take n noStops)
+    → record { check = Fine; entries = part ++ drop n noStops; count = count } ≡ stopsOf (nearestIn (sheetIn p) n)
+unfolding sheetIn
+nearest-is p table d few part count w k =
+    let n = p .all .contours in
+    let start = nearestIn (sheetIn p) n in
+    let t = p .all .count in
+    let same : nearest (groundOf (take t (p .homes)) table t (take (n + 1) (p .all .first)) []) (length (take n noStops)) ≡ start =
+    rw (d, ← stops-lent n few) in
+    let held : part ≡ placed start (take n noStops) = w .held ∙ ap (λ (l : List ℕ). placed l (take n noStops)) same in
+    let entries : part ++ drop n noStops ≡ placed start noStops = room-back start noStops part n held k in
+    let counted : count ≡ length start = w .counted ∙ ap length same in
     rw (entries, counted)
 
 module _ (s : List ℕ) (a : Check) (is : a ≡ checkOf s) where
@@ -41,6 +50,6 @@ module _ (s : List ℕ) (a : Check) (is : a ≡ checkOf s) where
   unfolding nearestOf
   stops-refused r e = rw (← is, e)
 
-  pub stops-fine : (l : Stops) → a ≡ Fine → l ≡ stopsOf (nearestOn s) → l ≡ nearestOf s
-  unfolding nearestOf
-  stops-fine l e f = f ∙ rw (← is, e)
+  pub stops-fine : (l : Stops) (p : Prepared) → a ≡ Fine → PreparedOn s p → l ≡ stopsOf (nearestIn (sheetIn p) (p .all .contours)) → l ≡ nearestOf s
+  unfolding nearestOf nearestOn
+  stops-fine l p e h f = f ∙ rw (sheet-on s p h, h .held .contours, ← is, e)

@@ -22,13 +22,13 @@ use Rattle.card.specs.Verdict.{checkOf}
 use Rattle.card.proofs.GroupLaws.{last-stage}
 use Rattle.points.specs.Numbers.{zero64}
 use Rattle.table.specs.Evaluate.{lengthOf}
-use Rattle.table.specs.Distances.{entryLimit, tabled}
-use Rattle.instance.specs.declared.Instance.{Instance}
-use Rattle.instance.specs.Room.{instanceOf}
-use Rattle.tour.proofs.RunLaws.{entries-few, table-front, table-long, lent-whole, lent-within}
+use Rattle.table.specs.Distances.{entryLimit, tabled, distancesOf}
 use Rattle.improve.specs.Search.{lengthIn}
-use Rattle.tour.specs.Search.{countOn, ownersOn, homesOn, tableOn, sheetOn}
-use Rattle.questions.specs.Order.{stopAt, metBefore, badStop, firstBadStop, orderCheck, measuredUnless, evaluated}
+use Rattle.instance.specs.declared.Prepared.{Prepared}
+use Rattle.instance.specs.Search.{countOn, ownersOn, sheetOn}
+use Rattle.instance.specs.Prepared.{Front, PreparedOn, Fit, sheetIn}
+use Rattle.instance.proofs.PreparedLaws.{table-front, sheet-on}
+use Rattle.questions.specs.Order.{stopAt, metBefore, badStop, firstBadStop, orderCheck, measuredUnless, measuredIn, evaluated}
 
 -- ---- one stop
 
@@ -61,52 +61,60 @@ module _ (owner order : List ℕ) (t p a : ℕ) (e : a ≡ getD order p 0) where
 
 -- ---- the whole order
 
-module _ (s order : List ℕ) (n : ℕ) (en : n ≡ contoursOf s) where
-  pub other-length : (length order ≡ n → ⊥) → measured.Refused (record { number = 15; place = length order }) ≡ measuredUnless (orderCheck s order) s order
+module _ (n : ℕ) (owner : List ℕ) (t : ℕ) (order : List ℕ) where
+  pub other-length : (length order ≡ n → ⊥) → Refused (record { number = 15; place = length order }) ≡ orderCheck n owner t order
   unfolding orderCheck firstRefusal
-  other-length h = rw (← en, ne-eqb (length order) n h)
+  other-length h = rw (ne-eqb (length order) n h)
 
-  module _ (owner : List ℕ) (t : ℕ) (f : Found) (h : length order ≡ n) (eo : owner ≡ ownersOn s) (et : t ≡ countOn s) (is : f ≡ firstBadStop owner t order) where
-    found-is : f ≡ firstBadStop (ownersOn s) (countOn s) order
-    found-is = is ∙ ap (λ (l : List ℕ). firstBadStop l t order) eo ∙ ap (λ (k : ℕ). firstBadStop (ownersOn s) k order) et
-
-    pub bad-position : (p : ℕ) → f ≡ At p → measured.Refused (record { number = 15; place = p }) ≡ measuredUnless (orderCheck s order) s order
+  module _ (f : Found) (h : length order ≡ n) (is : f ≡ firstBadStop owner t order) where
+    pub bad-position : (p : ℕ) → f ≡ At p → Refused (record { number = 15; place = p }) ≡ orderCheck n owner t order
     unfolding orderCheck firstRefusal
-    bad-position p e = rw (← found-is, e, ← en, eq-eqb (length order) n h)
+    bad-position p e = rw (← is, e, eq-eqb (length order) n h)
 
-    pub good-order : (x : Float) → f ≡ Absent → x ≡ lengthIn (sheetOn s) order → measured.Is x ≡ measuredUnless (orderCheck s order) s order
+    pub good-order : f ≡ Absent → Fine ≡ orderCheck n owner t order
     unfolding orderCheck firstRefusal
-    good-order x e g = rw (g, ← found-is, e, ← en, eq-eqb (length order) n h)
+    good-order e = rw (← is, e, eq-eqb (length order) n h)
+
+-- ---- its length
+
+-- the library's own table, with nothing in it
+abbrev pub noEntries : List Float
+noEntries = replicate entryLimit zero64
+
+-- the distances stand at its front
+pub entries-front : (p : Prepared) → Fit p → (after : List Float) → let t = p .all .count in
+    after ≡ tabled (p .all .items) t (take t (p .all .owner)) noEntries
+    → Front (t * t) after (distancesOf (take t (p .all .items)) (take t (p .all .owner)))
+entries-front p f after e =
+    let all = f .on .held in
+    let room : p .all .count * p .all .count ≤ length noEntries = rw (length-replicate entryLimit zero64) (all .few-entries) in
+    table-front (p .all .items) (p .all .count) (all .few) (all .items .whole) _ noEntries after e room
+
+pub length-is : (p : Prepared) (order : List ℕ) (table : List Float) (x : Float) → let t = p .all .count in
+    table ≡ distancesOf (take t (p .all .items)) (take t (p .all .owner))
+    → x ≡ lengthOf (take t (p .homes)) table t order → x ≡ lengthIn (sheetIn p) order
+unfolding sheetIn
+length-is p order table x d e = e ∙ rw d
+
+-- ---- the answer
+
+module _ (p : Prepared) (order : List ℕ) (a : Check) (is : a ≡ orderCheck (p .all .contours) (take (p .all .count) (p .all .owner)) (p .all .count) order) where
+  pub no-order : (r : Refusal) → a ≡ Refused r → measured.Refused r ≡ measuredIn (sheetIn p) (p .all .contours) order
+  unfolding sheetIn
+  no-order r e = rw (← is, e)
+
+  pub an-order : (x : Float) → a ≡ Fine → x ≡ lengthIn (sheetIn p) order → measured.Is x ≡ measuredIn (sheetIn p) (p .all .contours) order
+  unfolding sheetIn
+  an-order x e g = rw (g, ← is, e)
 
 module _ (s order : List ℕ) (a : Check) (is : a ≡ checkOf s) where
   pub order-refused : (r : Refusal) → a ≡ Refused r → measured.Refused r ≡ evaluated s order
   unfolding evaluated firstRefusal
   order-refused r e = rw (← is, e)
 
-  pub order-fine : (m : Measured) → a ≡ Fine → m ≡ measuredUnless (orderCheck s order) s order → m ≡ evaluated s order
-  unfolding evaluated firstRefusal
-  order-fine m e f =
-      let same : orderCheck s order ≡ firstRefusal (checkOf s ∷ orderCheck s order ∷ []) = rw (← is, e) (last-stage (orderCheck s order) (orderCheck s order) refl) in
-      f ∙ ap (λ (c : Check). measuredUnless c s order) same
-
--- ---- its length
-
-pub length-is : (s order : List ℕ) (homes table : List Float) (t : ℕ) (x : Float) → homes ≡ homesOn s → table ≡ tableOn s → t ≡ countOn s → x ≡ lengthOf homes table t order → x ≡ lengthIn (sheetOn s) order
-unfolding sheetOn
-length-is s order homes table t x h d c e = e ∙ rw (h, d, c)
-
--- the library's own table, with nothing in it
-abbrev pub noEntries : List Float
-noEntries = replicate entryLimit zero64
-
-module _ (s : List ℕ) (fine : checkOf s ≡ Fine) (all : Instance) (is : all ≡ instanceOf s) (owner : List ℕ) (after : List Float) (o : owner ≡ ownersOn s) (e : after ≡ tabled (all .items) (all .count) owner noEntries) where
-  pub entries-on : take (all .count * all .count) after ≡ tableOn s
-  entries-on =
-      let room : all .count * all .count ≤ length noEntries = rw (length-replicate entryLimit zero64) (entries-few s fine all is) in
-      table-front s fine all is owner noEntries after o room e
-
-  pub entries-whole : all .count * all .count ≡ length (take (all .count * all .count) after)
-  entries-whole = lent-whole after (tableOn s) (all .count * all .count) entries-on (table-long s fine all is)
-
-  pub entries-within : all .count * all .count ≤ length after
-  entries-within = lent-within after (tableOn s) (all .count * all .count) entries-on (table-long s fine all is)
+  pub order-fine : (m : Measured) (p : Prepared) → a ≡ Fine → PreparedOn s p → m ≡ measuredIn (sheetIn p) (p .all .contours) order → m ≡ evaluated s order
+  unfolding evaluated firstRefusal sheetOn
+  order-fine m p e h f =
+      let known = orderCheck (contoursOf s) (ownersOn s) (countOn s) order in
+      let same : known ≡ firstRefusal (checkOf s ∷ known ∷ []) = rw (← is, e) (last-stage known known refl) in
+      (f ∙ rw (sheet-on s p h, h .held .contours)) ∙ ap (λ (c : Check). measuredUnless c (lengthIn (sheetOn s) order)) same

@@ -13,10 +13,18 @@ use Rattle.hierarchy.specs.declared.Count.{Count}
 use Rattle.hierarchy.specs.declared.Count.the-variants as count
 use Rattle.fields.specs.Layout.{contoursOf}
 use Rattle.card.specs.Verdict.{checkOf}
-use Rattle.tour.specs.Search.{candidatesOn, firstsOn}
-use Rattle.tour.specs.Questions.{numberCheck}
+use Rattle.instance.specs.declared.Instance.{Instance}
+use Rattle.instance.specs.Search.{candidatesOn, countOn, ownersOn, firstsOn}
 use Rattle.questions.specs.declared.Picked.{Picked}
 use Rattle.questions.specs.declared.Picked.the-variants as picked
+use Rattle.questions.specs.declared.Place.{Place}
+use Rattle.questions.specs.declared.Located.{Located}
+use Rattle.questions.specs.declared.Located.the-variants as located
+
+-- 15: a candidate number that no candidate has
+unfoldable pub numberCheck : List ℕ → ℕ → Check
+unfolding firstRefusal
+numberCheck s a = firstRefusal (checkOf s ∷ refuseIf (leb (countOn s) a) 15 a ∷ [])
 
 -- `candidate`: the candidate with this number
 abbrev pub pickedUnless : Check → Candidate → Picked
@@ -25,6 +33,23 @@ pickedUnless (Refused r) q = picked.Refused r
 
 unfoldable pub pickedOf : List ℕ → ℕ → Picked
 pickedOf s a = pickedUnless (numberCheck s a) (getD (candidatesOn s) a blank)
+
+-- the contour of candidate a, and its number within that contour
+abbrev pub placeOn : List ℕ → ℕ → Place
+placeOn s a = record { contour = getD (ownersOn s) a 0; within = a - getD (firstsOn s) (getD (ownersOn s) a 0) 0 }
+
+-- the same read from what was gathered
+abbrev pub placeIn : Instance → ℕ → Place
+placeIn all a = record { contour = getD (all .owner) a 0; within = a - getD (all .first) (getD (all .owner) a 0) 0 }
+
+-- `global_to_local`
+abbrev pub locatedUnless : Check → Place → Located
+locatedUnless Fine p = located.At p
+locatedUnless (Refused r) p = located.Refused r
+
+unfoldable pub locatedOf : List ℕ → ℕ → Located
+unfolding numberCheck
+locatedOf s a = locatedUnless (numberCheck s a) (placeOn s a)
 
 -- how many candidates contour k has
 abbrev pub sizeOn : List ℕ → ℕ → ℕ

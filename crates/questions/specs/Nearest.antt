@@ -10,12 +10,16 @@ use Rattle.card.specs.Verdict.{checkOf}
 use Rattle.start.specs.Nearest.{nearest}
 use Rattle.start.specs.Code.{groundOf}
 use Rattle.solve.specs.Solve.{placed}
-use Rattle.tour.specs.Search.{countOn, firstsOn, homesOn, tableOn}
+use Rattle.improve.specs.Search.{Sheet}
+use Rattle.instance.specs.Search.{sheetOn}
 use Rattle.questions.specs.declared.Stops.{Stops}
 
--- the start where no contour waits for another
+-- the start over n contours where none waits for another
+abbrev pub nearestIn : Sheet → ℕ → List ℕ
+nearestIn sheet n = nearest (groundOf (sheet .home) (sheet .table) (sheet .t) (sheet .first) []) n
+
 unfoldable pub nearestOn : List ℕ → List ℕ
-nearestOn s = nearest (groundOf (homesOn s) (tableOn s) (countOn s) (firstsOn s) []) (contoursOf s)
+nearestOn s = nearestIn (sheetOn s) (contoursOf s)
 
 -- a room for a stop a contour
 abbrev pub noStops : List ℕ
@@ -30,6 +34,7 @@ abbrev pub stopsUnless : Check → List ℕ → Stops
 stopsUnless Fine l = stopsOf l
 stopsUnless (Refused r) l = record { check = Refused r; entries = noStops; count = 0 }
 
+-- `solve_nn`
 unfoldable pub nearestOf : List ℕ → Stops
 unfolding nearestOn
 nearestOf s = stopsUnless (checkOf s) (nearestOn s)

@@ -1,8 +1,10 @@
--- An order handed in for a card s, candidate numbers as bytes: what is wrong with it, and how long it is. Assumes nothing.
+-- An order handed in, candidate numbers as bytes, owner the contour of each of t candidates: what is wrong with it, and how long it is on
+-- a card s. Assumes nothing.
 use mathlib.Core.Bool.{Bool, not, _||_}
 use mathlib.Core.List.{List, [], _∷_}
 use Prim.Native.Nat.{ℕ}
 use lib.Dec.{eqb, leb}
+use lib.Ieee.{Float}
 use lib.ListN.{length, getD}
 use Rattle.answer.specs.declared.Found.{Found}
 use Rattle.answer.specs.declared.Check.{Check}
@@ -14,8 +16,8 @@ use Rattle.cost.specs.declared.Measured.the-variants as measured
 use Rattle.fields.specs.Layout.{contoursOf}
 use Rattle.card.specs.Stages.{isAt}
 use Rattle.card.specs.Verdict.{checkOf}
-use Rattle.improve.specs.Search.{contourOf, lengthIn}
-use Rattle.tour.specs.Search.{countOn, ownersOn, sheetOn}
+use Rattle.improve.specs.Search.{Sheet, contourOf, lengthIn}
+use Rattle.instance.specs.Search.{countOn, ownersOn, sheetOn}
 
 -- the contour of the stop at position p
 abbrev pub stopAt : List ℕ → List ℕ → ℕ → ℕ
@@ -34,18 +36,23 @@ unfoldable pub firstBadStop : List ℕ → ℕ → List ℕ → Found
 unfolding lowest
 firstBadStop owner t order = lowest (badStop owner t order) (length order)
 
--- 15: a length other than the number of contours; else the first bad position
-unfoldable pub orderCheck : List ℕ → List ℕ → Check
+-- 15: a length other than the number n of contours; else the first bad position
+unfoldable pub orderCheck : ℕ → List ℕ → ℕ → List ℕ → Check
 unfolding firstRefusal firstBadStop
-orderCheck s order =
-    firstRefusal (refuseIf (not (eqb (length order) (contoursOf s))) 15 (length order) ∷ refuseAt 15 (firstBadStop (ownersOn s) (countOn s) order) ∷ [])
+orderCheck n owner t order =
+    firstRefusal (refuseIf (not (eqb (length order) n)) 15 (length order) ∷ refuseAt 15 (firstBadStop owner t order) ∷ [])
 
 -- the length, unless the check refuses
-abbrev pub measuredUnless : Check → List ℕ → List ℕ → Measured
-measuredUnless Fine s order = measured.Is (lengthIn (sheetOn s) order)
-measuredUnless (Refused r) s order = measured.Refused r
+abbrev pub measuredUnless : Check → Float → Measured
+measuredUnless Fine x = measured.Is x
+measuredUnless (Refused r) x = measured.Refused r
 
--- the card's own refusals come first
+-- an order on what the search reads, over n contours
+abbrev pub measuredIn : Sheet → ℕ → List ℕ → Measured
+measuredIn sheet n order = measuredUnless (orderCheck n (sheet .owner) (sheet .t) order) (lengthIn sheet order)
+
+-- `evaluate`: the card's own refusals come first
 unfoldable pub evaluated : List ℕ → List ℕ → Measured
 unfolding firstRefusal orderCheck
-evaluated s order = measuredUnless (firstRefusal (checkOf s ∷ orderCheck s order ∷ [])) s order
+evaluated s order =
+    measuredUnless (firstRefusal (checkOf s ∷ orderCheck (contoursOf s) (ownersOn s) (countOn s) order ∷ [])) (lengthIn (sheetOn s) order)

@@ -1,17 +1,17 @@
-// Further questions on a card: how long a given order is, the start that no pair binds, and which candidate a number is. The card's own
-// refusals come first.
+// Questions on a card: how long a given order is, the start that no pair binds, which candidate a number is, and where it is. The card's
+// own refusals come first.
 ghost use mathlib.Core.Path.{_≡_};
 ghost use Rattle.answer.specs.declared.Check.the-variants.{Fine};
 ghost use Rattle.card.specs.Verdict.{checkOf};
 ghost use Rattle.answer.specs.Lowest.{refuseIf};
 ghost use Rattle.candidates.specs.Generate.{blank};
-ghost use Rattle.instance.specs.Room.{instanceOf};
+ghost use Rattle.instance.specs.Search.{candidatesOn, countOn, firstsOn};
+ghost use Rattle.instance.specs.Prepared.{Fit, sheetIn};
 ghost use Rattle.improve.specs.Search.{lengthIn};
-ghost use Prim.Native.Nat.{_+_};
-ghost use Rattle.tour.specs.Search.{candidatesOn, countOn, firstsOn, sheetOn};
-ghost use Rattle.questions.specs.Order.{stopAt, metBefore, badStop, firstBadStop, orderCheck, measuredUnless, evaluated};
-ghost use Rattle.questions.specs.Nearest.{stopsOf, nearestOn, nearestOf};
-ghost use Rattle.questions.specs.Index.{pickedUnless, pickedOf, localCheck, countUnless, globalOf};
+ghost use Prim.Native.Nat.{_+_, _-_};
+ghost use Rattle.questions.specs.Order.{stopAt, metBefore, badStop, firstBadStop, orderCheck, measuredIn, evaluated};
+ghost use Rattle.questions.specs.Nearest.{stopsOf, nearestIn, nearestOf};
+ghost use Rattle.questions.specs.Index.{pickedUnless, pickedOf, placeIn, placeOn, locatedUnless, locatedOf, localCheck, countUnless, globalOf};
 ghost use lib.Dec.{leb};
 ghost use lib.ListN.{getD};
 use answer::Check;
@@ -22,11 +22,24 @@ use closure::CONTOURS;
 use cost::Measured;
 use hierarchy::Count;
 use instance::Instance;
+use instance::Prepared;
 use table::ENTRIES;
 
 // The candidate asked for, or why there is none.
 pub enum Picked {
     Is(Candidate),
+    Refused(Refusal),
+}
+
+// Where a candidate is: its contour, and its number within that contour.
+pub struct Place {
+    pub contour: usize,
+    pub within: usize,
+}
+
+// Where the candidate asked for is, or why there is none.
+pub enum Located {
+    At(Place),
     Refused(Refusal),
 }
 
@@ -92,13 +105,32 @@ fn first_bad_stop(owner: &[u8], t: usize, order: &[u8]) -> Found
     Found::Absent
 }
 
-// How long an order is on an accepted card.
-fn length_of(card: &[u8], all: Instance, order: &[u8]) -> f64
-    requires { ⌜ checkOf (now card) ≡ Fine ⌝ }
-    requires { ⌜ all ≡ instanceOf (now card) ⌝ }
-    ensures { λ r. ⌜ r ≡ lengthIn (sheetOn (now (card .entry))) (now (order .entry)) ⌝ }
+// What is wrong with an order on n contours, if anything is.
+pub fn order_check(n: usize, owner: &[u8], t: usize, order: &[u8]) -> Check
+    ensures { λ r. ⌜ r ≡ orderCheck n (now (owner .entry)) t (now (order .entry)) ⌝ }
 {
-    let homes = tour::homes_of(all, fields::home(card));
+    if order.len() != n {
+        return Check::Refused(Refusal {
+            number: 15,
+            place: order.len(),
+        });
+    }
+    match first_bad_stop(owner, t, order) {
+        Found::At(p) => Check::Refused(Refusal {
+            number: 15,
+            place: p,
+        }),
+        Found::Absent => Check::Fine,
+    }
+}
+
+// How long an order is on a card that was prepared.
+fn length_of(p: Prepared, order: &[u8]) -> f64
+    requires { ⌜ Fit p ⌝ }
+    ensures { λ r. ⌜ r ≡ lengthIn (sheetIn p) (now (order .entry)) ⌝ }
+{
+    let all = p.all;
+    let homes = p.homes;
     let t = all.count;
     let items = all.items;
     let owner = all.owner;
@@ -108,27 +140,17 @@ fn length_of(card: &[u8], all: Instance, order: &[u8]) -> f64
     table::evaluate_solution(&homes[..t], &distances[..entries], t as u8, order)
 }
 
-// The length of an order on an accepted card, if it is one.
-fn evaluated_on_fine(card: &[u8], order: &[u8]) -> Measured
-    requires { ⌜ checkOf (now card) ≡ Fine ⌝ }
-    ensures { λ r. ⌜ r ≡ measuredUnless (orderCheck (now (card .entry)) (now (order .entry))) (now (card .entry)) (now (order .entry)) ⌝ }
+// The same, if it is an order.
+fn measured(p: Prepared, order: &[u8]) -> Measured
+    requires { ⌜ Fit p ⌝ }
+    ensures { λ r. ⌜ r ≡ measuredIn (sheetIn p) (p .all .contours) (now (order .entry)) ⌝ }
 {
-    let all = instance::gather(card);
-    let n = all.contours;
+    let all = p.all;
     let t = all.count;
-    if order.len() != n {
-        return Measured::Refused(Refusal {
-            number: 15,
-            place: order.len(),
-        });
-    }
     let owner = all.owner;
-    match first_bad_stop(&owner[..t], t, order) {
-        Found::At(p) => Measured::Refused(Refusal {
-            number: 15,
-            place: p,
-        }),
-        Found::Absent => Measured::Is(length_of(card, all, order)),
+    match order_check(all.contours, &owner[..t], t, order) {
+        Check::Refused(r) => Measured::Refused(r),
+        Check::Fine => Measured::Is(length_of(p, order)),
     }
 }
 
@@ -138,19 +160,19 @@ pub fn evaluate(card: &[u8], order: &[u8]) -> Measured
 {
     match card::check(card) {
         Check::Refused(r) => Measured::Refused(r),
-        Check::Fine => evaluated_on_fine(card, order),
+        Check::Fine => measured(instance::prepare(card), order),
     }
 }
 
 // ---- the start that no pair binds
 
-// That start on an accepted card.
-fn nearest_on_fine(card: &[u8]) -> Stops
-    requires { ⌜ checkOf (now card) ≡ Fine ⌝ }
-    ensures { λ r. ⌜ r ≡ stopsOf (nearestOn (now (card .entry))) ⌝ }
+// That start on a card that was prepared.
+fn unbound(p: Prepared) -> Stops
+    requires { ⌜ Fit p ⌝ }
+    ensures { λ r. ⌜ r ≡ stopsOf (nearestIn (sheetIn p) (p .all .contours)) ⌝ }
 {
-    let all = instance::gather(card);
-    let homes = tour::homes_of(all, fields::home(card));
+    let all = p.all;
+    let homes = p.homes;
     let t = all.count;
     let n = all.contours;
     let items = all.items;
@@ -187,7 +209,7 @@ pub fn solve_nn(card: &[u8]) -> Stops
             count: 0,
         };
     };
-    nearest_on_fine(card)
+    unbound(instance::prepare(card))
 }
 
 // ---- candidates by number
@@ -216,6 +238,54 @@ pub fn candidate(card: &[u8], number: usize) -> Picked
     match card::check(card) {
         Check::Refused(r) => Picked::Refused(r),
         Check::Fine => candidate_of_fine(card, number),
+    }
+}
+
+// How far one number is above another.
+fn above(a: usize, from: usize) -> usize
+    ensures { λ r. ⌜ r ≡ a - from ⌝ }
+{
+    if a < from {
+        return 0;
+    }
+    a - from
+}
+
+// Where candidate a is, read from what was gathered.
+pub fn locate(all: Instance, a: usize) -> Place
+    ensures { λ r. ⌜ r ≡ placeIn all a ⌝ }
+{
+    let owner = all.owner;
+    let first = all.first;
+    let k = wide(table::byte_at(&owner, a));
+    Place {
+        contour: k,
+        within: above(a, wide(table::byte_at(&first, k))),
+    }
+}
+
+// Where a candidate of an accepted card is.
+fn place_of_fine(card: &[u8], a: usize) -> Located
+    requires { ⌜ checkOf (now card) ≡ Fine ⌝ }
+    ensures { λ r. ⌜ r ≡ locatedUnless (refuseIf (leb (countOn (now (card .entry))) a) 15 a) (placeOn (now (card .entry)) a) ⌝ }
+{
+    let all = instance::gather(card);
+    if all.count <= a {
+        return Located::Refused(Refusal {
+            number: 15,
+            place: a,
+        });
+    }
+    Located::At(locate(all, a))
+}
+
+// The contour of a candidate, and its number within that contour.
+pub fn global_to_local(card: &[u8], number: usize) -> Located
+    ensures { λ r. ⌜ r ≡ locatedOf (now (card .entry)) number ⌝ }
+{
+    match card::check(card) {
+        Check::Refused(r) => Located::Refused(r),
+        Check::Fine => place_of_fine(card, number),
     }
 }
 

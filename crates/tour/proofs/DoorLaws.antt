@@ -1,31 +1,25 @@
 -- The doors: which refusal is told, and that the parts of a room that were lent come back at their place. Assumes nothing.
 use mathlib.Core.Path.{_≡_, refl, sym, ap, _∙_}
-use mathlib.Core.List.{List, _++_, append-assoc}
-use Prim.Native.Nat.{ℕ, _+_, _*_, _-_, _≤_, _<_}
-use native.Mathlib.Omega.{arith}
-use lib.Dec.{leb}
-use lib.ListN.{length, take, drop, length-append, take-append-drop}
-use lib.Seq.{drop-append-le, length-take-le}
-use native.Mathlib.Nat.{mul-le-mul}
-use Rattle.fields.specs.Limits.{candidateLimit}
+use mathlib.Core.List.{List, _++_}
+use Prim.Native.Nat.{ℕ, _*_, _≤_, _<_}
+use lib.ListN.{length, take, drop}
+use lib.Seq.{length-take-le}
 use lib.Ieee.{Float}
 use borrow.Author.Tests.{lt-ltb, le-ltb}
 use Rattle.answer.specs.declared.Check.{Check}
 use Rattle.answer.specs.declared.Check.the-variants.{Fine, Refused}
 use Rattle.answer.specs.declared.Refusal.{Refusal}
 use Rattle.answer.specs.Stage.{firstRefusal}
-use Rattle.answer.specs.Lowest.{refuseIf}
 use Rattle.fields.specs.Layout.{contoursOf}
 use Rattle.card.specs.Verdict.{checkOf}
 use Rattle.card.proofs.GroupLaws.{last-stage}
 use Rattle.solve.specs.declared.Outcome.{Outcome}
-use Rattle.solve.specs.Solve.{placed, Solved}
+use Rattle.solve.specs.Solve.{Solved}
+use Rattle.solve.proofs.RoomLaws.{room-back}
 use Rattle.tour.specs.declared.Toured.the-variants as answer
-use Rattle.tour.specs.declared.Located.{Located}
-use Rattle.tour.specs.declared.Located.the-variants as located
-use Rattle.tour.specs.Search.{countOn, tableOn, sheetOn, endOn, tourOn}
+use Rattle.instance.specs.Search.{countOn, tableOn, sheetOn}
+use Rattle.tour.specs.Search.{endOn, tourOn}
 use Rattle.tour.specs.Tour.{Left, left, roomCheck, tourCheck, toured, touredUnless, tourOf}
-use Rattle.tour.specs.Questions.{numberCheck, placeOn, locatedUnless, locatedOf}
 
 -- ---- the rooms' sizes
 
@@ -43,16 +37,6 @@ module _ (s : List ℕ) (entries distances n t : ℕ) (en : n ≡ contoursOf s) 
   rooms-fine h g = rw (← et, ← en, le-ltb entries n h, le-ltb distances (t * t) g)
 
 -- ---- parts that were lent
-
--- what was written into the first n entries stands at the front of the whole room
-pub room-back : (tour room after : List ℕ) (n : ℕ) → after ≡ placed tour (take n room) → length after ≡ length (take n room) → after ++ drop n room ≡ placed tour room
-room-back tour room after n e k =
-    let front = take n room in
-    let l : length after ≡ length tour + length (drop (length tour) front) = ap length e ∙ length-append tour (drop (length tour) front) in
-    let inside : length tour ≤ length front = omega arith in
-    ap (λ (x : List ℕ). x ++ drop n room) e
-    ∙ append-assoc tour (drop (length tour) front) (drop n room)
-    ∙ ap (λ (x : List ℕ). tour ++ x) (sym (drop-append-le (length tour) front (drop n room) inside) ∙ ap (drop (length tour)) (take-append-drop n room))
 
 pub toured-is : (s room part : List ℕ) (table after : List Float) (o : Outcome) (n d : ℕ) → Solved (sheetOn s) (endOn s) (take n room) o part
     → length part ≡ length (take n room) → after ≡ tableOn s → d ≡ countOn s * countOn s
@@ -74,25 +58,10 @@ module _ (s room : List ℕ) (table : List Float) (a : Check) (is : a ≡ checkO
       let same : rooms ≡ tourCheck s (length room) (length table) = rw (← is, e) (last-stage rooms rooms refl) in
       f ∙ ap (λ (c : Check). touredUnless c (toured s room table) room table) same
 
-module _ (s : List ℕ) (number : ℕ) (a : Check) (is : a ≡ checkOf s) where
-  pub place-refused : (r : Refusal) → a ≡ Refused r → located.Refused r ≡ locatedOf s number
-  unfolding locatedOf numberCheck firstRefusal
-  place-refused r e = rw (← is, e)
-
-  pub place-fine : (l : Located) → a ≡ Fine → l ≡ locatedUnless (refuseIf (leb (countOn s) number) 15 number) (placeOn s number) → l ≡ locatedOf s number
-  unfolding locatedOf numberCheck firstRefusal
-  place-fine l e f =
-      let known = refuseIf (leb (countOn s) number) 15 number in
-      let same : known ≡ numberCheck s number = rw (← is, e) (last-stage known known refl) in
-      f ∙ ap (λ (c : Check). locatedUnless c (placeOn s number)) same
-
 -- ---- what the code meets on the way
 
 pub part-lent : {A : Type 0} (l : List A) (n : ℕ) → n ≤ length l → n ≡ length (take n l)
 part-lent l n h = sym (length-take-le n l h)
-
-pub few-distances : (t : ℕ) → t ≤ candidateLimit → t * t ≤ candidateLimit * candidateLimit
-few-distances t h = mul-le-mul {n₂ = candidateLimit} {m₂ = candidateLimit} h h
 
 module _ (s room : List ℕ) (table : List Float) (n t : ℕ) (en : n ≡ contoursOf s) (et : t ≡ countOn s) where
   pub room-refused : length room < n → left (answer.Refused (record { number = 13; place = n })) room table

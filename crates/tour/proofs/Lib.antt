@@ -1,4 +1,2 @@
 pub mod RunLaws
 pub mod DoorLaws
-pub mod HostLaws
-pub mod PlaceLaws

@@ -1,4 +1,2 @@
 pub mod Search
 pub mod Tour
-pub mod Questions
-pub mod Hosts

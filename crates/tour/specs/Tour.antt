@@ -2,20 +2,19 @@
 use mathlib.Core.List.{List, [], _∷_, _++_}
 use Prim.Native.Nat.{ℕ, _*_}
 use lib.Dec.{ltb}
-use lib.ListN.{length, drop, replicate}
+use lib.ListN.{length, drop}
 use lib.Ieee.{Float}
 use Rattle.answer.specs.declared.Check.{Check}
 use Rattle.answer.specs.declared.Check.the-variants.{Fine, Refused}
 use Rattle.answer.specs.Stage.{firstRefusal}
 use Rattle.answer.specs.Lowest.{refuseIf}
-use Rattle.points.specs.Numbers.{zero64}
-use Rattle.fields.specs.Limits.{candidateLimit}
 use Rattle.fields.specs.Layout.{contoursOf}
 use Rattle.card.specs.Verdict.{checkOf}
 use Rattle.solve.specs.Solve.{placed}
 use Rattle.tour.specs.declared.Toured.{Toured}
 use Rattle.tour.specs.declared.Toured.the-variants as answer
-use Rattle.tour.specs.Search.{countOn, tableOn, tourOn, outcomeOn}
+use Rattle.instance.specs.Search.{countOn, tableOn}
+use Rattle.tour.specs.Search.{tourOn, outcomeOn}
 
 -- what a call leaves behind: its answer, the tour's room and the table's
 pub record Left : Type 0 where
@@ -25,10 +24,6 @@ pub record Left : Type 0 where
 
 abbrev pub left : Toured → List ℕ → List Float → Left
 left answer room table = record { answer = answer; room = room; table = table }
-
--- a room for the distances from home
-abbrev pub noDistances : List Float
-noDistances = replicate candidateLimit zero64
 
 -- 13: the tour's room has fewer entries than there are contours; else the table's has fewer than there are distances
 unfoldable pub roomCheck : List ℕ → ℕ → ℕ → Check

@@ -19,7 +19,8 @@ use Rattle.table.specs.Distances.{legOf, legAt, listed, chained, rowOf, distanc
 use Rattle.start.specs.Nearest.{reachOf, closer, offer, offered, isOpen, considered, chosen, visit, step, walked, nearest}
 use Rattle.improve.specs.Search.{contours, shorter, judged, atLimit, tried, swap, alternative, turn, turned, flip, reversal, row, pass, repeated, searched}
 use Rattle.instance.specs.Gather.{verticesOf, outlineOf, offersOf, gathered, owners, firsts}
-use Rattle.tour.specs.Search.{sheetOn, endOn}
+use Rattle.instance.specs.Search.{sheetOn}
+use Rattle.tour.specs.Search.{endOn}
 use Rattle.tour.specs.Tour.{tourCheck, roomCheck, tourOf}
 
 -- to unfold this name is to unfold all of these, and what the verdict is computed through. A definition that the tour comes to need is

@@ -27,7 +27,8 @@ use Rattle.instance.specs.Gather.{gathered, offersOf}
 use Rattle.instance.proofs.FineLaws.{some-offers}
 use Rattle.instance.proofs.OwnerLaws.{first-at, grouped}
 use Rattle.solve.specs.Solve.{groundIn}
-use Rattle.tour.specs.Search.{homeOn, candidatesOn, countOn, ownersOn, firstsOn, pairsOn, sheetOn, startOn, endOn, tourOn}
+use Rattle.instance.specs.Search.{homeOn, candidatesOn, countOn, ownersOn, firstsOn, pairsOn, sheetOn}
+use Rattle.tour.specs.Search.{startOn, endOn, tourOn}
 use Rattle.tour_laws.specs.Visits.{AllBelow, Visits}
 use Rattle.tour_laws.proofs.BelowLaws.{below-at, below-kept, start-below}
 use Rattle.tour_laws.proofs.GatherLaws.{firsts-below, ends-gathered, candidate-near}

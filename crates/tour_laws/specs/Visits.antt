@@ -6,7 +6,7 @@ use lib.ListN.{length}
 use Rattle.hierarchy.specs.Legal.{EachOnce}
 use Rattle.fields.specs.Layout.{contoursOf}
 use Rattle.improve.specs.Search.{contours}
-use Rattle.tour.specs.Search.{countOn, ownersOn}
+use Rattle.instance.specs.Search.{countOn, ownersOn}
 
 -- every number of a list is below t
 unfoldable pub AllBelow : ℕ → List ℕ → Type 0

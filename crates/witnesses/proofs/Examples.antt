@@ -16,7 +16,8 @@ use Rattle.card_laws.proofs.Verdicts.{exactly}
 use Rattle.fields.specs.Layout.{moveLimitOf}
 use Rattle.exact.specs.Grid.{gridPoint, gridPoints}
 use Rattle.table.specs.Distances.{absent, pierced}
-use Rattle.tour.specs.Search.{candidatesOn, outcomeOn}
+use Rattle.instance.specs.Search.{candidatesOn}
+use Rattle.tour.specs.Search.{outcomeOn}
 use Rattle.tour_laws.proofs.Computes.{tour-computes}
 use Rattle.text.specs.Text as text
 use Rattle.text.specs.Text.{decimalIn, decimalOf, hexOf}

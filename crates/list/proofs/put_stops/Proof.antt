@@ -20,11 +20,14 @@ loop-holds : tie.Need-loop-holds Inv-loop μ-loop
 unfolding put stopLines
 loop-holds c = (omega arith, refl, refl)
 
-shared-slice-read-place : tie.Need-shared-slice-read-place Inv-loop μ-loop
-shared-slice-read-place c = omega arith
+shared-slice-read-locate : tie.Need-shared-slice-read-locate Inv-loop μ-loop
+shared-slice-read-locate c = omega arith
 
-place-requires : tie.Need-place-requires Inv-loop μ-loop
-place-requires c κs = tt
+cast-locate : tie.Need-cast-locate Inv-loop μ-loop
+cast-locate c = omega (arith, c .shared-slice-known3 .given (c .before .before .loop .p))
+
+locate-requires : tie.Need-locate-requires Inv-loop μ-loop
+locate-requires c κs = tt
 
 put-place-requires : tie.Need-put-place-requires Inv-loop μ-loop
 put-place-requires c κs = tt
@@ -39,7 +42,7 @@ loop-again : tie.Need-loop-again Inv-loop μ-loop
 loop-again c = (
   omega arith,
   omega arith,
-  stop-more _ (c .before .before .before .before .before .before .before .before .before .before .before .pre .0) _ (c .before .before .before .before .before .before .before .before .before .before .before .pre .1) _ _ _ _ _ _ (c .before .before .before .before .before .before .loop-test .taken) (c .before .before .before .before .place .ensures) (c .before .before .before .before .before .before .before .loop .inv .2) (c .before .before .put-place .ensures),
+  stop-more _ (c .before .before .before .before .before .before .before .before .before .before .before .pre .0) _ (c .before .before .before .before .before .before .before .before .before .before .before .pre .1) _ _ _ _ _ _ (c .before .before .before .before .before .before .loop-test .taken) (c .before .before .before .before .locate .ensures) (c .before .before .before .before .before .before .before .loop .inv .2) (c .before .before .put-place .ensures),
 )
 
 same-length : tie.Need-same-length Inv-loop μ-loop
@@ -55,8 +58,9 @@ put-stops-spec =
     Inv-loop
     μ-loop
     loop-holds
-    shared-slice-read-place
-    place-requires
+    shared-slice-read-locate
+    cast-locate
+    locate-requires
     put-place-requires
     add-p
     loop-less

@@ -1,6 +1,6 @@
 -- `list::show_card` meets its contract. Assumes nothing.
 use mathlib.Core.Path.{sym}
-use Rattle.tour.proofs.RunLaws.{lent-whole, lent-within}
+use Rattle.instance.proofs.PreparedLaws.{front-is}
 use borrow.Author.Needs.{needs}
 use Rattle.list.proofs.show_card.Statement.{statement}
 use Rattle.list.proofs.show_card.Tie as tie
@@ -12,10 +12,10 @@ write-whole-requires : tie.Need-write-whole-requires
 write-whole-requires c κs = search needs
 
 array-share-prefix-page : tie.Need-array-share-prefix-page
-array-share-prefix-page c = lent-within _ _ _ (c .before .write-whole .ensures .0) (sym (c .before .write-whole .ensures .1))
+array-share-prefix-page c = front-is _ _ _ (c .before .write-whole .ensures .0) (sym (c .before .write-whole .ensures .1)) .within
 
 slice-aggregate-write-all : tie.Need-slice-aggregate-write-all
-slice-aggregate-write-all c = lent-whole _ _ _ (c .before .before .write-whole .ensures .0) (sym (c .before .before .write-whole .ensures .1))
+slice-aggregate-write-all c = front-is _ _ _ (c .before .before .write-whole .ensures .0) (sym (c .before .before .write-whole .ensures .1)) .whole
 
 write-all-requires : tie.Need-write-all-requires
 write-all-requires c κs = search needs

@@ -1,9 +1,18 @@
 -- `tour::bits_of` meets its contract. Assumes nothing.
+use mathlib.Core.Path.{_≡_, sym, subst}
+use mathlib.Core.Bool.{true}
+use lib.Dec.{T}
+use lib.Ieee.{Float, toBits, binary64, ne}
+use lib.Ieee.Compare.{differs-from-itself}
 use Rattle.root.proofs.Cases.{no-nan}
-use Rattle.tour.proofs.HostLaws.{nan-bits}
 use borrow.Author.Needs.{needs}
 use Rattle.tour.proofs.bits_of.Statement.{statement}
 use Rattle.tour.proofs.bits_of.Tie as tie
+
+-- one pattern for what is no number
+nan-bits : (x : Float) → ne x x ≡ true → 0x7ff8_0000_0000_0000 ≡ toBits binary64 x
+unfolding toBits
+nan-bits x e = rw (differs-from-itself x (subst T (sym e) tt))
 
 returns : tie.Need-returns
 returns c = nan-bits (c .before .args .x) (c .if1 .taken)

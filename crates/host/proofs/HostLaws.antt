@@ -1,14 +1,12 @@
 -- Hosts: with a table of its own the library refuses only what a host can mend, and tells the rest through lent numbers. Assumes nothing.
-use mathlib.Core.Path.{_≡_, refl, sym, ap, subst, _∙_}
-use mathlib.Core.Bool.{true}
+use mathlib.Core.Path.{_≡_, refl, sym, ap, _∙_}
 use mathlib.Core.List.{List}
 use Prim.Native.Nat.{ℕ, _*_, _≤_}
 use native.Mathlib.Nat.{mul-le-mul}
 use native.Mathlib.Omega.{arith}
-use lib.Dec.{T, ltb}
+use lib.Dec.{ltb}
 use lib.ListN.{length}
-use lib.Ieee.{Float, toBits, binary64, ne}
-use lib.Ieee.Compare.{differs-from-itself}
+use lib.Ieee.{Float, toBits, binary64}
 use borrow.Author.Tests.{le-ltb}
 use Rattle.answer.specs.declared.Check.{Check}
 use Rattle.answer.specs.declared.Check.the-variants.{Fine, Refused}
@@ -22,15 +20,16 @@ use Rattle.card.specs.Verdict.{checkOf}
 use Rattle.table.specs.Distances.{entryLimit}
 use Rattle.instance.proofs.FineLaws.{few-candidates}
 use Rattle.solve.specs.declared.Outcome.{Outcome}
 use Rattle.tour.specs.declared.Toured.{Toured}
 use Rattle.tour.specs.declared.Toured.the-variants as answer
 use Rattle.solve.specs.Solve.{placed}
-use Rattle.tour.specs.Search.{countOn, tourOn, outcomeOn}
+use Rattle.instance.specs.Search.{countOn}
+use Rattle.tour.specs.Search.{tourOn, outcomeOn}
 use Rattle.tour.specs.Tour.{Left, left, roomCheck, tourCheck, toured, touredUnless, tourOf}
-use Rattle.tour.specs.declared.Place.{Place}
-use Rattle.tour.specs.declared.Located.{Located}
-use Rattle.tour.specs.declared.Located.the-variants as located
-use Rattle.tour.specs.Hosts.{pointed, hostPlace, hosted, hostCheck, hostedUnless, hostTour}
+use Rattle.questions.specs.declared.Place.{Place}
+use Rattle.questions.specs.declared.Located.{Located}
+use Rattle.questions.specs.declared.Located.the-variants as located
+use Rattle.host.specs.Hosts.{pointed, hostPlace, hosted, hostCheck, hostedUnless, hostTour}
 
 -- the library's own table is large enough for every accepted card
 same-check : (s : List ℕ) (entries : ℕ) → tourCheck s entries entryLimit ≡ hostCheck s entries
@@ -89,11 +88,6 @@ module _ (s room : List ℕ) (table : List Float) where
     pub host-done : (o : Outcome) (word : ℕ) → told ≡ answer.Done o → word ≡ toBits binary64 (o .length) → hosted 0 after (o .moves) word ≡ hostTour s room moves bits
     unfolding hostTour
     host-done o word e f = rw f (done-told (hostCheck s (length room)) o after rest moves bits (ap (λ (t : Toured). left t after rest) (sym e) ∙ is ∙ as-hosted whole))
-
--- one pattern for what is no number
-pub nan-bits : (x : Float) → ne x x ≡ true → 0x7ff8_0000_0000_0000 ≡ toBits binary64 x
-unfolding toBits
-nan-bits x e = rw (differs-from-itself x (subst T (sym e) tt))
 
 -- a candidate's place, as a host is told
 pub place-told-refused : (l told : Located) (contour within : ℕ) (r : Refusal) (code : ℕ) → told ≡ l → told ≡ located.Refused r → code ≡ codeOf (Refused r) → pointed code contour within ≡ hostPlace l contour within

@@ -1,9 +1,9 @@
--- `tour::global_to_local` meets its contract. Assumes nothing.
+-- `questions::global_to_local` meets its contract. Assumes nothing.
 use mathlib.Core.Path.{sym, _∙_}
-use Rattle.tour.proofs.DoorLaws.{place-refused, place-fine}
+use Rattle.questions.proofs.IndexLaws.{place-refused, place-fine}
 use borrow.Author.Needs.{needs}
-use Rattle.tour.proofs.global_to_local.Statement.{statement}
-use Rattle.tour.proofs.global_to_local.Tie as tie
+use Rattle.questions.proofs.global_to_local.Statement.{statement}
+use Rattle.questions.proofs.global_to_local.Tie as tie
 
 check-requires : tie.Need-check-requires
 check-requires c κs = search needs
@@ -18,10 +18,10 @@ place-of-fine-requires : tie.Need-place-of-fine-requires
 place-of-fine-requires c κs = sym (c .before .before .check .ensures) ∙ c .enum-told .given .1
 
 returns : tie.Need-returns
-returns c = place-refused _ _ _ (c .before .before .before .check .ensures) _ (c .before .r .given .1)
+returns c = place-refused _ _ (c .before .before .before .check .ensures) _ _ (c .before .r .given .1)
 
 returns-2 : tie.Need-returns-2
-returns-2 c = place-fine _ _ _ (c .before .before .before .check .ensures) _ (c .before .enum-told .given .1) (c .place-of-fine .ensures)
+returns-2 c = place-fine _ _ (c .before .before .before .check .ensures) _ _ (c .before .enum-told .given .1) (c .place-of-fine .ensures)
 
 pub global-to-local-spec : {M : Type 1} → statement M
 global-to-local-spec =

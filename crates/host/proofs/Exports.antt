@@ -20,10 +20,10 @@ use Rattle.card_laws.specs.Table.{Given, one, two, three, four, five, three-lat
 use Rattle.card_laws.proofs.Verdicts.{exactly}
 use Rattle.table.proofs.PlaceLaws.{square-small}
 use Rattle.instance.proofs.FineLaws.{few-candidates}
-use Rattle.tour.specs.Search.{countOn}
+use Rattle.instance.specs.Search.{countOn}
 use Rattle.tour.specs.Tour.{Left, roomCheck, tourCheck, toured, touredUnless, tourOf}
-use Rattle.tour.specs.Hosts.{Hosted, hostCheck, hostedUnless, hostTour}
-use Rattle.demands.specs.Hosts.{asTold, Coded, TourTold, Claim}
+use Rattle.host.specs.Hosts.{Hosted, hostCheck, hostedUnless, hostTour}
+use Rattle.host.specs.Exports.{asTold, Coded, TourTold, Claim}
 
 module _ (s room : List ℕ) (table : List Float) (moves bits : ℕ) where
   -- both by what the check says, and by whether each room is too small

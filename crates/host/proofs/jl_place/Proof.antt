@@ -1,8 +1,8 @@
--- `tour::jl_place` meets its contract. Assumes nothing.
-use Rattle.tour.proofs.HostLaws.{place-told-refused, place-told}
+-- `host::jl_place` meets its contract. Assumes nothing.
+use Rattle.host.proofs.HostLaws.{place-told-refused, place-told}
 use borrow.Author.Needs.{needs}
-use Rattle.tour.proofs.jl_place.Statement.{statement}
-use Rattle.tour.proofs.jl_place.Tie as tie
+use Rattle.host.proofs.jl_place.Statement.{statement}
+use Rattle.host.proofs.jl_place.Tie as tie
 
 global-to-local-requires : tie.Need-global-to-local-requires
 global-to-local-requires c κs = search needs

@@ -1,9 +1,9 @@
--- `tour::jl_check` meets its contract. Assumes nothing.
+-- `host::jl_check` meets its contract. Assumes nothing.
 use mathlib.Core.Path.{ap, _∙_}
 use Rattle.answer.specs.Code.{codeOf}
 use borrow.Author.Needs.{needs}
-use Rattle.tour.proofs.jl_check.Statement.{statement}
-use Rattle.tour.proofs.jl_check.Tie as tie
+use Rattle.host.proofs.jl_check.Statement.{statement}
+use Rattle.host.proofs.jl_check.Tie as tie
 
 check-requires : tie.Need-check-requires
 check-requires c κs = search needs

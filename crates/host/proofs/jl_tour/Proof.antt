@@ -1,11 +1,11 @@
--- `tour::jl_tour` meets its contract: the library's own table is large enough, so a host is told what the tour's door says. Assumes nothing.
+-- `host::jl_tour` meets its contract: the library's own table is large enough, so a host is told what the tour's door says. Assumes nothing.
 use lib.ListN.{length-replicate}
 use Rattle.points.specs.Numbers.{zero64}
 use Rattle.table.specs.Distances.{entryLimit}
-use Rattle.tour.proofs.HostLaws.{host-refused, host-done}
+use Rattle.host.proofs.HostLaws.{host-refused, host-done}
 use borrow.Author.Needs.{needs}
-use Rattle.tour.proofs.jl_tour.Statement.{statement}
-use Rattle.tour.proofs.jl_tour.Tie as tie
+use Rattle.host.proofs.jl_tour.Statement.{statement}
+use Rattle.host.proofs.jl_tour.Tie as tie
 
 slice-aggregate-tour : tie.Need-slice-aggregate-tour
 slice-aggregate-tour c = search needs

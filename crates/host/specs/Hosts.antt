@@ -12,9 +12,9 @@ use Rattle.answer.specs.Lowest.{refuseIf}
 use Rattle.fields.specs.Layout.{contoursOf}
 use Rattle.card.specs.Verdict.{checkOf}
 use Rattle.solve.specs.Solve.{placed}
-use Rattle.tour.specs.declared.Located.{Located}
-use Rattle.tour.specs.declared.Located.the-variants as located
+use Rattle.questions.specs.declared.Located.{Located}
+use Rattle.questions.specs.declared.Located.the-variants as located
 use Rattle.tour.specs.Search.{tourOn, outcomeOn}
 
 -- what a host's call for a tour leaves behind: its answer, the tour's room, and the two numbers
 pub record Hosted : Type 0 where

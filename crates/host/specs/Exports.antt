@@ -14,7 +14,7 @@ use Rattle.table.specs.Distances.{entryLimit}
 use Rattle.tour.specs.declared.Toured.{Toured}
 use Rattle.tour.specs.declared.Toured.the-variants as answer
 use Rattle.tour.specs.Tour.{tourOf}
-use Rattle.tour.specs.Hosts.{Hosted, hosted, hostTour}
+use Rattle.host.specs.Hosts.{Hosted, hosted, hostTour}
 
 -- an answer as a host is told it: 0 with the trials and the length's bits, or the refusal's number with both left as they were
 abbrev pub asTold : Toured → List ℕ → ℕ → ℕ → Hosted

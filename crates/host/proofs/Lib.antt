@@ -1,0 +1,3 @@
+pub mod HostLaws
+pub mod Exports
+pub mod Unique

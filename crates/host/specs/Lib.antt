@@ -1,0 +1,3 @@
+pub mod Hosts
+pub mod Exports
+pub mod Unique

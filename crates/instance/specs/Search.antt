@@ -1,0 +1,47 @@
+-- What the search reads of an accepted card s. Assumes nothing.
+use mathlib.Core.List.{List}
+use Prim.Native.Nat.{ℕ}
+use lib.ListN.{length}
+use lib.Ieee.{Float}
+use Rattle.answer.specs.declared.Point.{Point}
+use Rattle.candidates.specs.declared.Candidate.{Candidate}
+use Rattle.fields.specs.Layout.{contoursOf, pairsOf, homePlace}
+use Rattle.fields.specs.Values.{pointAt}
+use Rattle.card.specs.Names.{seatsOf}
+use Rattle.table.specs.Distances.{distancesOf, homesOf}
+use Rattle.improve.specs.Search.{Sheet}
+use Rattle.improve.specs.Code.{sheetOf}
+use Rattle.instance.specs.Gather.{gathered, owners, firsts}
+
+-- where the beam is at first
+abbrev pub homeOn : List ℕ → Point
+homeOn s = pointAt s homePlace
+
+-- all candidates, and how many there are
+abbrev pub candidatesOn : List ℕ → List Candidate
+candidatesOn s = gathered s (contoursOf s)
+
+abbrev pub countOn : List ℕ → ℕ
+countOn s = length (candidatesOn s)
+
+-- the contour of each candidate; the number of each contour's first, and at the end their count
+abbrev pub ownersOn : List ℕ → List ℕ
+ownersOn s = owners s (contoursOf s)
+
+abbrev pub firstsOn : List ℕ → List ℕ
+firstsOn s = firsts s (contoursOf s)
+
+-- which contours come before which, as positions
+abbrev pub pairsOn : List ℕ → List ℕ
+pairsOn s = seatsOf s (pairsOf s)
+
+-- the distances from home, and those between candidates, row by row
+abbrev pub homesOn : List ℕ → List Float
+homesOn s = homesOf (candidatesOn s) (homeOn s)
+
+abbrev pub tableOn : List ℕ → List Float
+tableOn s = distancesOf (candidatesOn s) (ownersOn s)
+
+-- all of that together
+unfoldable pub sheetOn : List ℕ → Sheet
+sheetOn s = sheetOf (homesOn s) (tableOn s) (countOn s) (ownersOn s) (firstsOn s) (pairsOn s)
