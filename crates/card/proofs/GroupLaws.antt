@@ -39,6 +39,22 @@ unfolding firstRefusal
 last-stage Fine a e = e
 last-stage (Refused r) a e = e
 
+-- a stage as the code takes it, with the number it refuses with and what its search found: it stops there, lets the
+-- next ones go on, or is the last
+module _ (number : ℕ) {f g : Found} {a : Check} (made : a ≡ refuseAt number f) (found : f ≡ g) where
+  stage-is : a ≡ refuseAt number g
+  stage-is = made ∙ ap (refuseAt number) found
+
+  pub stops-at : (more : List Check) {r : Refusal} → a ≡ Refused r → a ≡ firstRefusal (refuseAt number g ∷ more)
+  stops-at more e = stopped _ a more stage-is _ e
+
+  pub goes-past : (more : List Check) {b : Check} → a ≡ Fine → b ≡ firstRefusal more →
+      b ≡ firstRefusal (refuseAt number g ∷ more)
+  goes-past more e rest = passed _ a more stage-is _ e rest
+
+  pub ends-with : a ≡ firstRefusal (refuseAt number g ∷ [])
+  ends-with = last-stage _ a stage-is
+
 -- ---- the same for a group of stages
 
 in-turn : (xs more : List Check) → firstRefusal (xs ++ more) ≡ orElse (firstRefusal xs) (firstRefusal more)
@@ -53,10 +69,6 @@ module _ (xs more : List Check) (a : Check) (is : a ≡ firstRefusal xs) where
 
   group-passed : (b : Check) → a ≡ Fine → b ≡ firstRefusal more → b ≡ firstRefusal (xs ++ more)
   group-passed b e f = rw (in-turn xs more, ← is, e) f
-
--- a stage, from what its search found
-pub stage-is : (number : ℕ) (f g : Found) (a : Check) → a ≡ refuseAt number f → f ≡ g → a ≡ refuseAt number g
-stage-is number f g a e h = e ∙ ap (refuseAt number) h
 
 -- ---- the pairs' stage, from the record that holds it
 

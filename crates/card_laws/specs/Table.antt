@@ -4,7 +4,7 @@ use mathlib.Core.Path.{_≡_}
 use mathlib.Core.Logic.{_⊎_}
 use mathlib.Core.Bool.{true}
 use mathlib.Core.List.{List}
-use Prim.Native.Nat.{ℕ, suc, _+_, _*_, _-_, _%_, _≤_, _<_, min}
+use Prim.Native.Nat.{ℕ, suc, _+_, _*_, _%_, _≤_, _<_, min}
 use lib.ListN.{length}
 use Rattle.answer.specs.declared.Refusal.{Refusal}
 use Rattle.answer.specs.declared.Check.the-variants.{Fine, Refused}
@@ -83,12 +83,14 @@ pub data BadContour (s : List ℕ) (k : ℕ) : Type 0 where
 abbrev pub Row6 : List ℕ → ℕ → Type 0
 Row6 s = Lowest (contoursOf s) (BadContour s)
 
--- no field stands at this byte of block b's payload: the head has 34 bytes of fields, contour k 12 and 16 a vertex, and block i of pairs 16 for
--- each pair from 31 * i on, 31 at most
+-- no field stands at this byte of block b's payload: the head has 34 bytes of fields, contour k 12 and 16 a vertex, a
+-- block of pairs 16 a pair, 31 pairs at most; where the earlier blocks of pairs and the bytes before this one hold all m
+-- pairs, no field is left
 pub data Spare (s : List ℕ) (b offset : ℕ) : Type 0 where
   in-head : b ≡ 0 → 34 ≤ offset → Spare s b offset
   in-contour : (k : ℕ) → k < contoursOf s → b ≡ suc k → 12 + 16 * vertexCountOf s k ≤ offset → Spare s b offset
-  past-last-pair : (i : ℕ) → b ≡ suc (contoursOf s + i) → 16 * (pairsOf s - pairsABlock * i) ≤ offset → Spare s b offset
+  past-last-pair : (i : ℕ) → b ≡ suc (contoursOf s + i) → 16 * pairsOf s ≤ 16 * (pairsABlock * i) + offset →
+      Spare s b offset
   past-full-block : (i : ℕ) → b ≡ suc (contoursOf s + i) → 16 * pairsABlock ≤ offset → Spare s b offset
 
 -- 7: a spare payload byte is not zero; the lowest block

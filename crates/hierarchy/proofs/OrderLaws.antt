@@ -59,7 +59,8 @@ pub each-different : (n : ℕ) (order : List ℕ) → EachOnce n order → Diffe
 each-different n order each = record { within = each .within; once = each .once }
 
 -- every position has its place
-pub position-of : (n : ℕ) (order : List ℕ) → EachOnce n order → (k : ℕ) → k < n → (p : ℕ) × (p < n) × (getD order p 0 ≡ k)
+pub position-of : (n : ℕ) (order : List ℕ) → EachOnce n order → (k : ℕ) → k < n →
+    (p : ℕ) × (p < n) × (getD order p 0 ≡ k)
 position-of n order each k h = met-at order n k (different-all n order (each-different n order each) k h)
 
 -- ---- a legal order leaves no cycle
@@ -130,7 +131,9 @@ last-at [] x p h e later = absurd (not-suc-le-zero h)
 last-at (y ∷ l) x zero h e later =
     rw (last-none l x (λ q i. later (suc q) (zero-lt-suc q) (suc-le-suc i)), eq-eqb y x e)
 last-at (y ∷ l) x (suc p) h e later =
-    rw (last-at l x p (le-of-suc-le-suc h) e (λ q i j. later (suc q) (suc-le-suc i) (suc-le-suc j)), lt-ltb 0 (suc p) (zero-lt-suc p))
+    let e' : lastRank l x ≡ suc p =
+    last-at l x p (le-of-suc-le-suc h) e (λ q i j. later (suc q) (suc-le-suc i) (suc-le-suc j)) in
+    rw (e', lt-ltb 0 (suc p) (zero-lt-suc p))
 
 -- ---- each position once: its last rank is its rank
 
@@ -140,14 +143,16 @@ module _ (n : ℕ) (order : List ℕ) (each : EachOnce n order) where
       (λ q i j e. let s : p ≡ q = each .once p q h (omega (arith, each .size)) (sym e) in omega arith)
 
   pub rank-none : (x : ℕ) → n ≤ x → lastRank order x ≡ 0
-  rank-none x h = last-none order x (λ q i e. let l : getD order q 0 < n = each .within q (omega (arith, each .size)) in omega arith)
+  rank-none x h = last-none order x
+      (λ q i e. let l : getD order q 0 < n = each .within q (omega (arith, each .size)) in omega arith)
 
   -- an order of each position once is legal exactly where it keeps the pairs
   pub keeps-legal : (pairs : List ℕ) → keepsPairs order pairs ≡ true → Legal n pairs order
   unfolding keepsPairs keptIn
   keeps-legal pairs e = record { each = each; before = λ p q hp hq t. first p q hp hq (every-at (keptIn order) (paired pairs) (getD order p 0) (getD order q 0) e (pair-linked n pairs (getD order p 0) (getD order q 0) t)) }
     where
-      first : (p q : ℕ) → p < n → q < n → keptAt (lastRank order (getD order p 0)) (lastRank order (getD order q 0)) ≡ true → p < q
+      first : (p q : ℕ) → p < n → q < n →
+          keptAt (lastRank order (getD order p 0)) (lastRank order (getD order q 0)) ≡ true → p < q
       first p q hp hq t =
           let k : keptAt (suc p) (suc q) ≡ true = rw (rank-last p hp, rank-last q hq) at t in
           let l : ltb (suc p) (suc q) ≡ true = rw (ne-eqb (suc p) 0 (omega arith), ne-eqb (suc q) 0 (omega arith)) at k in
@@ -159,7 +164,8 @@ module _ (n : ℕ) (order : List ℕ) (each : EachOnce n order) where
     where
       test : (b a : ℕ) → someOf (isPair b a) (paired pairs) ≡ true → keptAt (lastRank order b) (lastRank order a) ≡ true
       test b a t = ⊎-elim
-          (λ (hb : b < n). ⊎-elim (λ (ha : a < n). inside hb ha) (λ (ha : n ≤ a). rw (rank-none a ha) (or-true (eqb (lastRank order b) 0))) (lt-or a n))
+          (λ (hb : b < n). ⊎-elim (λ (ha : a < n). inside hb ha)
+          (λ (ha : n ≤ a). rw (rank-none a ha) (or-true (eqb (lastRank order b) 0))) (lt-or a n))
           (λ (hb : n ≤ b). rw (rank-none b hb)) (lt-or b n)
         where
           inside : b < n → a < n → keptAt (lastRank order b) (lastRank order a) ≡ true

@@ -169,7 +169,8 @@ module _ (w o : List ℕ) (k a : ℕ) (roomy : Roomy w o k) (ha : a < CONTOURS) 
           let h : heldCount (set w a v) + held (getD w a 0) ≡ heldCount w + held v = held-set w a v in-waits in
           ⊎-elim
           (λ (z : getD w a 0 ≡ 0). omega (arith, held-no (getD w a 0) z, held-no v (omega arith), roomy .room))
-          (λ (z : getD w a 0 ≡ 0 → ⊥). omega (arith, held-yes (getD w a 0) z, held-yes v (omega arith), roomy .room)) (same-or (getD w a 0) 0);
+          (λ (z : getD w a 0 ≡ 0 → ⊥). omega (arith, held-yes (getD w a 0) z, held-yes v (omega arith), roomy .room))
+          (same-or (getD w a 0) 0);
     };
     is = rw (p, ne-eqb (getD w a 0) 1 d, append-nil (take k o));
   }
@@ -196,7 +197,8 @@ pub record ReleasePart (n x : ℕ) (pairs : List ℕ) (at : ℕ) (s : Kahn) (w o
 pub release-none : (n x : ℕ) (pairs w o : List ℕ) (k : ℕ) → Roomy w o k → ReleasePart n x pairs 0 (standing w o k) w o k
 release-none n x pairs w o k roomy = record { within = omega arith; roomy = roomy; left = refl }
 
-module _ (n x : ℕ) (pairs : List ℕ) (at : ℕ) (s : Kahn) (w o : List ℕ) (k : ℕ) (r : Bool) (more : at + 1 < length pairs) (part : ReleasePart n x pairs at s w o k)
+module _ (n x : ℕ) (pairs : List ℕ) (at : ℕ) (s : Kahn) (w o : List ℕ) (k : ℕ) (r : Bool) (more : at + 1 < length pairs)
+    (part : ReleasePart n x pairs at s w o k)
     (is : r ≡ (eqb (getD pairs at 0) x && both n (pairAt pairs at))) where
   release-walk : released n x (paired (drop (at + 2) pairs)) (cond r (loosened (standing w o k) (getD pairs (at + 1) 0)) (standing w o k)) ≡ released n x (paired pairs) s
   unfolding released
@@ -221,9 +223,11 @@ module _ (n x : ℕ) (pairs : List ℕ) (at : ℕ) (s : Kahn) (w o : List ℕ) (
       none : n ≤ a → (eqb (getD pairs at 0) x && both n (pairAt pairs at)) ≡ false
       none h = rw (both-no n (pairAt pairs at) (λ _ l. omega (arith, rw (← p) at l))) (and-false (eqb (getD pairs at 0) x))
 
-pub release-all : (n x : ℕ) (pairs : List ℕ) (at : ℕ) (s : Kahn) (w o : List ℕ) (k : ℕ) → length pairs ≤ at + 1 → ReleasePart n x pairs at s w o k → Stands (released n x (paired pairs) s) w o k
+pub release-all : (n x : ℕ) (pairs : List ℕ) (at : ℕ) (s : Kahn) (w o : List ℕ) (k : ℕ) → length pairs ≤ at + 1 →
+    ReleasePart n x pairs at s w o k → Stands (released n x (paired pairs) s) w o k
 unfolding released
-release-all n x pairs at s w o k all part = record { roomy = part .roomy; is = rw (paired-end pairs at all) at (part .left) }
+release-all n x pairs at s w o k all part =
+    record { roomy = part .roomy; is = rw (paired-end pairs at all) at (part .left) }
 
 -- ---- one position of the queue after the other
 
@@ -231,20 +235,27 @@ release-all n x pairs at s w o k all part = record { roomy = part .roomy; is = r
 module _ (i : ℕ) (s : Kahn) (h : i ≤ length (s .queue)) where
   loosened-behind : (a : ℕ) → loosened (firstTaken i s) a ≡ firstTaken i (loosened s a)
   unfolding loosened
-  loosened-behind a = let l = cond (eqb (getD (s .waits) a 0) 1) (a ∷ []) [] in rw (take-append-le i (s .queue) l h, drop-append-le i (s .queue) l h)
+  loosened-behind a =
+      let l = cond (eqb (getD (s .waits) a 0) 1) (a ∷ []) [] in
+      rw (take-append-le i (s .queue) l h, drop-append-le i (s .queue) l h)
 
   loosened-longer : (a : ℕ) → i ≤ length (loosened s a .queue)
   unfolding loosened
   loosened-longer a = omega (arith, length-append (s .queue) (cond (eqb (getD (s .waits) a 0) 1) (a ∷ []) []))
 
-released-behind : (n x i : ℕ) (ps : List Pair) (s : Kahn) → i ≤ length (s .queue) → released n x ps (firstTaken i s) ≡ firstTaken i (released n x ps s)
+released-behind : (n x i : ℕ) (ps : List Pair) (s : Kahn) → i ≤ length (s .queue) →
+    released n x ps (firstTaken i s) ≡ firstTaken i (released n x ps s)
 unfolding released
 released-behind n x i [] s h = refl
 released-behind n x i (p ∷ more) s h = go (eqb (p .before) x && both n p) (released-behind n x i more)
   where
-    go : (b : Bool) → ((t : Kahn) → i ≤ length (t .queue) → released n x more (firstTaken i t) ≡ firstTaken i (released n x more t)) →
-        released n x more (cond b (loosened (firstTaken i s) (p .after)) (firstTaken i s)) ≡ firstTaken i (released n x more (cond b (loosened s (p .after)) s))
-    go true rec = ap (released n x more) (loosened-behind i s h (p .after)) ∙ rec (loosened s (p .after)) (loosened-longer i s h (p .after))
+    go : (b : Bool) →
+        ((t : Kahn) → i ≤ length (t .queue) → released n x more (firstTaken i t) ≡ firstTaken i (released n x more t)) →
+        released n x more (cond b (loosened (firstTaken i s) (p .after)) (firstTaken i s))
+        ≡ firstTaken i (released n x more (cond b (loosened s (p .after)) s))
+    go true rec =
+        ap (released n x more) (loosened-behind i s h (p .after))
+        ∙ rec (loosened s (p .after)) (loosened-longer i s h (p .after))
     go false rec = rec s h
 
 -- the front is the position behind those that are taken
@@ -252,28 +263,33 @@ pub front-taken : (n i : ℕ) (ps : List Pair) (s : Kahn) → i < length (s .que
     frontTaken n ps (firstTaken i s) ≡ firstTaken (suc i) (released n (getD (s .queue) i 0) ps s)
 unfolding frontTaken
 front-taken n i ps s h =
-    rw (drop-cons (s .queue) i 0 h, ← take-suc (s .queue) i 0 h) (released-behind n (getD (s .queue) i 0) (suc i) ps s h)
+    rw (drop-cons (s .queue) i 0 h, ← take-suc (s .queue) i 0 h)
+    (released-behind n (getD (s .queue) i 0) (suc i) ps s h)
 
 pub queue-step : (most n i : ℕ) (ps : List Pair) (s : Kahn) → i < length (s .queue) →
-    queueTaken (suc most) n ps (firstTaken i s) ≡ queueTaken most n ps (firstTaken (suc i) (released n (getD (s .queue) i 0) ps s))
+    queueTaken (suc most) n ps (firstTaken i s)
+    ≡ queueTaken most n ps (firstTaken (suc i) (released n (getD (s .queue) i 0) ps s))
 unfolding queueTaken
 queue-step most n i ps s h =
     rw (lt-ltb 0 (length (drop i (s .queue))) (omega (arith, length-drop i (s .queue))), front-taken n i ps s h)
 
-pub queue-end : (most n i : ℕ) (ps : List Pair) (s : Kahn) → length (s .queue) ≤ i → queueTaken most n ps (firstTaken i s) ≡ firstTaken i s
+pub queue-end : (most n i : ℕ) (ps : List Pair) (s : Kahn) → length (s .queue) ≤ i →
+    queueTaken most n ps (firstTaken i s) ≡ firstTaken i s
 unfolding queueTaken
 queue-end zero n i ps s h = refl
 queue-end (suc most) n i ps s h = rw (le-ltb 0 (length (drop i (s .queue))) (omega (arith, length-drop i (s .queue))))
 
 pub record QueuePart (n : ℕ) (pairs : List ℕ) (i : ℕ) (s : Kahn) (w o : List ℕ) (k : ℕ) : Type 0 where
   pub roomy : Roomy w o k
-  pub left : queueTaken (CONTOURS - i) n (paired pairs) (firstTaken i (standing w o k)) ≡ queueTaken CONTOURS n (paired pairs) s
+  pub left :
+      queueTaken (CONTOURS - i) n (paired pairs) (firstTaken i (standing w o k)) ≡ queueTaken CONTOURS n (paired pairs) s
 
 pub queue-none : (n : ℕ) (pairs w o : List ℕ) (k : ℕ) → Roomy w o k → QueuePart n pairs 0 (standing w o k) w o k
 queue-none n pairs w o k roomy = record { roomy = roomy; left = refl }
 
-pub queue-more : (n : ℕ) (pairs : List ℕ) (i : ℕ) (s : Kahn) (w o : List ℕ) (k x : ℕ) (w' o' : List ℕ) (k' : ℕ) → i < k → x ≡ getD o i 0 →
-    QueuePart n pairs i s w o k → Stands (released n x (paired pairs) (standing w o k)) w' o' k' → QueuePart n pairs (i + 1) s w' o' k'
+pub queue-more : (n : ℕ) (pairs : List ℕ) (i : ℕ) (s : Kahn) (w o : List ℕ) (k x : ℕ) (w' o' : List ℕ) (k' : ℕ) →
+    i < k → x ≡ getD o i 0 → QueuePart n pairs i s w o k →
+    Stands (released n x (paired pairs) (standing w o k)) w' o' k' → QueuePart n pairs (i + 1) s w' o' k'
 queue-more n pairs i s w o k x w' o' k' h e part stands = record {
   roomy = stands .roomy;
   left =
@@ -282,15 +298,18 @@ queue-more n pairs i s w o k x w' o' k' h e part stands = record {
       let x-is : x ≡ getD (take k o) i 0 = e ∙ sym (getD-take k o i 0 h) in
       ap (λ (t : Kahn). queueTaken (CONTOURS - (i + 1)) n (paired pairs) (firstTaken (i + 1) t)) (stands .is)
       ∙ rw (x-is, add-one i)
-      (sym (queue-step (CONTOURS - suc i) n i (paired pairs) (standing w o k) (omega arith)) ∙ (rw (f, add-one i) at (part .left)));
+      (sym (queue-step (CONTOURS - suc i) n i (paired pairs) (standing w o k) (omega arith))
+      ∙ (rw (f, add-one i) at (part .left)));
 }
 
-pub queue-all : (n : ℕ) (pairs : List ℕ) (i : ℕ) (s : Kahn) (w o : List ℕ) (k : ℕ) → k ≤ i → QueuePart n pairs i s w o k →
+pub queue-all : (n : ℕ) (pairs : List ℕ) (i : ℕ) (s : Kahn) (w o : List ℕ) (k : ℕ) → k ≤ i →
+    QueuePart n pairs i s w o k →
     Filled CONTOURS o k ((queueTaken CONTOURS n (paired pairs) s) .taken)
 queue-all n pairs i s w o k h part =
     let c : k ≡ length (take k o) = part .roomy .filled .counts in
+    let at-end = queue-end (CONTOURS - i) n i (paired pairs) (standing w o k) (omega arith) in
     let e : (queueTaken CONTOURS n (paired pairs) s) .taken ≡ take k o =
-    ap (λ (t : Kahn). t .taken) (sym (part .left) ∙ queue-end (CONTOURS - i) n i (paired pairs) (standing w o k) (omega arith)) ∙ take-all i (take k o) (omega arith) in
+    ap (λ (t : Kahn). t .taken) (sym (part .left) ∙ at-end) ∙ take-all i (take k o) (omega arith) in
     rw e (part .roomy .filled)
 
 -- ---- how it stands at first
@@ -334,10 +353,16 @@ tallied-length n (p ∷ more) w = tallied-length n more (cond (both n p) (heldBa
     go true = length-set w (p .after) (getD w (p .after) 0 + 1)
     go false = refl
 
-pub stands-first : (n : ℕ) (pairs w o : List ℕ) (k : ℕ) → n ≤ CONTOURS → w ≡ tallied n (paired pairs) (replicate CONTOURS 0) → Filled CONTOURS o k (freeBelow w n) → Stands (untaken n (paired pairs)) w o k
+pub stands-first : (n : ℕ) (pairs w o : List ℕ) (k : ℕ) → n ≤ CONTOURS →
+    w ≡ tallied n (paired pairs) (replicate CONTOURS 0) → Filled CONTOURS o k (freeBelow w n) →
+    Stands (untaken n (paired pairs)) w o k
 unfolding untaken
 stands-first n pairs w o k low e f = record {
-  roomy = record { size = size; filled = rw is (f); room = omega (arith, f .counts, free-room w n (omega (arith, size)), size) };
+  roomy = record {
+    size = size;
+    filled = rw is (f);
+    room = omega (arith, f .counts, free-room w n (omega (arith, size)), size);
+  };
   is = rw (is, e);
 }
   where

@@ -294,20 +294,26 @@ record Grown (o k : List ℕ) : Type 0 where
 grown-on : (o k l : List ℕ) → Grown o k → Grown k l → Grown o l
 grown-on o k l f g = record { longer = omega (arith, f .longer, g .longer); kept = λ q h. g .kept q (omega (arith, f .longer)) ∙ f .kept q h }
 
-record Walked (n : ℕ) (pairs : List ℕ) (done : ℕ → Bool) (x : ℕ) (rest : List Pair) (o : List ℕ) (s : Kahn) : Type 0 where
+record Walked (n : ℕ) (pairs : List ℕ) (done : ℕ → Bool) (x : ℕ) (rest : List Pair) (o : List ℕ)
+    (s : Kahn) : Type 0 where
   mid : Mid n pairs done x rest (s .waits) (s .queue)
   grown : Grown o (s .queue)
 
-walk-one : (n : ℕ) → n ≤ CONTOURS → (pairs : List ℕ) (done : ℕ → Bool) (x : ℕ) (p : Pair) (rest : List Pair) (s : Kahn) → Mid n pairs done x (p ∷ rest) (s .waits) (s .queue) →
+walk-one : (n : ℕ) → n ≤ CONTOURS → (pairs : List ℕ) (done : ℕ → Bool) (x : ℕ) (p : Pair) (rest : List Pair)
+    (s : Kahn) → Mid n pairs done x (p ∷ rest) (s .waits) (s .queue) →
     Walked n pairs done x rest (s .queue) (cond (eqb (p .before) x && both n p) (loosened s (p .after)) s)
 unfolding loosened into v
 walk-one n small pairs done x p rest s mid = ⊎-elim
     (λ (t : (eqb (p .before) x && both n p) ≡ true). rw t (⊎-elim
     (λ (one : getD (s .waits) (p .after) 0 ≡ 1). rw (eq-eqb (getD (s .waits) (p .after) 0) 1 one) (record {
       mid = mid-free n small pairs done x p rest (s .waits) (s .queue) mid t one;
-      grown = record { longer = omega (arith, push-length (s .queue) (p .after)); kept = push-old (s .queue) (p .after) };
+      grown = record {
+        longer = omega (arith, push-length (s .queue) (p .after));
+        kept = push-old (s .queue) (p .after);
+      };
     }))
-    (λ (d : getD (s .waits) (p .after) 0 ≡ 1 → ⊥). rw (ne-eqb (getD (s .waits) (p .after) 0) 1 d, append-nil (s .queue)) (record {
+    (λ (d : getD (s .waits) (p .after) 0 ≡ 1 → ⊥). rw (ne-eqb (getD (s .waits) (p .after) 0) 1 d, append-nil (s .queue))
+    (record {
       mid = mid-still n small pairs done x p rest (s .waits) (s .queue) mid t d;
       grown = record { longer = omega arith; kept = λ q h. refl };
     })) (same-or (getD (s .waits) (p .after) 0) 1)))
@@ -316,7 +322,8 @@ walk-one n small pairs done x p rest s mid = ⊎-elim
       grown = record { longer = omega arith; kept = λ q h. refl };
     })) (yes-or-no (eqb (p .before) x && both n p))
 
-walk-all : (n : ℕ) → n ≤ CONTOURS → (pairs : List ℕ) (done : ℕ → Bool) (x : ℕ) (rest : List Pair) (s : Kahn) → Mid n pairs done x rest (s .waits) (s .queue) →
+walk-all : (n : ℕ) → n ≤ CONTOURS → (pairs : List ℕ) (done : ℕ → Bool) (x : ℕ) (rest : List Pair) (s : Kahn) →
+    Mid n pairs done x rest (s .waits) (s .queue) →
     Walked n pairs done x [] (s .queue) (released n x rest s)
 unfolding released
 walk-all n small pairs done x [] s mid = record { mid = mid; grown = record { longer = omega arith; kept = λ q h. refl } }
@@ -344,14 +351,19 @@ whose n pairs done other x y w o same mid = subst (λ (d : ℕ → Bool). Mid n 
   known = mid .known;
 })
 
-take-next : (n : ℕ) (pairs : List ℕ) (i : ℕ) (s : Kahn) → i < length (s .queue) → Outer n pairs i s → Mid n pairs (met (s .queue) (suc i)) (getD (s .queue) i 0) (paired pairs) (s .waits) (s .queue)
+take-next : (n : ℕ) (pairs : List ℕ) (i : ℕ) (s : Kahn) → i < length (s .queue) → Outer n pairs i s →
+    Mid n pairs (met (s .queue) (suc i)) (getD (s .queue) i 0) (paired pairs) (s .waits) (s .queue)
 unfolding pairCount anyBelow
 take-next n pairs i s h outer = record {
   size = outer .mid .size;
   counts = λ a l.
-      let e : getD (s .waits) a 0 ≡ pairCount (holds n (met (s .queue) i) a) (paired pairs) + 0 = outer .mid .counts a l in
-      let f : pairCount (holds n (met (s .queue) i) a) (paired pairs) ≡ pairCount (holds n (met (s .queue) (suc i)) a) (paired pairs) + pairCount (goes n (getD (s .queue) i 0) a) (paired pairs) =
-      count-split n a (getD (s .queue) i 0) (met (s .queue) i) (met (s .queue) (suc i)) (met-not n (s .queue) (length (s .queue)) i h (outer .mid .different)) (λ b. refl) (paired pairs) in
+      let e : getD (s .waits) a 0 ≡ pairCount (holds n (met (s .queue) i) a) (paired pairs) + 0 =
+      outer .mid .counts a l in
+      let f : pairCount (holds n (met (s .queue) i) a) (paired pairs)
+      ≡ pairCount (holds n (met (s .queue) (suc i)) a) (paired pairs)
+      + pairCount (goes n (getD (s .queue) i 0) a) (paired pairs) =
+      count-split n a (getD (s .queue) i 0) (met (s .queue) i) (met (s .queue) (suc i))
+      (met-not n (s .queue) (length (s .queue)) i h (outer .mid .different)) (λ b. refl) (paired pairs) in
       omega arith;
   listed = outer .mid .listed;
   different = outer .mid .different;
@@ -359,13 +371,16 @@ take-next n pairs i s h outer = record {
   known = λ b e. let g = met-at (s .queue) (suc i) b e in (g .0, omega (arith, g .1), g .2);
 }
 
-outer-step : (n : ℕ) → n ≤ CONTOURS → (pairs : List ℕ) (i : ℕ) (s : Kahn) → i < length (s .queue) → Outer n pairs i s → Outer n pairs (suc i) (released n (getD (s .queue) i 0) (paired pairs) s)
+outer-step : (n : ℕ) → n ≤ CONTOURS → (pairs : List ℕ) (i : ℕ) (s : Kahn) → i < length (s .queue) → Outer n pairs i s →
+    Outer n pairs (suc i) (released n (getD (s .queue) i 0) (paired pairs) s)
 outer-step n small pairs i s h outer =
-    let all = walk-all n small pairs (met (s .queue) (suc i)) (getD (s .queue) i 0) (paired pairs) s (take-next n pairs i s h outer) in
+    let all = walk-all n small pairs (met (s .queue) (suc i)) (getD (s .queue) i 0) (paired pairs) s
+    (take-next n pairs i s h outer) in
     let s' = released n (getD (s .queue) i 0) (paired pairs) s in
     record {
       within = omega (arith, all .grown .longer);
-      mid = whose n pairs (met (s .queue) (suc i)) (met (s' .queue) (suc i)) (getD (s .queue) i 0) 0 (s' .waits) (s' .queue)
+      mid = whose n pairs (met (s .queue) (suc i)) (met (s' .queue) (suc i)) (getD (s .queue) i 0) 0 (s' .waits)
+          (s' .queue)
           (λ b. met-same (s .queue) (s' .queue) (suc i) b (λ q l. sym (all .grown .kept q (omega arith)))) (all .mid);
     }
 
@@ -375,18 +390,22 @@ record Ended (n : ℕ) (pairs : List ℕ) (end : Kahn) : Type 0 where
   is : end ≡ firstTaken (length (whole .queue)) whole
   outer : Outer n pairs (length (whole .queue)) whole
 
-ended-at : (n : ℕ) (pairs : List ℕ) (i : ℕ) (s end : Kahn) → i ≡ length (s .queue) → end ≡ firstTaken i s → Outer n pairs i s → Ended n pairs end
+ended-at : (n : ℕ) (pairs : List ℕ) (i : ℕ) (s end : Kahn) → i ≡ length (s .queue) → end ≡ firstTaken i s →
+    Outer n pairs i s → Ended n pairs end
 ended-at n pairs i s end e is outer = record { whole = s; is = rw (← e) is; outer = rw (← e) outer }
 
-outer-all : (n : ℕ) → n ≤ CONTOURS → (pairs : List ℕ) (most i : ℕ) (s : Kahn) → CONTOURS ≤ most + i → Outer n pairs i s →
+outer-all : (n : ℕ) → n ≤ CONTOURS → (pairs : List ℕ) (most i : ℕ) (s : Kahn) → CONTOURS ≤ most + i →
+    Outer n pairs i s →
     Ended n pairs (queueTaken most n (paired pairs) (firstTaken i s))
 outer-all n small pairs zero i s h outer =
     let few : length (s .queue) ≤ n = different-few n (s .queue) (length (s .queue)) (outer .mid .different) in
     ended-at n pairs i s _ (omega (arith, outer .within)) (queue-end zero n i (paired pairs) s (omega arith)) outer
 outer-all n small pairs (suc most) i s h outer = ⊎-elim
     (λ (l : i < length (s .queue)). subst (Ended n pairs) (sym (queue-step most n i (paired pairs) s l))
-    (outer-all n small pairs most (suc i) (released n (getD (s .queue) i 0) (paired pairs) s) (omega arith) (outer-step n small pairs i s l outer)))
-    (λ (l : length (s .queue) ≤ i). ended-at n pairs i s _ (omega (arith, outer .within)) (queue-end (suc most) n i (paired pairs) s l) outer)
+    (outer-all n small pairs most (suc i) (released n (getD (s .queue) i 0) (paired pairs) s) (omega arith)
+    (outer-step n small pairs i s l outer)))
+    (λ (l : length (s .queue) ≤ i). ended-at n pairs i s _ (omega (arith, outer .within))
+    (queue-end (suc most) n i (paired pairs) s l) outer)
     (lt-or i (length (s .queue)))
 
 -- ---- how it stands at first
@@ -461,7 +480,10 @@ module _ (n : ℕ) (small : n ≤ CONTOURS) (pairs : List ℕ) (free : Acyclic n
   -- a position that is not in the order would wait for one that is not either, and so on without end
   complete : (k : ℕ) → k < n → met (end .queue) (length (end .queue)) k ≡ true
   unfolding pairCount
-  complete k h = ⊎-elim (λ (t : met (end .queue) (length (end .queue)) k ≡ true). t) (λ (f : met (end .queue) (length (end .queue)) k ≡ false). absurd (never (least n (linked n pairs) (linked-within n pairs) free missing k h (rw f)))) (yes-or-no (met (end .queue) (length (end .queue)) k))
+  complete k h = ⊎-elim (λ (t : met (end .queue) (length (end .queue)) k ≡ true). t)
+      (λ (f : met (end .queue) (length (end .queue)) k ≡ false). absurd
+      (never (least n (linked n pairs) (linked-within n pairs) free missing k h (rw f))))
+      (yes-or-no (met (end .queue) (length (end .queue)) k))
     where
       missing : ℕ → Bool
       missing b = not (met (end .queue) (length (end .queue)) b)
@@ -470,10 +492,13 @@ module _ (n : ℕ) (small : n ≤ CONTOURS) (pairs : List ℕ) (free : Acyclic n
       never (m, l) = l .none (q .0 .before) low (and-second (eqb (q .0 .after) m) (missing (q .0 .before)) (and-second (both n (q .0)) (eqb (q .0 .after) m && missing (q .0 .before)) (q .2))) (rw same at (linked-pair n pairs (q .0 .before) (q .0 .after) low (rw same (l .within)) (q .1)))
         where
           waits : getD (end .waits) m 0 ≡ 0 → ⊥
-          waits = eqb-false (getD (end .waits) m 0) 0 (sym (whole .mid .listed m (l .within)) ∙ not-true (met (end .queue) (length (end .queue)) m) (l .holds))
+          waits = eqb-false (getD (end .waits) m 0) 0
+              (sym (whole .mid .listed m (l .within)) ∙ not-true (met (end .queue) (length (end .queue)) m) (l .holds))
 
-          q : (p : Pair) × (someOf (isPair (p .before) (p .after)) (paired pairs) ≡ true) × (holds n (met (end .queue) (length (end .queue))) m p ≡ true)
-          q = count-some (holds n (met (end .queue) (length (end .queue))) m) (paired pairs) (λ e. waits (whole .mid .counts m (l .within) ∙ rw e (omega arith)))
+          q : (p : Pair) × (someOf (isPair (p .before) (p .after)) (paired pairs) ≡ true) ×
+              (holds n (met (end .queue) (length (end .queue))) m p ≡ true)
+          q = count-some (holds n (met (end .queue) (length (end .queue))) m) (paired pairs)
+              (λ e. waits (whole .mid .counts m (l .within) ∙ rw e (omega arith)))
 
           low : q .0 .before < n
           low = ltb-true (q .0 .before) n (and-first (ltb (q .0 .before) n) (ltb (q .0 .after) n) (and-first (both n (q .0)) (eqb (q .0 .after) m && missing (q .0 .before)) (q .2)))
@@ -482,7 +507,11 @@ module _ (n : ℕ) (small : n ≤ CONTOURS) (pairs : List ℕ) (free : Acyclic n
           same = eqb-true (q .0 .after) m (and-first (eqb (q .0 .after) m) (missing (q .0 .before)) (and-second (both n (q .0)) (eqb (q .0 .after) m && missing (q .0 .before)) (q .2)))
 
   full : length (end .queue) ≡ n
-  full = omega (arith, different-few n (end .queue) (length (end .queue)) (whole .mid .different), all-many n (end .queue) (length (end .queue)) complete)
+  full = omega (
+    arith,
+    different-few n (end .queue) (length (end .queue)) (whole .mid .different),
+    all-many n (end .queue) (length (end .queue)) complete,
+  )
 
   end-legal : Legal n pairs (end .queue)
   end-legal = record {
@@ -501,7 +530,8 @@ module _ (n : ℕ) (small : n ≤ CONTOURS) (pairs : List ℕ) (free : Acyclic n
   pub sorted-legal : Legal n pairs (sortedBy n pairs)
   unfolding sortedBy untaken end
   sorted-legal =
-      let e : sortedBy n pairs ≡ end .queue = ap (λ (s : Kahn). s .taken) (ended .is) ∙ take-all (length (end .queue)) (end .queue) (omega arith) in
+      let e : sortedBy n pairs ≡ end .queue =
+      ap (λ (s : Kahn). s .taken) (ended .is) ∙ take-all (length (end .queue)) (end .queue) (omega arith) in
       subst (Legal n pairs) (sym e) end-legal
 
 -- ---- the theorems

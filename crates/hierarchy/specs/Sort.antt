@@ -1,4 +1,4 @@
--- Kahn's topological order: positions are taken in the order in which nothing holds them back any more. Assumes nothing.
+-- Kahn's topological order: positions are taken in the order in which they come free. Assumes nothing.
 use mathlib.Core.Bool.{Bool, cond, _&&_}
 use mathlib.Core.List.{List, [], _∷_, _++_}
 use Prim.Native.Nat.{ℕ, zero, suc, _+_, _-_}
@@ -7,8 +7,8 @@ use lib.ListN.{length, getD, set, drop, replicate}
 use Rattle.closure.specs.Limits.{CONTOURS}
 use Rattle.closure.specs.Pairs.{Pair, paired}
 
--- how far it has come: the positions taken, in their order; the queue of those that nothing holds back any more, in the order in which they
--- came free; and how many pairs still hold each position back
+-- how far it has come: the positions taken, in their order; the queue of those that nothing holds back any more, in the
+-- order in which they came free; and how many pairs still hold each position back
 pub record Kahn : Type 0 where
   pub taken : List ℕ
   pub queue : List ℕ
@@ -35,7 +35,9 @@ freeBelow w (suc k) = freeBelow w k ++ cond (eqb (getD w k 0) 0) (k ∷ []) []
 -- before any is taken, the queue has those that no pair holds back
 unfoldable pub untaken : ℕ → List Pair → Kahn
 unfolding tallied freeBelow
-untaken n ps = let waits = tallied n ps (replicate CONTOURS 0) in record { taken = []; queue = freeBelow waits n; waits = waits }
+untaken n ps =
+    let waits = tallied n ps (replicate CONTOURS 0) in
+    record { taken = []; queue = freeBelow waits n; waits = waits }
 
 -- one pair less holds position a back; where it was the last one, a joins the queue
 unfoldable pub loosened : Kahn → ℕ → Kahn
@@ -62,7 +64,9 @@ frontTaken n ps s =
 unfoldable pub queueTaken : ℕ → ℕ → List Pair → Kahn → Kahn
 unfolding frontTaken
 queueTaken zero n ps s = s
-queueTaken (suc most) n ps s = let further = queueTaken most n ps (frontTaken n ps s) in cond (ltb 0 (length (s .queue))) further s
+queueTaken (suc most) n ps s =
+    let further = queueTaken most n ps (frontTaken n ps s) in
+    cond (ltb 0 (length (s .queue))) further s
 
 -- the order of the n positions: each is taken in its turn
 unfoldable pub sortedBy : ℕ → List ℕ → List ℕ

@@ -48,7 +48,8 @@ pub record RanksPart (order : List ℕ) (i : ℕ) (p q : List ℕ) : Type 0 wher
 pub ranks-none : (order p : List ℕ) → length p ≡ 256 → RanksPart order 0 p p
 ranks-none order p size = record { size = size; within = omega arith; left = λ x h. refl }
 
-pub ranks-more : (order : List ℕ) (i y : ℕ) (p q : List ℕ) → y ≡ getD order i 0 → y < 256 → i < length order → RanksPart order i p q → RanksPart order (i + 1) p (set q y (i + 1))
+pub ranks-more : (order : List ℕ) (i y : ℕ) (p q : List ℕ) → y ≡ getD order i 0 → y < 256 → i < length order →
+    RanksPart order i p q → RanksPart order (i + 1) p (set q y (i + 1))
 ranks-more order i y p q e small more part = record {
   size = length-set q y (i + 1) ∙ part .size;
   within = omega arith;
@@ -77,11 +78,14 @@ kept-there b a d = ⊎-elim
 -- ---- the answer for a pair of the list
 
 -- a table that was zero at first holds the last rank of a number of the list
-pub table-rank : (order ranks : List ℕ) (x y : ℕ) → RanksOf order (replicate 256 0) ranks → x ≡ y → x < 256 → getD ranks x 0 ≡ lastRank order y
+pub table-rank : (order ranks : List ℕ) (x y : ℕ) → RanksOf order (replicate 256 0) ranks → x ≡ y → x < 256 →
+    getD ranks x 0 ≡ lastRank order y
 table-rank order ranks x y table e h =
-    table .told x h ∙ ap (λ (z : ℕ). latest x 0 z order) (getD-replicate 256 x 0 0 h) ∙ latest-last x order ∙ ap (lastRank order) e
+    table .told x h ∙ ap (λ (z : ℕ). latest x 0 z order) (getD-replicate 256 x 0 0 h)
+    ∙ latest-last x order ∙ ap (lastRank order) e
 
-module _ (order pairs : List ℕ) (at b a : ℕ) (r : Bool) (eb : b ≡ lastRank order (getD pairs at 0)) (ea : a ≡ lastRank order (getD pairs (at + 1) 0))
+module _ (order pairs : List ℕ) (at b a : ℕ) (r : Bool) (eb : b ≡ lastRank order (getD pairs at 0))
+    (ea : a ≡ lastRank order (getD pairs (at + 1) 0))
     (more : at + 1 < length pairs) (part : EveryPart (keptIn order) pairs at) (is : r ≡ keptAt b a) where
   kept-answer : keptIn order (pairAt pairs at) ≡ r
   unfolding keptIn

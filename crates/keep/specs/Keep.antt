@@ -6,8 +6,8 @@ use lib.Dec.{ltb, eqb}
 use lib.ListN.{getD}
 use Rattle.closure.specs.Pairs.{Pair, paired, every}
 
--- the rank of the last x in the order, counted from 1: one more than in what follows the first entry, where it is there; else 1, where it is
--- the first entry; else 0
+-- the rank of the last x in the order, counted from 1: where x is among the entries behind the first, one more than its
+-- rank there; else 1 where it is the first; else 0
 unfoldable pub lastRank : List ℕ → ℕ → ℕ
 lastRank [] x = 0
 lastRank (y ∷ more) x = let later = lastRank more x in cond (ltb 0 later) (suc later) (cond (eqb y x) 1 0)

@@ -1,6 +1,6 @@
 -- `card::check_blocks` meets its contract. Assumes nothing.
 use borrow.Author.Needs.{needs}
-use Rattle.card.proofs.GroupLaws.{stopped, passed, last-stage, stage-is}
+use Rattle.card.proofs.GroupLaws.{stops-at, goes-past, ends-with}
 use Rattle.card.proofs.check_blocks.Statement.{statement}
 use Rattle.card.proofs.check_blocks.Tie as tie
 
@@ -18,7 +18,7 @@ enum-told-2 c = search needs
 
 returns : tie.Need-returns
 returns c = let r1 = c .before .before in
-    stopped _ _ _ (stage-is 5 _ _ _ (r1 .refused .ensures) (r1 .before .count-fault .ensures)) _ (c .enum-told2 .given .1)
+    stops-at 5 (r1 .refused .ensures) (r1 .before .count-fault .ensures) _ (c .enum-told2 .given .1)
 
 start-fault-requires : tie.Need-start-fault-requires
 start-fault-requires c κs = search needs
@@ -36,7 +36,8 @@ returns-2 : tie.Need-returns-2
 returns-2 c = let r2 = c .before .before in
     let t1 = r2 .before .before in
     let r1 = t1 .before .before in
-    passed _ _ _ (stage-is 5 _ _ _ (r1 .refused .ensures) (r1 .before .count-fault .ensures)) _ (t1 .enum-told .given .1) (stopped _ _ _ (stage-is 3 _ _ _ (r2 .refused2 .ensures) (r2 .before .start-fault .ensures)) _ (c .enum-told4 .given .1))
+    goes-past 5 (r1 .refused .ensures) (r1 .before .count-fault .ensures) _ (t1 .enum-told .given .1)
+    (stops-at 3 (r2 .refused2 .ensures) (r2 .before .start-fault .ensures) _ (c .enum-told4 .given .1))
 
 contour-fault-requires : tie.Need-contour-fault-requires
 contour-fault-requires c κs = search needs
@@ -56,7 +57,9 @@ returns-3 c = let r3 = c .before .before in
     let r2 = t2 .before .before in
     let t1 = r2 .before .before in
     let r1 = t1 .before .before in
-    passed _ _ _ (stage-is 5 _ _ _ (r1 .refused .ensures) (r1 .before .count-fault .ensures)) _ (t1 .enum-told .given .1) (passed _ _ _ (stage-is 3 _ _ _ (r2 .refused2 .ensures) (r2 .before .start-fault .ensures)) _ (t2 .enum-told3 .given .1) (stopped _ _ _ (stage-is 6 _ _ _ (r3 .refused3 .ensures) (r3 .before .contour-fault .ensures)) _ (c .enum-told6 .given .1)))
+    goes-past 5 (r1 .refused .ensures) (r1 .before .count-fault .ensures) _ (t1 .enum-told .given .1)
+    (goes-past 3 (r2 .refused2 .ensures) (r2 .before .start-fault .ensures) _ (t2 .enum-told3 .given .1)
+    (stops-at 6 (r3 .refused3 .ensures) (r3 .before .contour-fault .ensures) _ (c .enum-told6 .given .1)))
 
 spare-fault-requires : tie.Need-spare-fault-requires
 spare-fault-requires c κs = search needs
@@ -72,7 +75,10 @@ returns-4 c = let r4 = c in
     let r2 = t2 .before .before in
     let t1 = r2 .before .before in
     let r1 = t1 .before .before in
-    passed _ _ _ (stage-is 5 _ _ _ (r1 .refused .ensures) (r1 .before .count-fault .ensures)) _ (t1 .enum-told .given .1) (passed _ _ _ (stage-is 3 _ _ _ (r2 .refused2 .ensures) (r2 .before .start-fault .ensures)) _ (t2 .enum-told3 .given .1) (passed _ _ _ (stage-is 6 _ _ _ (r3 .refused3 .ensures) (r3 .before .contour-fault .ensures)) _ (t3 .enum-told5 .given .1) (last-stage _ _ (stage-is 7 _ _ _ (r4 .refused4 .ensures) (r4 .before .spare-fault .ensures)))))
+    goes-past 5 (r1 .refused .ensures) (r1 .before .count-fault .ensures) _ (t1 .enum-told .given .1)
+    (goes-past 3 (r2 .refused2 .ensures) (r2 .before .start-fault .ensures) _ (t2 .enum-told3 .given .1)
+    (goes-past 6 (r3 .refused3 .ensures) (r3 .before .contour-fault .ensures) _ (t3 .enum-told5 .given .1)
+    (ends-with 7 (r4 .refused4 .ensures) (r4 .before .spare-fault .ensures))))
 
 pub check-blocks-spec : {M : Type 1} → statement M
 check-blocks-spec =

@@ -1,6 +1,6 @@
 -- `card::check_contours` meets its contract. Assumes nothing.
 use borrow.Author.Needs.{needs}
-use Rattle.card.proofs.GroupLaws.{stopped, passed, last-stage, stage-is}
+use Rattle.card.proofs.GroupLaws.{stops-at, goes-past, ends-with}
 use Rattle.card.proofs.check_contours.Statement.{statement}
 use Rattle.card.proofs.check_contours.Tie as tie
 
@@ -18,7 +18,7 @@ enum-told-2 c = search needs
 
 returns : tie.Need-returns
 returns c = let r1 = c .before .before in
-    stopped _ _ _ (stage-is 8 _ _ _ (r1 .refused .ensures) (r1 .before .far-fault .ensures)) _ (c .enum-told2 .given .1)
+    stops-at 8 (r1 .refused .ensures) (r1 .before .far-fault .ensures) _ (c .enum-told2 .given .1)
 
 repeat-fault-requires : tie.Need-repeat-fault-requires
 repeat-fault-requires c κs = search needs
@@ -30,7 +30,8 @@ returns-2 : tie.Need-returns-2
 returns-2 c = let r2 = c in
     let t1 = r2 .before .before in
     let r1 = t1 .before .before in
-    passed _ _ _ (stage-is 8 _ _ _ (r1 .refused .ensures) (r1 .before .far-fault .ensures)) _ (t1 .enum-told .given .1) (last-stage _ _ (stage-is 9 _ _ _ (r2 .refused2 .ensures) (r2 .before .repeat-fault .ensures)))
+    goes-past 8 (r1 .refused .ensures) (r1 .before .far-fault .ensures) _ (t1 .enum-told .given .1)
+    (ends-with 9 (r2 .refused2 .ensures) (r2 .before .repeat-fault .ensures))
 
 pub check-contours-spec : {M : Type 1} → statement M
 check-contours-spec =

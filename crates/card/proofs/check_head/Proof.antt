@@ -1,6 +1,6 @@
 -- `card::check_head` meets its contract. Assumes nothing.
 use borrow.Author.Needs.{needs}
-use Rattle.card.proofs.GroupLaws.{stopped, passed, last-stage, stage-is}
+use Rattle.card.proofs.GroupLaws.{stops-at, goes-past, ends-with}
 use Rattle.card.proofs.check_head.Statement.{statement}
 use Rattle.card.proofs.check_head.Tie as tie
 
@@ -18,7 +18,7 @@ enum-told-2 c = search needs
 
 returns : tie.Need-returns
 returns c = let r1 = c .before .before in
-    stopped _ _ _ (stage-is 1 _ _ _ (r1 .refused .ensures) (r1 .before .length-fault .ensures)) _ (c .enum-told2 .given .1)
+    stops-at 1 (r1 .refused .ensures) (r1 .before .length-fault .ensures) _ (c .enum-told2 .given .1)
 
 check-fault-requires : tie.Need-check-fault-requires
 check-fault-requires c κs = search needs
@@ -36,7 +36,8 @@ returns-2 : tie.Need-returns-2
 returns-2 c = let r2 = c .before .before in
     let t1 = r2 .before .before in
     let r1 = t1 .before .before in
-    passed _ _ _ (stage-is 1 _ _ _ (r1 .refused .ensures) (r1 .before .length-fault .ensures)) _ (t1 .enum-told .given .1) (stopped _ _ _ (stage-is 2 _ _ _ (r2 .refused2 .ensures) (r2 .before .check-fault .ensures)) _ (c .enum-told4 .given .1))
+    goes-past 1 (r1 .refused .ensures) (r1 .before .length-fault .ensures) _ (t1 .enum-told .given .1)
+    (stops-at 2 (r2 .refused2 .ensures) (r2 .before .check-fault .ensures) _ (c .enum-told4 .given .1))
 
 start-fault-requires : tie.Need-start-fault-requires
 start-fault-requires c κs = search needs
@@ -56,7 +57,9 @@ returns-3 c = let r3 = c .before .before in
     let r2 = t2 .before .before in
     let t1 = r2 .before .before in
     let r1 = t1 .before .before in
-    passed _ _ _ (stage-is 1 _ _ _ (r1 .refused .ensures) (r1 .before .length-fault .ensures)) _ (t1 .enum-told .given .1) (passed _ _ _ (stage-is 2 _ _ _ (r2 .refused2 .ensures) (r2 .before .check-fault .ensures)) _ (t2 .enum-told3 .given .1) (stopped _ _ _ (stage-is 3 _ _ _ (r3 .refused3 .ensures) (r3 .before .start-fault .ensures)) _ (c .enum-told6 .given .1)))
+    goes-past 1 (r1 .refused .ensures) (r1 .before .length-fault .ensures) _ (t1 .enum-told .given .1)
+    (goes-past 2 (r2 .refused2 .ensures) (r2 .before .check-fault .ensures) _ (t2 .enum-told3 .given .1)
+    (stops-at 3 (r3 .refused3 .ensures) (r3 .before .start-fault .ensures) _ (c .enum-told6 .given .1)))
 
 head-fault-requires : tie.Need-head-fault-requires
 head-fault-requires c κs = search needs
@@ -72,7 +75,10 @@ returns-4 c = let r4 = c in
     let r2 = t2 .before .before in
     let t1 = r2 .before .before in
     let r1 = t1 .before .before in
-    passed _ _ _ (stage-is 1 _ _ _ (r1 .refused .ensures) (r1 .before .length-fault .ensures)) _ (t1 .enum-told .given .1) (passed _ _ _ (stage-is 2 _ _ _ (r2 .refused2 .ensures) (r2 .before .check-fault .ensures)) _ (t2 .enum-told3 .given .1) (passed _ _ _ (stage-is 3 _ _ _ (r3 .refused3 .ensures) (r3 .before .start-fault .ensures)) _ (t3 .enum-told5 .given .1) (last-stage _ _ (stage-is 4 _ _ _ (r4 .refused4 .ensures) (r4 .before .head-fault .ensures)))))
+    goes-past 1 (r1 .refused .ensures) (r1 .before .length-fault .ensures) _ (t1 .enum-told .given .1)
+    (goes-past 2 (r2 .refused2 .ensures) (r2 .before .check-fault .ensures) _ (t2 .enum-told3 .given .1)
+    (goes-past 3 (r3 .refused3 .ensures) (r3 .before .start-fault .ensures) _ (t3 .enum-told5 .given .1)
+    (ends-with 4 (r4 .refused4 .ensures) (r4 .before .head-fault .ensures))))
 
 pub check-head-spec : {M : Type 1} → statement M
 check-head-spec =

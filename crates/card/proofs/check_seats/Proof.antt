@@ -1,7 +1,7 @@
 -- `card::check_seats` meets its contract. Assumes nothing.
 use denote.Ref.{now}
 use borrow.Author.Needs.{needs}
-use Rattle.card.proofs.GroupLaws.{stopped, passed, last-stage, stage-is, cycle-is}
+use Rattle.card.proofs.GroupLaws.{stops-at, goes-past, ends-with, cycle-is}
 use Rattle.card.proofs.check_seats.Statement.{statement}
 use Rattle.card.proofs.check_seats.Tie as tie
 
@@ -19,7 +19,7 @@ enum-told-2 c = search needs
 
 returns : tie.Need-returns
 returns c = let r1 = c .before .before in
-    stopped _ _ _ (stage-is 11 _ _ _ (r1 .refused .ensures) (r1 .before .tag-fault .ensures)) _ (c .enum-told2 .given .1)
+    stops-at 11 (r1 .refused .ensures) (r1 .before .tag-fault .ensures) _ (c .enum-told2 .given .1)
 
 contours-requires : tie.Need-contours-requires
 contours-requires c κs = search needs
@@ -34,8 +34,10 @@ returns-2 : tie.Need-returns-2
 returns-2 c = let t1 = c .before .before .before in
     let r1 = t1 .before .before in
     let st = r1 .before .before .before .before in
-    passed _ _ _ (stage-is 11 _ _ _ (r1 .refused .ensures) (r1 .before .tag-fault .ensures)) _ (t1 .enum-told .given .1)
-    (last-stage _ _ (stage-is 12 _ _ _ (c .refused2 .ensures) (cycle-is (now (st .args .card)) _ _ _ (c .before .before .contours .ensures) (st .pre) (c .before .first-on-cycle .ensures))))
+    goes-past 11 (r1 .refused .ensures) (r1 .before .tag-fault .ensures) _ (t1 .enum-told .given .1)
+    (ends-with 12 (c .refused2 .ensures)
+    (cycle-is (now (st .args .card)) _ _ _ (c .before .before .contours .ensures) (st .pre)
+    (c .before .first-on-cycle .ensures)))
 
 pub check-seats-spec : {M : Type 1} → statement M
 check-seats-spec =

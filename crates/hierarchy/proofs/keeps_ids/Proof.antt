@@ -46,7 +46,11 @@ kept-at-requires : tie.Need-kept-at-requires Inv-loop μ-loop
 kept-at-requires c κs = search needs
 
 returns : tie.Need-returns Inv-loop μ-loop
-returns c = let h = c .before .before .before .before .before .before in pair-broken _ _ _ _ _ _ (c .before .before .before .before .last-rank .ensures) (c .before .before .last-rank2 .ensures) (h .loop-test .taken) (h .before .loop .inv) (c .before .kept-at .ensures) (not-true _ (c .if1 .taken))
+returns c =
+    let h = c .before .before .before .before .before .before in
+    pair-broken _ _ _ _ _ _
+    (c .before .before .before .before .last-rank .ensures) (c .before .before .last-rank2 .ensures)
+    (h .loop-test .taken) (h .before .loop .inv) (c .before .kept-at .ensures) (not-true _ (c .if1 .taken))
 
 add-at : tie.Need-add-at Inv-loop μ-loop
 add-at c = search needs
@@ -55,7 +59,11 @@ loop-less : tie.Need-loop-less Inv-loop μ-loop
 loop-less c = search needs
 
 loop-again : tie.Need-loop-again Inv-loop μ-loop
-loop-again c = let h = c .before .before .before .before .before .before in pair-kept _ _ _ _ _ _ (c .before .before .before .before .last-rank .ensures) (c .before .before .last-rank2 .ensures) (h .loop-test .taken) (h .before .loop .inv) (c .before .kept-at .ensures) (not-false _ (c .if1 .left))
+loop-again c =
+    let h = c .before .before .before .before .before .before in
+    pair-kept _ _ _ _ _ _
+    (c .before .before .before .before .last-rank .ensures) (c .before .before .last-rank2 .ensures)
+    (h .loop-test .taken) (h .before .loop .inv) (c .before .kept-at .ensures) (not-false _ (c .if1 .left))
 
 returns-2 : tie.Need-returns-2 Inv-loop μ-loop
 returns-2 c = pairs-kept _ _ _ (c .loop-test .left) (c .before .loop .inv)

@@ -44,7 +44,12 @@ wide32-requires : tie.Need-wide32-requires Inv-loop μ-loop
 wide32-requires c κs = search needs
 
 loosen-requires : tie.Need-loosen-requires Inv-loop μ-loop
-loosen-requires c κs = let h = c .before .before .before .before .before .before .before in (release-low _ _ _ _ _ _ _ _ _ (h .loop-test .taken) (h .before .loop .inv) (c .before .before .before .before .counts .ensures) _ (c .before .before .wide32 .ensures) (search needs) (c .before .before .before .if1 .taken), h .before .loop .inv .roomy)
+loosen-requires c κs = let h = c .before .before .before .before .before .before .before in (
+  release-low _ _ _ _ _ _ _ _ _ (h .loop-test .taken) (h .before .loop .inv)
+      (c .before .before .before .before .counts .ensures) _ (c .before .before .wide32 .ensures) (search needs)
+      (c .before .before .before .if1 .taken),
+  h .before .loop .inv .roomy,
+)
 
 loop-less : tie.Need-loop-less Inv-loop μ-loop
 loop-less c = search needs

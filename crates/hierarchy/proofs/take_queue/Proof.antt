@@ -9,7 +9,8 @@ use Rattle.hierarchy.proofs.take_queue.Statement.{statement}
 use Rattle.hierarchy.proofs.take_queue.Tie as tie
 
 abbrev Inv-loop : tie.InvT-loop
-Inv-loop pairs n waits₀ order₀ free count₀ i₀ waits order count i = QueuePart n pairs i (standing waits₀ order₀ free) waits order count
+Inv-loop pairs n waits₀ order₀ free count₀ i₀ waits order count i =
+    QueuePart n pairs i (standing waits₀ order₀ free) waits order count
 
 abbrev μ-loop : tie.MeasureT-loop
 μ-loop pairs n waits₀ order₀ free count₀ i₀ waits order count i = CONTOURS - i

@@ -60,8 +60,8 @@ returns c =
     let w = c .before .before .before .before .wide .ensures in
     let v = c .before .before .wide2 .ensures in
     let table = h .before .before .note-long .ensures in
-    pair-broken _ _ _ _ _ _ (table-rank _ _ _ _ table (w .0) (w .1)) (table-rank _ _ _ _ table (v .0) (v .1)) (h .loop-test .taken) (h .before .loop .inv)
-    (c .before .kept-at .ensures) (not-true _ (c .if1 .taken))
+    pair-broken _ _ _ _ _ _ (table-rank _ _ _ _ table (w .0) (w .1)) (table-rank _ _ _ _ table (v .0) (v .1))
+    (h .loop-test .taken) (h .before .loop .inv) (c .before .kept-at .ensures) (not-true _ (c .if1 .taken))
 
 add-at : tie.Need-add-at Inv-loop μ-loop
 add-at c = search needs
@@ -75,8 +75,8 @@ loop-again c =
     let w = c .before .before .before .before .wide .ensures in
     let v = c .before .before .wide2 .ensures in
     let table = h .before .before .note-long .ensures in
-    pair-kept _ _ _ _ _ _ (table-rank _ _ _ _ table (w .0) (w .1)) (table-rank _ _ _ _ table (v .0) (v .1)) (h .loop-test .taken) (h .before .loop .inv)
-    (c .before .kept-at .ensures) (not-false _ (c .if1 .left))
+    pair-kept _ _ _ _ _ _ (table-rank _ _ _ _ table (w .0) (w .1)) (table-rank _ _ _ _ table (v .0) (v .1))
+    (h .loop-test .taken) (h .before .loop .inv) (c .before .kept-at .ensures) (not-false _ (c .if1 .left))
 
 returns-2 : tie.Need-returns-2 Inv-loop μ-loop
 returns-2 c = pairs-kept _ _ _ (c .loop-test .left) (c .before .loop .inv)

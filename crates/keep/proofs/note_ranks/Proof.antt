@@ -34,7 +34,8 @@ loop-less : tie.Need-loop-less Inv-loop μ-loop
 loop-less c = search needs
 
 loop-again : tie.Need-loop-again Inv-loop μ-loop
-loop-again c = ranks-more _ _ _ _ _ (c .wide .ensures .0) (c .wide .ensures .1) (c .before .before .loop-test .taken) (c .before .before .before .loop .inv)
+loop-again c = ranks-more _ _ _ _ _ (c .wide .ensures .0) (c .wide .ensures .1) (c .before .before .loop-test .taken)
+    (c .before .before .before .loop .inv)
 
 returns : tie.Need-returns Inv-loop μ-loop
 returns c = ranks-all _ _ _ _ (c .loop-test .left) (c .before .loop .inv)
