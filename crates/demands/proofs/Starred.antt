@@ -21,7 +21,8 @@ use Rattle.fields.specs.Layout.{jobOf}
 use Rattle.fields.specs.Values.{asType, asPreference, pointAt}
 use Rattle.card.specs.Stages.{seekOf}
 use Rattle.card.specs.Names.{seatsOf}
-use Rattle.card_laws.specs.Write.{bytes, blockOf, numberBytes, pointBytes, headBytes, pointsBytes, contourBytes, contourBlocks, pairBytes, pairBlocks, written}
+use Rattle.block.specs.Write.{bytes, blockOf}
+use Rattle.card_laws.specs.Write.{numberBytes, pointBytes, headBytes, pointsBytes, contourBytes, contourBlocks, pairBytes, pairBlocks, written}
 use Rattle.card_laws.specs.Examples.{asJob41, job41}
 use Rattle.card_laws.proofs.Starred.{examples}
 use Rattle.table.specs.Walk.{legs, walk}

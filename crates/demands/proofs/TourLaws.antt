@@ -9,8 +9,8 @@ use lib.Dec.{lit≤}
 use lib.ListN.{length, getD, length-map, length-append}
 use Rattle.answer.specs.declared.Check.the-variants.{Fine}
 use Rattle.points.proofs.SizeLaws.{Near, near-more, good-near, distance-below}
-use Rattle.hierarchy.specs.Legal.{EachOnce, Legal}
-use Rattle.hierarchy.proofs.OrderLaws.{keeps-legal, legal-keeps}
+use Rattle.keep.specs.Legal.{EachOnce, Legal}
+use Rattle.keep.proofs.OrderLaws.{keeps-legal, legal-keeps}
 use Rattle.fields.specs.Layout.{contoursOf, passesOf, moveLimitOf}
 use Rattle.card.specs.Verdict.{checkOf}
 use Rattle.card_laws.proofs.Facts.{accepted}

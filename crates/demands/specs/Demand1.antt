@@ -10,7 +10,7 @@ use lib.Ieee.{Float}
 use lib.ListN.{length, getD}
 use Rattle.answer.specs.declared.Refusal.{Refusal}
 use Rattle.answer.specs.declared.Check.the-variants as check
-use Rattle.hierarchy.specs.Legal.{EachOnce}
+use Rattle.keep.specs.Legal.{EachOnce}
 use Rattle.fields.specs.Layout.{contoursOf, pairsOf, idOf, beforeIdOf, afterIdOf}
 use Rattle.card_laws.specs.Table.{Given, Sound, Past11}
 use Rattle.card.specs.Verdict.{checkOf}

@@ -1,4 +1,3 @@
 pub mod Fill
 pub mod Sort
 pub mod Questions
-pub mod Legal

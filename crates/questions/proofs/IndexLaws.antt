@@ -15,8 +15,9 @@ use Rattle.answer.specs.Stage.{firstRefusal}
 use Rattle.answer.specs.Lowest.{refuseIf}
 use Rattle.candidates.specs.declared.Candidate.{Candidate}
 use Rattle.candidates.specs.Generate.{blank}
-use Rattle.hierarchy.specs.declared.Count.{Count}
-use Rattle.hierarchy.specs.declared.Count.the-variants as count
+use Rattle.answer.specs.declared.Count.{Count}
+use Rattle.answer.specs.declared.Count.the-variants as count
+use Rattle.answer.specs.Count.{countUnless}
 use Rattle.fields.specs.Layout.{contoursOf}
 use Rattle.card.specs.Verdict.{checkOf}
 use Rattle.card.proofs.GroupLaws.{last-stage}
@@ -28,7 +29,7 @@ use Rattle.tour.specs.Questions.{numberCheck}
 use Rattle.tour.proofs.RunLaws.{count-on, contours-on, items-on, first-on}
 use Rattle.questions.specs.declared.Picked.{Picked}
 use Rattle.questions.specs.declared.Picked.the-variants as picked
-use Rattle.questions.specs.Index.{pickedUnless, pickedOf, localCheck, countUnless, globalOf}
+use Rattle.questions.specs.Index.{pickedUnless, pickedOf, localCheck, globalOf}
 
 -- an element of a list is the same whatever stands past the end
 any-default : {A : Type 0} (l : List A) (a : ℕ) (d e : A) → a < length l → getD l a d ≡ getD l a e

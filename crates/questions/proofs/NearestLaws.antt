@@ -13,7 +13,7 @@ use Rattle.fields.specs.Layout.{contoursOf}
 use Rattle.card.specs.Verdict.{checkOf}
 use Rattle.start.specs.Nearest.{nearest}
 use Rattle.start.specs.Code.{groundOf, Written}
-use Rattle.solve.specs.Solve.{placed}
+use Rattle.answer.specs.Room.{placed}
 use Rattle.tour.specs.Search.{countOn, firstsOn, homesOn, tableOn}
 use Rattle.tour.proofs.DoorLaws.{room-back}
 use Rattle.questions.specs.declared.Stops.{Stops}

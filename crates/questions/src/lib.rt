@@ -3,6 +3,7 @@
 ghost use mathlib.Core.Path.{_≡_};
 ghost use Rattle.answer.specs.declared.Check.the-variants.{Fine};
 ghost use Rattle.card.specs.Verdict.{checkOf};
+ghost use Rattle.answer.specs.Count.{countUnless};
 ghost use Rattle.answer.specs.Lowest.{refuseIf};
 ghost use Rattle.candidates.specs.Generate.{blank};
 ghost use Rattle.instance.specs.Room.{instanceOf};
@@ -11,16 +12,16 @@ ghost use Prim.Native.Nat.{_+_};
 ghost use Rattle.tour.specs.Search.{candidatesOn, countOn, firstsOn, sheetOn};
 ghost use Rattle.questions.specs.Order.{stopAt, metBefore, badStop, firstBadStop, orderCheck, measuredUnless, evaluated};
 ghost use Rattle.questions.specs.Nearest.{stopsOf, nearestOn, nearestOf};
-ghost use Rattle.questions.specs.Index.{pickedUnless, pickedOf, localCheck, countUnless, globalOf};
+ghost use Rattle.questions.specs.Index.{pickedUnless, pickedOf, localCheck, globalOf};
 ghost use lib.Dec.{leb};
 ghost use lib.ListN.{getD};
 use answer::Check;
+use answer::Count;
 use answer::Found;
 use answer::Refusal;
 use candidates::Candidate;
 use closure::CONTOURS;
 use cost::Measured;
-use hierarchy::Count;
 use instance::Instance;
 use table::ENTRIES;
 

@@ -19,7 +19,8 @@ use Rattle.fields.specs.Layout.{contoursOf}
 use Rattle.card.specs.Verdict.{checkOf}
 use Rattle.card.proofs.GroupLaws.{last-stage}
 use Rattle.solve.specs.declared.Outcome.{Outcome}
-use Rattle.solve.specs.Solve.{placed, Solved}
+use Rattle.answer.specs.Room.{placed}
+use Rattle.solve.specs.Solve.{Solved}
 use Rattle.tour.specs.declared.Toured.the-variants as answer
 use Rattle.tour.specs.declared.Located.{Located}
 use Rattle.tour.specs.declared.Located.the-variants as located

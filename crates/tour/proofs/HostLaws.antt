@@ -24,7 +24,7 @@ use Rattle.instance.proofs.FineLaws.{few-candidates}
 use Rattle.solve.specs.declared.Outcome.{Outcome}
 use Rattle.tour.specs.declared.Toured.{Toured}
 use Rattle.tour.specs.declared.Toured.the-variants as answer
-use Rattle.solve.specs.Solve.{placed}
+use Rattle.answer.specs.Room.{placed}
 use Rattle.tour.specs.Search.{countOn, tourOn, outcomeOn}
 use Rattle.tour.specs.Tour.{Left, left, roomCheck, tourCheck, toured, touredUnless, tourOf}
 use Rattle.tour.specs.declared.Place.{Place}

@@ -19,8 +19,7 @@ use Rattle.card.specs.Names.{namedPairs, namedOf}
 use Rattle.card.specs.Stages.{nameFault}
 use Rattle.answer.specs.Lowest.{refuseAt}
 use Rattle.answer.proofs.StageLaws.{is-fine}
-use Rattle.card.proofs.GroupLaws.{named-stage, named-seats}
-use Rattle.card.proofs.NameLaws.{seats-length}
+use Rattle.card.proofs.GroupLaws.{named-stage, named-seats, named-whole, named-within}
 use Rattle.card.specs.Verdict.{stagesOf, checkOf}
 use Rattle.card_laws.proofs.Facts.{accepted}
 use Rattle.table.specs.Distances.{entryLimit, homed, tabled, homesOf, distancesOf}
@@ -136,23 +135,27 @@ module _ (s : List ℕ) (fine : checkOf s ≡ Fine) (all : Instance) (is : all �
   entries-few = mul-le-mul {n₂ = candidateLimit} {m₂ = candidateLimit} few-on few-on
 
 -- the pairs' positions stand at the front of theirs
-pub pairs-on : (s : List ℕ) → checkOf s ≡ Fine → (named : Named) (m : ℕ) → named ≡ namedOf s → m ≡ pairsOf s → take (2 * m) (named .places) ≡ pairsOn s
-unfolding namedOf checkOf
-pairs-on s fine named m e h =
-    let a = accepted s fine in
-    let n : named ≡ namedPairs s = e ∙ rw (le-ltb CONTOURS (contoursOf s) (a .few-contours), le-ltb PAIRS (pairsOf s) (a .few-pairs)) in
-    let ten : refuseAt 10 (nameFault s) ≡ Fine = is-fine (stagesOf s) fine 10 (lit< tt) in
-    named-seats s named n m (named-stage s named n ∙ ten) h
+module _ (s : List ℕ) (fine : checkOf s ≡ Fine) (named : Named) (e : named ≡ namedOf s) where
+  all-named : named ≡ namedPairs s
+  unfolding namedOf
+  all-named =
+      let a = accepted s fine in
+      e ∙ rw (le-ltb CONTOURS (contoursOf s) (a .few-contours), le-ltb PAIRS (pairsOf s) (a .few-pairs))
 
-module _ (s : List ℕ) (fine : checkOf s ≡ Fine) (named : Named) (m : ℕ) (e : named ≡ namedOf s) (h : m ≡ pairsOf s) where
-  seats-long : length (pairsOn s) ≡ 2 * m
-  seats-long = seats-length s (pairsOf s) ∙ ap (λ (q : ℕ). 2 * q) (sym h)
+  all-known : named .check ≡ Fine
+  unfolding checkOf
+  all-known =
+      let ten : refuseAt 10 (nameFault s) ≡ Fine = is-fine (stagesOf s) fine 10 (lit< tt) in
+      named-stage s named all-named ∙ ten
 
-  pub pairs-whole : 2 * m ≡ length (take (2 * m) (named .places))
-  pairs-whole = lent-whole (named .places) (pairsOn s) (2 * m) (pairs-on s fine named m e h) seats-long
+  pub pairs-on : take (named .count) (named .places) ≡ pairsOn s
+  pairs-on = named-seats s named all-named all-known
 
-  pub pairs-within : 2 * m ≤ length (named .places)
-  pairs-within = lent-within (named .places) (pairsOn s) (2 * m) (pairs-on s fine named m e h) seats-long
+  pub pairs-whole : named .count ≡ length (take (named .count) (named .places))
+  pairs-whole = named-whole s named all-named all-known
+
+  pub pairs-within : named .count ≤ length (named .places)
+  pairs-within = named-within s named all-named all-known
 
 -- ---- the search on all of that
 

@@ -76,7 +76,7 @@ fn run(card: &[u8], all: Instance, room: &mut [u8], table: &mut [f64]) -> Outcom
     let firsts = all.contours + 1;
     let named = card::pair_places(card);
     let places = named.places;
-    let seats = 2 * fields::pairs(card);
+    let seats = named.count;
     table::fill_table(table, items, t, &owner[..t]);
     solve::solve_constrained(
         &homes[..t],

@@ -24,7 +24,8 @@ use Rattle.fields.specs.Values.{asType, asPreference, pointAt}
 use Rattle.card.specs.Stages.{lengthFault, checkFault, startFault, headFault, countFault, contourFault, spareFault, farVertex, farFault, seekOf, repeatFault, nameFault, tagFault}
 use Rattle.card.specs.Verdict.{cycleFault, checkOf}
 use Rattle.card.specs.Names.{seatsOf}
-use Rattle.card_laws.specs.Write.{bytes, blockOf, numberBytes, pointBytes, headBytes, pointsBytes, contourBytes, contourBlocks, pairBytes, pairBlocks, written}
+use Rattle.block.specs.Write.{bytes, blockOf}
+use Rattle.card_laws.specs.Write.{numberBytes, pointBytes, headBytes, pointsBytes, contourBytes, contourBlocks, pairBytes, pairBlocks, written}
 use Rattle.table.specs.Walk.{legs, walk}
 use Rattle.table.specs.Each.{each}
 use Rattle.table.specs.Evaluate.{lengthOf}
