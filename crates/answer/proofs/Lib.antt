@@ -2,3 +2,4 @@ pub mod StageLaws
 pub mod LowestLaws
 pub mod CodeLaws
 pub mod UniqueLaws
+pub mod RoomLaws

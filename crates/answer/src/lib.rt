@@ -1,6 +1,6 @@
 // The words that every part shares: what a refusal is, a point, what a contour is and which way it is
-// cut, and a lookup's answer. The definitions that say which of several faults is told, and where, are
-// in specs/, with the laws that say exactly when.
+// cut, a lookup's answer, a count's. The definitions that say which of several faults is told, and where,
+// are in specs/, with the laws that say exactly when; and rooms, of which the front is written.
 ghost use mathlib.Core.Path.{_≡_};
 ghost use Rattle.answer.specs.Code.{codeOf};
 
@@ -20,6 +20,12 @@ pub enum Check {
 pub enum Found {
     At(usize),
     Absent,
+}
+
+// A count, or why there is none.
+pub enum Count {
+    Is(usize),
+    Refused(Refusal),
 }
 
 // A place on the sheet, in millimetres.
@@ -45,6 +51,13 @@ pub enum CutDirectionPreference {
     Ccw,
     Cw,
     Auto,
+}
+
+// Refused, with this number at this place.
+pub fn refused(number: u32, place: usize) -> Check
+    ensures { λ r. ⌜ r ≡ Check.Refused (record { number = number; place = place }) ⌝ }
+{
+    Check::Refused(Refusal { number, place })
 }
 
 // A check as the one number that a host is handed: 0, or the refusal's number times 2^32 plus its place, which is shown as

@@ -14,6 +14,10 @@ blockBytes = 512
 abbrev pub checkPlace : ℕ
 checkPlace = 508
 
+-- bytes of a block's payload
+abbrev pub payloadBytes : ℕ
+payloadBytes = 500
+
 -- the first byte times w, the next times w + 1, and so on
 unfoldable pub weigh : ℕ → List ℕ → ℕ
 weigh w [] = 0

@@ -3,7 +3,7 @@ use mathlib.Core.Path.{_≡_, refl}
 use mathlib.Core.List.{[], _∷_}
 use lib.ListN.{getD}
 use lib.Count.{trailingZeros}
-use lib.Ieee.{Float, binary64, add, sub, mul, div, rem, neg, lt, eq, le, ofInt, ofBits, ofFields, odd, size, span, climb, round, units, sum}
+use lib.Ieee.{add, sub, mul, div, rem, neg, lt, eq, le, ofInt, ofBits, ofFields, odd, size, span, climb, round, units, sum}
 use Rattle.answer.specs.declared.CutDirection.{CutDirection}
 use Rattle.root.specs.Whole.{digits, wholeRoot, halves}
 use Rattle.root.specs.Root.{rootFinite, sqrtOf}
@@ -11,12 +11,9 @@ use Rattle.points.specs.Points.{point, points, closing, edges}
 use Rattle.points.specs.Distance.{squares, distanceSqOf, distanceOf}
 use Rattle.points.specs.Numbers.{zero64}
 use Rattle.points.specs.Along.{alongOf}
-use Rattle.cost.proofs.Starred.{square}
+use Rattle.points.specs.Square.{four64, square}
 use Rattle.candidates.specs.Along.{around, perimeterOf, spot, reaches, onEdge, spotFrom, lastSpot, spotAt}
 use Rattle.candidates.specs.Generate.{candidateAt, blank, target, spaced, candidatesFrom, candidatesOf}
-
-abbrev four64 : Float
-four64 = ofBits binary64 0x4010_0000_0000_0000
 
 -- two candidates are (0,0) at vertex 0 and (4,4) at vertex 1
 pub two-of-square : (way : CutDirection)

@@ -15,7 +15,6 @@ use answer::CutDirection;
 use answer::CutDirectionPreference;
 use answer::Found;
 use answer::Point;
-use answer::Refusal;
 use fields::PER_CONTOUR;
 use fields::VERTICES;
 use points::Ends;
@@ -284,23 +283,14 @@ fn one_contour(numbers: &[f64], c: usize) -> Check
     ensures { λ r. ⌜ r ≡ oneContour (now (numbers .entry)) c ⌝ }
 {
     if outside(PER_CONTOUR, c) {
-        return Check::Refused(Refusal {
-            number: 4,
-            place: 3,
-        });
+        return answer::refused(4, 3);
     }
     let v = (numbers.len() + 1) / 2;
     if outside(VERTICES, v) {
-        return Check::Refused(Refusal {
-            number: 6,
-            place: v,
-        });
+        return answer::refused(6, v);
     }
     match points::first_bad(numbers, v) {
-        Found::At(k) => Check::Refused(Refusal {
-            number: 8,
-            place: k,
-        }),
+        Found::At(k) => answer::refused(8, k),
         Found::Absent => Check::Fine,
     }
 }

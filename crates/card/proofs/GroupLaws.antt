@@ -15,15 +15,15 @@ use Rattle.answer.specs.declared.Check.the-variants.{Fine, Refused}
 use Rattle.answer.specs.Stage.{orElse, firstRefusal}
 use Rattle.answer.specs.Lowest.{refuseAt}
 use Rattle.answer.proofs.LowestLaws.{is-absent}
+use Rattle.answer.proofs.RoomLaws.{padded-front}
 use Rattle.answer.proofs.StageLaws.{is-fine}
 use Rattle.closure.specs.Limits.{CONTOURS, PAIRS}
 use Rattle.closure.specs.Cycle.{firstOnCycle}
 use Rattle.card.specs.declared.Named.{Named}
 use Rattle.fields.specs.Layout.{contoursOf, pairsOf}
 use Rattle.card.specs.Stages.{headFaults, headFault, nameFault}
-use Rattle.card.specs.Names.{seatsOf, namedPairs}
+use Rattle.card.specs.Names.{pairsOn, namedPairs}
 use Rattle.card.specs.Verdict.{cycleFault, headStages, blockStages, contourStages, pairStages, checkOf}
-use Rattle.card.proofs.NameLaws.{seats-length, padded-front}
 
 module _ (x a : Check) (more : List Check) (is : a ≡ x) where
   pub stopped : (r : Refusal) → a ≡ Refused r → a ≡ firstRefusal (x ∷ more)
@@ -81,11 +81,23 @@ module _ (s : List ℕ) (r : Named) (is : r ≡ namedPairs s) where
   unfolding namedPairs
   named-stage = rw is
 
-  pub named-seats : (m : ℕ) → r .check ≡ Fine → m ≡ pairsOf s → take (2 * m) (r .places) ≡ seatsOf s (pairsOf s)
-  unfolding namedPairs
-  named-seats m e h =
-      let none : nameFault s ≡ Absent = fine-absent 10 (nameFault s) (sym named-stage ∙ e) in
-      rw (is, h, none) (padded-front s (pairsOf s))
+  -- where every id is known, the places that are used hold all pairs
+  module _ (e : r .check ≡ Fine) where
+    named-known : nameFault s ≡ Absent
+    named-known = fine-absent 10 (nameFault s) (sym named-stage ∙ e)
+
+    pub named-seats : take (r .count) (r .places) ≡ pairsOn s
+    unfolding namedPairs
+    named-seats = rw (is, named-known) (padded-front (2 * PAIRS) 0 (pairsOn s) (length (pairsOn s)) refl)
+
+    pub named-whole : r .count ≡ length (take (r .count) (r .places))
+    unfolding namedPairs
+    named-whole =
+        let count : r .count ≡ length (pairsOn s) = rw (is, named-known) in
+        count ∙ sym (ap length named-seats)
+
+    pub named-within : r .count ≤ length (r .places)
+    named-within = omega (arith, length-take (r .count) (r .places), named-whole)
 
 -- ---- the counts that the first stages let pass
 
@@ -97,16 +109,8 @@ pub few-pairs : (s : List ℕ) → firstRefusal (headStages s) ≡ Fine → pair
 unfolding headFault
 few-pairs s e = ltb-false _ _ (is-absent (λ f. getD (headFaults s) f false) 8 (fine-absent 4 (headFault s) (is-fine (headStages s) e 3 (lit< tt))) 2 (lit< tt))
 
--- the parts of the places that hold pairs
-module _ (s l : List ℕ) (m : ℕ) (is : take (2 * m) l ≡ seatsOf s (pairsOf s)) (all : m ≡ pairsOf s) where
-  pub seats-length-is : 2 * m ≡ length (take (2 * m) l)
-  seats-length-is = ap (λ (x : ℕ). 2 * x) all ∙ sym (ap length is ∙ seats-length s (pairsOf s))
-
-  pub seats-within : 2 * m ≤ length l
-  seats-within = omega (arith, length-take (2 * m) l, seats-length-is)
-
 -- the cycle's stage, from the positions handed in
-pub cycle-is : (s p : List ℕ) (n : ℕ) (f : Found) → n ≡ contoursOf s → p ≡ seatsOf s (pairsOf s) → f ≡ firstOnCycle n p → f ≡ cycleFault s
+pub cycle-is : (s p : List ℕ) (n : ℕ) (f : Found) → n ≡ contoursOf s → p ≡ pairsOn s → f ≡ firstOnCycle n p → f ≡ cycleFault s
 unfolding cycleFault
 cycle-is s p n f e h g = g ∙ ap (λ (x : ℕ). firstOnCycle x p) e ∙ ap (firstOnCycle (contoursOf s)) h
 

@@ -2,25 +2,27 @@
 use mathlib.Core.Path.{_≡_, refl, sym, ap, _∙_}
 use mathlib.Core.Logic.{⊎-elim}
 use mathlib.Core.Bool.{Bool, true, false, not, _||_}
-use mathlib.Core.List.{List, [], _∷_, _++_, append-assoc}
-use Prim.Native.Nat.{ℕ, zero, suc, _+_, _*_, _-_, _≤_, _<_}
+use mathlib.Core.List.{List, [], _∷_, _++_}
+use Prim.Native.Nat.{ℕ, zero, suc, _+_, _*_, _≤_, _<_}
 use native.Mathlib.Nat.{eq-or-lt-of-le, not-suc-le-zero, le-of-suc-le-suc}
 use native.Mathlib.Numerals.{add-one}
 use native.Mathlib.Omega.{arith}
 use lib.Dec.{eqb}
 use borrow.Author.Tests.{lt-ltb, le-ltb}
-use lib.ListN.{length, take, getD, set, replicate, length-append, List·getD-append}
-use lib.Seq.{take-at, set-at, getD-at, getD-append-add}
+use lib.ListN.{length, getD, set, replicate, length-append, List·getD-append}
+use lib.Seq.{getD-at, getD-append-add}
 use Rattle.answer.specs.declared.Found.{Found}
 use Rattle.answer.specs.declared.Found.the-variants.{At, Absent}
 use Rattle.answer.specs.declared.Check.{Check}
 use Rattle.answer.specs.declared.Check.the-variants.{Fine, Refused}
+use Rattle.answer.specs.Room.{padded}
 use Rattle.answer.proofs.LowestLaws.{Nowhere, is-at}
+use Rattle.answer.proofs.RoomLaws.{padded-two}
 use Rattle.card.specs.declared.Named.{Named}
 use Rattle.closure.specs.Limits.{CONTOURS, PAIRS}
 use Rattle.fields.specs.Layout.{idOf, tagOf, contoursOf, pairsOf, beforeIdOf, beforeTagOf, afterIdOf, afterTagOf}
 use Rattle.card.specs.Stages.{isAt, seekOf, repeats, positionOf, unnamed, nameFault, beforeOf, afterOf, otherTag}
-use Rattle.card.specs.Names.{seatsOf, padded, namedPairs, namedOf}
+use Rattle.card.specs.Names.{seatsOf, namedPairs, namedOf}
 use Rattle.card.proofs.LoopLaws.{found-here, none-found}
 
 -- ---- repeats
@@ -70,52 +72,41 @@ seats-length s zero = refl
 seats-length s (suc q) =
     omega (arith, length-append (seatsOf s q) (beforeOf s q ∷ afterOf s q ∷ []), seats-length s q)
 
-pub padded-none : (s : List ℕ) → replicate (2 * PAIRS) 0 ≡ padded (seatsOf s 0)
-unfolding padded seatsOf
-padded-none s = refl
-
-pub padded-front : (s : List ℕ) (q : ℕ) → take (2 * q) (padded (seatsOf s q)) ≡ seatsOf s q
-unfolding padded
-padded-front s q = take-at (seatsOf s q) (replicate (2 * PAIRS - length (seatsOf s q)) 0) (2 * q) (seats-length s q)
-
--- two more places are filled
-two-more : (l : List ℕ) (r k b a : ℕ) → length l ≡ k → set (set (l ++ replicate (suc (suc r)) 0) k b) (k + 1) a ≡ (l ++ (b ∷ a ∷ [])) ++ replicate r 0
-two-more l r k b a e =
-    rw (set-at l 0 (0 ∷ replicate r 0) b k e, append-assoc l (b ∷ a ∷ []) (replicate r 0))
-    (ap (λ (z : List ℕ). set z (k + 1) a) (sym (append-assoc l (b ∷ []) (0 ∷ replicate r 0)))
-    ∙ set-at (l ++ (b ∷ [])) 0 (replicate r 0) a (k + 1) (omega (arith, length-append l (b ∷ [])))
-    ∙ append-assoc l (b ∷ []) (a ∷ replicate r 0))
-
-fill-more : (l : List ℕ) (q b a : ℕ) → length l ≡ 2 * q → q < PAIRS → set (set (padded l) (2 * q) b) (2 * q + 1) a ≡ padded (l ++ (b ∷ a ∷ []))
-unfolding padded
-fill-more l q b a e h =
-    let n : 2 * PAIRS - length (l ++ (b ∷ a ∷ [])) ≡ 2 * PAIRS - (2 * q + 2) = omega (arith, length-append l (b ∷ a ∷ [])) in
-    let u : 2 * PAIRS - length l ≡ suc (suc (2 * PAIRS - (2 * q + 2))) = omega arith in
-    ap (λ (r : ℕ). set (set (l ++ replicate r 0) (2 * q) b) (2 * q + 1) a) u
-    ∙ two-more l (2 * PAIRS - (2 * q + 2)) (2 * q) b a e
-    ∙ ap (λ (r : ℕ). (l ++ (b ∷ a ∷ [])) ++ replicate r 0) (sym n)
+-- before any pair the places are zero
+pub places-none : (s : List ℕ) → replicate (2 * PAIRS) 0 ≡ padded (2 * PAIRS) 0 (seatsOf s 0)
+unfolding seatsOf
+places-none s = refl
 
 seats-more : (s : List ℕ) (q : ℕ) → seatsOf s (q + 1) ≡ seatsOf s q ++ (beforeOf s q ∷ afterOf s q ∷ [])
 unfolding seatsOf
 seats-more s q = rw (add-one q)
 
-pub padded-more : (s p : List ℕ) (q b a : ℕ) → q < PAIRS → p ≡ padded (seatsOf s q) → b ≡ beforeOf s q → a ≡ afterOf s q
-    → set (set p (2 * q) b) (2 * q + 1) a ≡ padded (seatsOf s (q + 1))
-padded-more s p q b a h e f g = rw (e, f, g, seats-more s q) (fill-more (seatsOf s q) q (beforeOf s q) (afterOf s q) (seats-length s q) h)
+-- two more places are filled
+pub places-more : (s p : List ℕ) (q b a : ℕ) → q < PAIRS → p ≡ padded (2 * PAIRS) 0 (seatsOf s q) → b ≡ beforeOf s q → a ≡ afterOf s q
+    → set (set p (2 * q) b) (2 * q + 1) a ≡ padded (2 * PAIRS) 0 (seatsOf s (q + 1))
+places-more s p q b a h e f g =
+    rw (e, f, g, seats-more s q)
+    (padded-two (2 * PAIRS) 0 (seatsOf s q) (beforeOf s q) (afterOf s q) (2 * q) (seats-length s q) (omega arith))
 
 -- ---- what the loop hands out
 
-module _ (s p : List ℕ) (q : ℕ) (check : Check) (before : Nowhere (unnamed s) q) (filled : p ≡ padded (seatsOf s q)) where
-  pub named-until : q < pairsOf s → unnamed s q ≡ true → check ≡ Refused (record { number = 10; place = q })
-      → _≡_ {A = Named} (record { check = check; places = p }) (namedPairs s)
-  unfolding namedPairs nameFault
-  named-until h e f = rw (← found-here (unnamed s) (pairsOf s) q h before e, filled, f)
+module _ (s p : List ℕ) (q : ℕ) (check : Check) (before : Nowhere (unnamed s) q) (filled : p ≡ padded (2 * PAIRS) 0 (seatsOf s q)) where
+  -- so many places are used
+  counted : _≡_ {A = Named} (record { check = check; places = p; count = 2 * q })
+      (record { check = check; places = padded (2 * PAIRS) 0 (seatsOf s q); count = length (seatsOf s q) })
+  counted = rw (filled, seats-length s q)
 
-  pub named-all : pairsOf s ≤ q → q ≤ pairsOf s → check ≡ Fine → _≡_ {A = Named} (record { check = check; places = p }) (namedPairs s)
+  pub named-until : q < pairsOf s → unnamed s q ≡ true → check ≡ Refused (record { number = 10; place = q })
+      → _≡_ {A = Named} (record { check = check; places = p; count = 2 * q }) (namedPairs s)
+  unfolding namedPairs nameFault
+  named-until h e f = counted ∙ rw (← found-here (unnamed s) (pairsOf s) q h before e, f)
+
+  pub named-all : pairsOf s ≤ q → q ≤ pairsOf s → check ≡ Fine
+      → _≡_ {A = Named} (record { check = check; places = p; count = 2 * q }) (namedPairs s)
   unfolding namedPairs nameFault
   named-all h g f =
       let e : pairsOf s ≡ q = omega arith in
-      rw (← none-found (unnamed s) (pairsOf s) q h before, filled, f, e)
+      counted ∙ rw (← none-found (unnamed s) (pairsOf s) q h before, f, e)
 
 -- ---- a pair's two places
 
@@ -158,13 +149,13 @@ seats-handed s p m e = ap length e ∙ seats-length s m
 -- ---- more contours or pairs than a card takes
 
 pub too-many-contours : (s : List ℕ) (check : Check) → CONTOURS < contoursOf s → check ≡ Refused (record { number = 4; place = 1 })
-    → _≡_ {A = Named} (record { check = check; places = replicate (2 * PAIRS) 0 }) (namedOf s)
+    → _≡_ {A = Named} (record { check = check; places = replicate (2 * PAIRS) 0; count = 0 }) (namedOf s)
 unfolding namedOf
 too-many-contours s check h e = rw (lt-ltb CONTOURS (contoursOf s) h, e)
 
 module _ (s : List ℕ) (few : contoursOf s ≤ CONTOURS) where
   pub too-many-pairs : (check : Check) → PAIRS < pairsOf s → check ≡ Refused (record { number = 4; place = 2 })
-      → _≡_ {A = Named} (record { check = check; places = replicate (2 * PAIRS) 0 }) (namedOf s)
+      → _≡_ {A = Named} (record { check = check; places = replicate (2 * PAIRS) 0; count = 0 }) (namedOf s)
   unfolding namedOf
   too-many-pairs check h e = rw (le-ltb CONTOURS (contoursOf s) few, lt-ltb PAIRS (pairsOf s) h, e)
 

@@ -5,8 +5,7 @@ use mathlib.Core.List.{List}
 use Prim.Native.Nat.{ℕ, _+_, _*_, _-_, _≤_, _<_}
 use native.Mathlib.Omega.{arith}
 use borrow.Author.Tests.{le-leb, lt-leb, eq-eqb, ne-eqb}
-use Rattle.block.specs.Block.{allZero, zerosAt}
-use Rattle.fields.specs.Limits.{payloadBytes}
+use Rattle.block.specs.Block.{payloadBytes, allZero, zerosAt}
 use Rattle.fields.specs.Layout.{payload, contoursOf, vertexCountOf}
 use Rattle.card.specs.Stages.{pairsIn, usedIn, badSpare}
 

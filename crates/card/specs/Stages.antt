@@ -9,9 +9,9 @@ use Rattle.answer.specs.declared.Found.{Found}
 use Rattle.answer.specs.declared.Found.the-variants.{At, Absent}
 use Rattle.answer.specs.Lowest.{orFurther, lowest}
 use Rattle.block.specs.Field.{u64At}
-use Rattle.block.specs.Block.{blockBytes, checked, starts, zerosAt}
+use Rattle.block.specs.Block.{blockBytes, payloadBytes, checked, starts, zerosAt}
 use Rattle.closure.specs.Limits.{CONTOURS, PAIRS}
-use Rattle.fields.specs.Limits.{cardBytes, perContourLimit, candidateLimit, passLimit, vertexLimit, pairsABlock, payloadBytes, farthest}
+use Rattle.fields.specs.Limits.{cardBytes, perContourLimit, candidateLimit, passLimit, vertexLimit, pairsABlock, farthest}
 use Rattle.fields.specs.Layout.{blocksOf, payload, contoursOf, pairsOf, perContourOf, passesOf, homePlace, exteriorOf, interiorOf, idOf, tagOf, vertexCountOf, typeOf, fillerOf, vertexPlace, beforeIdOf, beforeTagOf, afterIdOf, afterTagOf}
 
 -- this place, if the test holds

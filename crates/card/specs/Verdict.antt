@@ -6,14 +6,14 @@ use Rattle.answer.specs.declared.Check.{Check}
 use Rattle.answer.specs.Lowest.{refuseAt}
 use Rattle.answer.specs.Stage.{firstRefusal}
 use Rattle.closure.specs.Cycle.{firstOnCycle}
-use Rattle.fields.specs.Layout.{blocksOf, contoursOf, pairsOf}
+use Rattle.fields.specs.Layout.{blocksOf, contoursOf}
 use Rattle.card.specs.Stages.{lengthFault, checkFault, startFault, headFault, countFault, contourFault, spareFault, farFault, repeatFault, nameFault, tagFault}
-use Rattle.card.specs.Names.{seatsOf}
+use Rattle.card.specs.Names.{seatsOf, pairsOn}
 
 -- 12: the lowest contour that can be reached from itself by pairs
 unfoldable pub cycleFault : List ℕ → Found
 unfolding seatsOf
-cycleFault s = firstOnCycle (contoursOf s) (seatsOf s (pairsOf s))
+cycleFault s = firstOnCycle (contoursOf s) (pairsOn s)
 
 -- the file and its head
 abbrev pub headStages : List ℕ → List Check

@@ -8,11 +8,10 @@ ghost use Rattle.answer.specs.Stage.{firstRefusal};
 ghost use Rattle.closure.specs.Limits.{CONTOURS, PAIRS};
 ghost use Rattle.fields.specs.Layout.{blocksOf, contoursOf, pairsOf};
 ghost use Rattle.card.specs.Stages.{lengthFault, checkFault, kindDue, startFault, headFaults, headFault, countFault, badContour, contourFault, usedIn, badSpare, spareFault, tooFar, farPoint, farVertex, farFault, seekOf, repeatFault, positionOf, tagFault};
-ghost use Rattle.card.specs.Names.{seatsOf, namedPairs, namedOf};
+ghost use Rattle.card.specs.Names.{pairsOn, namedPairs, namedOf};
 ghost use Rattle.card.specs.Verdict.{headStages, blockStages, contourStages, seatStages, pairStages, checkOf};
 use answer::Check;
 use answer::Found;
-use answer::Refusal;
 use block::BLOCK;
 use closure::CONTOURS;
 use closure::PAIRS;
@@ -36,27 +35,22 @@ const FARTHEST: u64 = 0x4130_0000_0000_0000;
 // The places of all pairs that a card can have.
 const PLACES: usize = 2 * PAIRS;
 
-// A card's pairs as positions of contours, before and after in turn, up to the first pair that names an id no contour has.
+// A card's pairs as positions of contours, before and after in turn, up to the first pair that names an id no contour has: the
+// first count of the places, the rest 0.
 pub struct Named {
     pub check: Check,
     pub places: [u8; PLACES],
+    pub count: usize,
 }
 
 // ---- what makes a card go back, each with the lowest place at which it does
 
-// A refusal.
-fn refusal(number: u32, place: usize) -> Check
-    ensures { λ r. ⌜ r ≡ Check.Refused (record { number = number; place = place }) ⌝ }
-{
-    Check::Refused(Refusal { number, place })
-}
-
 // A refusal with this number at the place found; nothing wrong where none was found.
-fn refused(number: u32, f: Found) -> Check
+fn refused_at(number: u32, f: Found) -> Check
     ensures { λ r. ⌜ r ≡ refuseAt number f ⌝ }
 {
     match f {
-        Found::At(place) => refusal(number, place),
+        Found::At(place) => answer::refused(number, place),
         Found::Absent => Check::Fine,
     }
 }
@@ -335,14 +329,16 @@ fn named_pairs(card: &[u8]) -> Named
     while q < m {
         let Found::At(before) = position_of(card, fields::before_id(card, q)) else {
             return Named {
-                check: refusal(10, q),
+                check: answer::refused(10, q),
                 places,
+                count: 2 * q,
             };
         };
         let Found::At(after) = position_of(card, fields::after_id(card, q)) else {
             return Named {
-                check: refusal(10, q),
+                check: answer::refused(10, q),
                 places,
+                count: 2 * q,
             };
         };
         places[2 * q] = before as u8;
@@ -352,6 +348,7 @@ fn named_pairs(card: &[u8]) -> Named
     Named {
         check: Check::Fine,
         places,
+        count: 2 * q,
     }
 }
 
@@ -361,14 +358,16 @@ pub fn pair_places(card: &[u8]) -> Named
 {
     if CONTOURS < fields::contours(card) {
         return Named {
-            check: refusal(4, 1),
+            check: answer::refused(4, 1),
             places: [0u8; PLACES],
+            count: 0,
         };
     }
     if PAIRS < fields::pairs(card) {
         return Named {
-            check: refusal(4, 2),
+            check: answer::refused(4, 2),
             places: [0u8; PLACES],
+            count: 0,
         };
     }
     named_pairs(card)
@@ -383,7 +382,7 @@ fn wide(x: u8) -> usize
 
 // 11: the first pair with a tag that is not its contour's. The pairs' positions are handed in.
 fn tag_fault(card: &[u8], seats: &[u8]) -> Found
-    requires { ⌜ now seats ≡ seatsOf (now card) (pairsOf (now card)) ⌝ }
+    requires { ⌜ now seats ≡ pairsOn (now card) ⌝ }
     ensures { λ r. ⌜ r ≡ tagFault (now (card .entry)) ⌝ }
 {
     let m = fields::pairs(card);
@@ -405,62 +404,62 @@ fn tag_fault(card: &[u8], seats: &[u8]) -> Found
 fn check_head(card: &[u8]) -> Check
     ensures { λ r. ⌜ r ≡ firstRefusal (headStages (now (card .entry))) ⌝ }
 {
-    let a = refused(1, length_fault(card));
+    let a = refused_at(1, length_fault(card));
     let Check::Fine = a else {
         return a;
     };
-    let b = refused(2, check_fault(card));
+    let b = refused_at(2, check_fault(card));
     let Check::Fine = b else {
         return b;
     };
-    let c = refused(3, start_fault(card, 1));
+    let c = refused_at(3, start_fault(card, 1));
     let Check::Fine = c else {
         return c;
     };
-    refused(4, head_fault(card))
+    refused_at(4, head_fault(card))
 }
 
 // 5, 3 for the other blocks, 6, 7: the blocks.
 fn check_blocks(card: &[u8]) -> Check
     ensures { λ r. ⌜ r ≡ firstRefusal (blockStages (now (card .entry))) ⌝ }
 {
-    let a = refused(5, count_fault(card));
+    let a = refused_at(5, count_fault(card));
     let Check::Fine = a else {
         return a;
     };
     let blocks = card.len() / BLOCK;
-    let b = refused(3, start_fault(card, blocks));
+    let b = refused_at(3, start_fault(card, blocks));
     let Check::Fine = b else {
         return b;
     };
-    let c = refused(6, contour_fault(card));
+    let c = refused_at(6, contour_fault(card));
     let Check::Fine = c else {
         return c;
     };
-    refused(7, spare_fault(card))
+    refused_at(7, spare_fault(card))
 }
 
 // 8, 9: the contours.
 fn check_contours(card: &[u8]) -> Check
     ensures { λ r. ⌜ r ≡ firstRefusal (contourStages (now (card .entry))) ⌝ }
 {
-    let a = refused(8, far_fault(card));
+    let a = refused_at(8, far_fault(card));
     let Check::Fine = a else {
         return a;
     };
-    refused(9, repeat_fault(card))
+    refused_at(9, repeat_fault(card))
 }
 
 // 11, 12: the pairs, once their positions are known.
 fn check_seats(card: &[u8], seats: &[u8]) -> Check
-    requires { ⌜ now seats ≡ seatsOf (now card) (pairsOf (now card)) ⌝ }
+    requires { ⌜ now seats ≡ pairsOn (now card) ⌝ }
     ensures { λ r. ⌜ r ≡ firstRefusal (seatStages (now (card .entry))) ⌝ }
 {
-    let a = refused(11, tag_fault(card, seats));
+    let a = refused_at(11, tag_fault(card, seats));
     let Check::Fine = a else {
         return a;
     };
-    refused(12, closure::first_on_cycle(fields::contours(card), seats))
+    refused_at(12, closure::first_on_cycle(fields::contours(card), seats))
 }
 
 // 10, 11, 12: the pairs.
@@ -474,8 +473,8 @@ fn check_pairs(card: &[u8]) -> Check
         return a;
     };
     let places = named.places;
-    let end = 2 * fields::pairs(card);
-    check_seats(card, &places[..end])
+    let count = named.count;
+    check_seats(card, &places[..count])
 }
 
 // Whether a card is fine, or which fault sends it back and where.

@@ -26,7 +26,8 @@ use Rattle.card_laws.specs.Card.{Contour, Pair, each, contourOf, pairOf,
 use Rattle.card_laws.proofs.ExactLaws.{false-unless}
 use Rattle.card_laws.proofs.RowLaws.{due-blocks, no-bad-field, no-bad-contour}
 use Rattle.card_laws.proofs.FarRow.{no-far}
-use Rattle.card_laws.proofs.PairRows.{same-contour, before-has, after-has, no-other-tag, no-cycle}
+use Rattle.card_laws.proofs.PairRows.{same-contour, before-has, after-has, no-other-tag}
+use Rattle.card_laws.proofs.CycleRow.{no-cycle}
 use Rattle.card_laws.proofs.Verdicts.{exactly}
 
 -- ---- what was not refused

@@ -2,8 +2,9 @@ pub mod ExactLaws
 pub mod RowLaws
 pub mod FarNumber
 pub mod FarRow
-pub mod LinkLaws
 pub mod PairRows
+pub mod LinkLaws
+pub mod CycleRow
 pub mod Verdicts
 pub mod Facts
 pub mod Starred

@@ -1,20 +1,24 @@
 -- Two contours are linked in a card's list of positions exactly where one of its pairs stands for them. Assumes nothing.
-use mathlib.Core.Path.{_≡_, refl, sym, ap, _∙_}
+use mathlib.Core.Path.{_≡_, refl, sym, ap, _∙_, subst}
 use mathlib.Core.Logic.{_⊎_, inl, inr}
 use mathlib.Core.Bool.{Bool, true, false, _&&_, _||_}
 use mathlib.Core.List.{List, [], _∷_, _++_}
-use Prim.Native.Nat.{ℕ, zero, suc, _+_, _*_, _-_, _<_}
-use native.Mathlib.Nat.{not-suc-le-zero, le-of-suc-le-suc, eq-or-lt-of-le}
+use Prim.Native.Nat.{ℕ, zero, suc, _+_, _*_, _-_, _≤_, _<_}
+use native.Mathlib.Nat.{le-refl, not-suc-le-zero, le-of-suc-le-suc, eq-or-lt-of-le}
 use native.Mathlib.Omega.{arith}
-use lib.Dec.{eqb}
+use lib.Dec.{eqb, ltb}
 use lib.ListN.{length}
-use borrow.Author.Tests.{eq-eqb, eqb-true}
+use borrow.Author.Tests.{eq-eqb, eqb-true, lt-ltb}
 use Rattle.block.proofs.Readings.{and-first, and-second, and-both}
-use Rattle.closure.specs.Pairs.{Pair, paired, every, someOf, isPair}
+use Rattle.closure.specs.Cycle.{linked}
+use Rattle.closure.specs.Pairs.{Pair, paired, every, someOf, isPair, both}
+use Rattle.fields.specs.Layout.{contoursOf, pairsOf, beforeIdOf, afterIdOf}
 use Rattle.card.specs.Stages.{beforeOf, afterOf}
-use Rattle.card.specs.Names.{seatsOf}
+use Rattle.card.specs.Names.{seatsOf, pairsOn}
 use Rattle.card.proofs.NameLaws.{seats-length}
+use Rattle.card_laws.specs.Table.{Row9, Row10, No, Has, Precedes}
 use Rattle.card_laws.proofs.ExactLaws.{never, either-of, first-of, second-of}
+use Rattle.card_laws.proofs.PairRows.{same-contour, before-has, after-has}
 
 -- ---- the pairs of a flat list, one more at its end
 
@@ -107,3 +111,49 @@ module _ (s : List ℕ) (i j : ℕ) where
           (and-both _ _ (eq-eqb _ _ (ap (beforeOf s) (sym e) ∙ b .first)) (eq-eqb _ _ (ap (afterOf s) (sym e) ∙ b .second)))
       go (inr h) earlier =
           some-earlier (isPair i j) (paired (seatsOf s m)) last (earlier (record { pair = b .pair; is-pair = h; first = b .first; second = b .second }))
+
+-- ---- once ids are unique and every pair's ids are known: the three laws of a card's pairs
+
+module _ (s : List ℕ) (unique : No (Row9 s)) (named : No (Row10 s)) where
+  -- contours are linked by the card's pairs only where one of them puts the first before the second
+  pub link-precedes : (i j : ℕ) → linked (contoursOf s) (pairsOn s) i j ≡ true → Precedes s i j
+  unfolding linked
+  link-precedes i j e =
+      let some = someOf (isPair i j) (paired (pairsOn s)) in
+      let b = found-pair s i j (pairsOf s)
+      (and-second (ltb j (contoursOf s)) some (and-second (ltb i (contoursOf s)) (ltb j (contoursOf s) && some) e)) in
+      record {
+        pair = b .pair;
+        is-pair = b .is-pair;
+        first = subst (Has s (beforeIdOf s (b .pair))) (b .first) (before-has s unique named (b .pair) (b .is-pair));
+        second = subst (Has s (afterIdOf s (b .pair))) (b .second) (after-has s unique named (b .pair) (b .is-pair));
+      }
+
+  -- and wherever one does
+  pub precedes-link : (i j : ℕ) → Precedes s i j → linked (contoursOf s) (pairsOn s) i j ≡ true
+  unfolding linked
+  precedes-link i j b =
+      let q = b .pair in
+      and-both _ _ (lt-ltb i (contoursOf s) (b .first .is-contour))
+      (and-both _ _ (lt-ltb j (contoursOf s) (b .second .is-contour))
+      (pair-found s i j (pairsOf s)
+      (record {
+        pair = q;
+        is-pair = b .is-pair;
+        first = same-contour s unique (beforeIdOf s q) (beforeOf s q) i (before-has s unique named q (b .is-pair)) (b .first);
+        second = same-contour s unique (afterIdOf s q) (afterOf s q) j (after-has s unique named q (b .is-pair)) (b .second);
+      })))
+
+  below-more : (m : ℕ) → m ≤ pairsOf s → every (both (contoursOf s)) (paired (seatsOf s m)) ≡ true
+  unfolding every paired seatsOf
+  below-more zero h = refl
+  below-more (suc m) h =
+      ap (every (both (contoursOf s))) (seats-paired s m)
+      ∙ every-last (both (contoursOf s)) (paired (seatsOf s m)) (record { before = beforeOf s m; after = afterOf s m })
+      (below-more m (omega arith))
+      (and-both _ _ (lt-ltb _ _ (before-has s unique named m (omega arith) .is-contour))
+      (lt-ltb _ _ (after-has s unique named m (omega arith) .is-contour)))
+
+  -- both positions of each pair are contours
+  pub pairs-below : every (both (contoursOf s)) (paired (pairsOn s)) ≡ true
+  pairs-below = below-more (pairsOf s) (le-refl (pairsOf s))

@@ -1,32 +1,25 @@
 -- 12 is given exactly when no legal order exists; and a fine card's links, pair by pair. Assumes nothing.
-use mathlib.Core.Path.{_≡_, refl, ap, _∙_}
-use mathlib.Core.Bool.{true}
+use mathlib.Core.Path.{_≡_, refl}
 use mathlib.Core.List.{List}
-use Prim.Native.Nat.{ℕ, zero, suc, _≤_}
-use native.Mathlib.Nat.{le-refl}
+use Prim.Native.Nat.{ℕ}
 use native.Mathlib.Omega.{arith}
-use borrow.Author.Tests.{lt-ltb}
 use Rattle.answer.specs.declared.Found.{Found}
 use Rattle.answer.specs.declared.Found.the-variants.{At, Absent}
 use Rattle.answer.specs.declared.Check.the-variants.{Fine}
 use Rattle.answer.specs.Lowest.{lowest}
-use Rattle.block.proofs.Readings.{and-both}
 use Rattle.closure.specs.Cycle.{onCycle, Acyclic}
-use Rattle.closure.specs.Pairs.{paired, every}
 use Rattle.closure.proofs.PathLaws.{absent-exactly}
-use Rattle.hierarchy.specs.Sort.{both}
 use Rattle.hierarchy.proofs.SortedLaws.{legal-exactly}
-use Rattle.fields.specs.Layout.{contoursOf, pairsOf}
-use Rattle.card.specs.Stages.{beforeOf, afterOf}
-use Rattle.card.specs.Names.{seatsOf}
+use Rattle.fields.specs.Layout.{contoursOf}
+use Rattle.card.specs.Names.{pairsOn}
 use Rattle.card.specs.Verdict.{checkOf}
 use Rattle.card_laws.specs.Table.{Past10, Past11, Row12, OnCycle, twelve}
 use Rattle.card_laws.specs.Card.{Accepted}
 use Rattle.card_laws.specs.Orders.{SomeOrder, RefusedWith, Twelve, Links}
 use Rattle.card_laws.proofs.ExactLaws.{lowest-exact}
-use Rattle.card_laws.proofs.LinkLaws.{seats-paired, every-last}
+use Rattle.card_laws.proofs.LinkLaws.{link-precedes, precedes-link, pairs-below}
 use Rattle.card_laws.proofs.OrderLaws.{by-positions, by-ids}
-use Rattle.card_laws.proofs.PairRows.{link-precedes, precedes-link, leads-reach, cycle-row, row-cycle}
+use Rattle.card_laws.proofs.CycleRow.{leads-reach, cycle-row, row-cycle}
 use Rattle.card_laws.proofs.Verdicts.{exactly, few-by-11}
 use Rattle.card_laws.proofs.Facts.{accepted}
 
@@ -35,8 +28,8 @@ use Rattle.card_laws.proofs.Facts.{accepted}
 module _ (s : List ℕ) where
   no-order-exists : Past11 s → RefusedWith 12 s → SomeOrder s → ⊥
   no-order-exists past (place, e) (order, legal) =
-      let free : Acyclic (contoursOf s) (seatsOf s (pairsOf s)) =
-      legal-exactly (contoursOf s) (few-by-11 s past) (seatsOf s (pairsOf s)) .0
+      let free : Acyclic (contoursOf s) (pairsOn s) =
+      legal-exactly (contoursOf s) (few-by-11 s past) (pairsOn s) .0
       (order, by-positions s (past .0 .0 .1) (past .0 .1) order legal) in
       let fine : checkOf s ≡ Fine = exactly s .fine-if (past, (λ p row. free p (row .within) (leads-reach s (past .0 .0 .1) (past .0 .1) (row .holds)))) in
       let z : _≡_ {A = ℕ} 0 1 = cc in
@@ -49,7 +42,7 @@ module _ (s : List ℕ) where
       n = contoursOf s
 
       seats : List ℕ
-      seats = seatsOf s (pairsOf s)
+      seats = pairsOn s
 
       go : (f : Found) → lowest (onCycle n seats) n ≡ f → RefusedWith 12 s
       go (At k) e =
@@ -63,7 +56,7 @@ module _ (s : List ℕ) where
   order-exists e =
       let facts = accepted s e in
       let past : Past10 s = exactly s .fine-only e .0 .0 in
-      let some = legal-exactly (contoursOf s) (facts .few-contours) (seatsOf s (pairsOf s)) .1 (facts .acyclic) in
+      let some = legal-exactly (contoursOf s) (facts .few-contours) (pairsOn s) .1 (facts .acyclic) in
       (some .0, by-ids s (past .0 .1) (past .1) (some .0) (some .1))
 
 pub twelve-exactly : (s : List ℕ) → Twelve s
@@ -71,17 +64,11 @@ twelve-exactly s = record { no-order = no-order-exists s; sent-back = goes-back 
 
 -- ---- links
 
-module _ (s : List ℕ) (facts : Accepted s) where
-  all-below : (m : ℕ) → m ≤ pairsOf s → every (both (contoursOf s)) (paired (seatsOf s m)) ≡ true
-  unfolding every paired seatsOf
-  all-below zero h = refl
-  all-below (suc m) h =
-      ap (every (both (contoursOf s))) (seats-paired s m)
-      ∙ every-last (both (contoursOf s)) (paired (seatsOf s m)) (record { before = beforeOf s m; after = afterOf s m }) (all-below m (omega arith))
-      (and-both _ _ (lt-ltb _ _ (facts .before-named m (omega arith) .is-contour)) (lt-ltb _ _ (facts .after-named m (omega arith) .is-contour)))
-
 pub links : (s : List ℕ) → checkOf s ≡ Fine → Links s
 links s e =
-    let facts = accepted s e in
     let past : Past10 s = exactly s .fine-only e .0 .0 in
-    record { linked-if = precedes-link s (past .0 .1) (past .1); linked-only = link-precedes s (past .0 .1) (past .1); all-contours = all-below s facts (pairsOf s) (le-refl (pairsOf s)) }
+    record {
+      linked-if = precedes-link s (past .0 .1) (past .1);
+      linked-only = link-precedes s (past .0 .1) (past .1);
+      all-contours = pairs-below s (past .0 .1) (past .1);
+    }

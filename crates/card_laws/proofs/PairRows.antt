@@ -1,34 +1,27 @@
--- Rows 7, 10, 11 and 12 of the table. Assumes nothing.
+-- Rows 7, 10 and 11 of the table. Assumes nothing.
 use mathlib.Core.Path.{_≡_, refl, sym, ap, _∙_, subst}
 use mathlib.Core.Logic.{_⊎_, inl, inr}
-use mathlib.Core.Bool.{Bool, true, false, not, _&&_}
+use mathlib.Core.Bool.{Bool, true, false, not}
 use mathlib.Core.List.{List}
 use Prim.Native.Nat.{ℕ, suc, _+_, _*_, _-_, _≤_, _<_, min}
 use native.Mathlib.Nat.{add-assoc}
 use native.Mathlib.Omega.{arith}
 use lib.Dec.{eqb, ltb}
-use borrow.Author.Tests.{eqb-true, eq-eqb, not-false, ltb-true, ltb-false, lt-ltb}
+use borrow.Author.Tests.{eqb-true, eq-eqb, not-false, ltb-true, ltb-false}
 use Rattle.answer.specs.declared.Found.{Found}
 use Rattle.answer.specs.declared.Found.the-variants.{At, Absent}
 use Rattle.answer.specs.Lowest.{lowest}
 use Rattle.answer.proofs.LowestLaws.{is-at, is-absent}
 use Rattle.block.specs.Field.{byteAt}
-use Rattle.block.specs.Block.{zerosAt}
-use Rattle.block.proofs.Readings.{zeros-each, each-zeros, and-second, and-both}
-use Rattle.closure.specs.Limits.{CONTOURS}
-use Rattle.closure.specs.Cycle.{linked, onCycle, Reaches, step, onward}
-use Rattle.closure.specs.Pairs.{paired, someOf, isPair}
+use Rattle.block.specs.Block.{payloadBytes, zerosAt}
+use Rattle.block.proofs.Readings.{zeros-each, each-zeros}
 use Rattle.closure.proofs.PairLaws.{lt-or}
-use Rattle.closure.proofs.PathLaws.{cycle-exactly}
-use Rattle.fields.specs.Limits.{pairsABlock, payloadBytes}
+use Rattle.fields.specs.Limits.{pairsABlock}
 use Rattle.fields.specs.Layout.{blocksOf, payload, contoursOf, pairsOf, idOf, tagOf, vertexCountOf, beforeIdOf, beforeTagOf, afterIdOf, afterTagOf}
 use Rattle.card.specs.Stages.{isAt, pairsIn, usedIn, badSpare, spareFault, seekOf, positionOf, unnamed, nameFault, seat, beforeOf, afterOf, otherTag, tagFault}
-use Rattle.card.specs.Names.{seatsOf}
-use Rattle.card.specs.Verdict.{cycleFault}
 use Rattle.card.proofs.SpareLaws.{used-head, used-contour, used-pairs}
-use Rattle.card_laws.specs.Table.{Spare, in-head, in-contour, past-last-pair, past-full-block, SpareByte, Row7, Row9, Has, Unnamed, Row10, OtherTag, Row11, Precedes, Leads, at-once, OnCycle, Row12, No}
+use Rattle.card_laws.specs.Table.{Spare, in-head, in-contour, past-last-pair, past-full-block, SpareByte, Row7, Row9, Has, Unnamed, Row10, OtherTag, Row11, No}
 use Rattle.card_laws.proofs.RowLaws.{no-repeat}
-use Rattle.card_laws.proofs.LinkLaws.{found-pair, pair-found}
 use Rattle.card_laws.proofs.ExactLaws.{Exact, never, either-of, first-of, second-of, not-so, so-not, lowest-exact, nowhere}
 
 -- one is below the other, or they are the same
@@ -210,54 +203,3 @@ module _ (s : List ℕ) where
 
     pub no-other-tag : No (Row11 s) → (q : ℕ) → q < pairsOf s → OtherTag s q → ⊥
     no-other-tag = nowhere (otherTag s) (pairsOf s) (OtherTag s) other-tag tag-other
-
-    -- ---- 12, once there are no more contours than the closure takes
-
-    pub link-precedes : (i j : ℕ) → linked (contoursOf s) (seatsOf s (pairsOf s)) i j ≡ true → Precedes s i j
-    unfolding linked
-    link-precedes i j e =
-        let some = someOf (isPair i j) (paired (seatsOf s (pairsOf s))) in
-        let b = found-pair s i j (pairsOf s) (and-second (ltb j (contoursOf s)) some (and-second (ltb i (contoursOf s)) (ltb j (contoursOf s) && some) e)) in
-        record {
-          pair = b .pair;
-          is-pair = b .is-pair;
-          first = subst (Has s (beforeIdOf s (b .pair))) (b .first) (before-has (b .pair) (b .is-pair));
-          second = subst (Has s (afterIdOf s (b .pair))) (b .second) (after-has (b .pair) (b .is-pair));
-        }
-
-    pub precedes-link : (i j : ℕ) → Precedes s i j → linked (contoursOf s) (seatsOf s (pairsOf s)) i j ≡ true
-    unfolding linked
-    precedes-link i j b =
-        let q = b .pair in
-        and-both _ _ (lt-ltb i (contoursOf s) (b .first .is-contour))
-        (and-both _ _ (lt-ltb j (contoursOf s) (b .second .is-contour))
-        (pair-found s i j (pairsOf s)
-        (record {
-          pair = q;
-          is-pair = b .is-pair;
-          first = same-contour unique (beforeIdOf s q) (beforeOf s q) i (before-has q (b .is-pair)) (b .first);
-          second = same-contour unique (afterIdOf s q) (afterOf s q) j (after-has q (b .is-pair)) (b .second);
-        })))
-
-    reach-leads : {i j : ℕ} → Reaches (linked (contoursOf s) (seatsOf s (pairsOf s))) i j → Leads s i j
-    reach-leads (step e) = at-once (link-precedes _ _ e)
-    reach-leads (onward e r) = Leads.onward (link-precedes _ _ e) (reach-leads r)
-
-    pub leads-reach : {i j : ℕ} → Leads s i j → Reaches (linked (contoursOf s) (seatsOf s (pairsOf s))) i j
-    leads-reach (at-once b) = step (precedes-link _ _ b)
-    leads-reach (Leads.onward b l) = onward (precedes-link _ _ b) (leads-reach l)
-
-    pub cycle-row : (k : ℕ) → k < contoursOf s → onCycle (contoursOf s) (seatsOf s (pairsOf s)) k ≡ true → OnCycle s k
-    cycle-row k h e = reach-leads (cycle-exactly (contoursOf s) (seatsOf s (pairsOf s)) k .0 e)
-
-    pub row-cycle : (k : ℕ) → k < contoursOf s → OnCycle s k → onCycle (contoursOf s) (seatsOf s (pairsOf s)) k ≡ true
-    row-cycle k h l = cycle-exactly (contoursOf s) (seatsOf s (pairsOf s)) k .1 (leads-reach l)
-
-    pub exact12 : contoursOf s ≤ CONTOURS → Exact (cycleFault s) (Row12 s)
-    unfolding cycleFault
-    exact12 few =
-        let e : min (contoursOf s) CONTOURS ≡ contoursOf s = omega arith in
-        rw e (lowest-exact (onCycle (contoursOf s) (seatsOf s (pairsOf s))) (contoursOf s) (OnCycle s) cycle-row row-cycle)
-
-    pub no-cycle : No (Row12 s) → (k : ℕ) → k < contoursOf s → Reaches (linked (contoursOf s) (seatsOf s (pairsOf s))) k k → ⊥
-    no-cycle none k h r = nowhere (onCycle (contoursOf s) (seatsOf s (pairsOf s))) (contoursOf s) (OnCycle s) cycle-row row-cycle none k h (reach-leads r)

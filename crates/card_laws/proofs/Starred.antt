@@ -11,7 +11,8 @@ use Rattle.closure.specs.Cycle.{linked, leads}
 use Rattle.card.specs.Stages.{lengthFault, checkFault, startFault, headFault, countFault, contourFault, spareFault, farVertex, farFault, seekOf, repeatFault, nameFault, tagFault}
 use Rattle.card.specs.Names.{seatsOf}
 use Rattle.card.specs.Verdict.{cycleFault, checkOf}
-use Rattle.card_laws.specs.Write.{bytes, blockOf, numberBytes, pointBytes, headBytes, pointsBytes, contourBytes, contourBlocks, pairBytes, pairBlocks, written}
+use Rattle.block.specs.Write.{bytes, blockOf}
+use Rattle.card_laws.specs.Write.{numberBytes, pointBytes, headBytes, pointsBytes, contourBytes, contourBlocks, pairBytes, pairBlocks, written}
 use Rattle.card_laws.specs.Examples.{Examples}
 
 -- what a card written out and its verdict are computed through: to unfold this name, here or in a crate above, is to unfold all of

@@ -18,7 +18,8 @@ use Rattle.card_laws.specs.Table.{Row1, Row2, Row3, Row4, Row5, Row6, Ro
 use Rattle.card_laws.proofs.ExactLaws.{Exact, false-unless, stop, on, in-turn, none-here}
 use Rattle.card_laws.proofs.RowLaws.{exact1, exact2, exact3, exact4, exact5, exact6, exact9, no-bad-field}
 use Rattle.card_laws.proofs.FarRow.{exact8}
-use Rattle.card_laws.proofs.PairRows.{exact7, exact10, exact11, exact12}
+use Rattle.card_laws.proofs.PairRows.{exact7, exact10, exact11}
+use Rattle.card_laws.proofs.CycleRow.{exact12}
 
 module _ (s : List ℕ) where
   -- ---- the stages that are left from each on

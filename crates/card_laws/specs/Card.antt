@@ -15,7 +15,7 @@ use Rattle.fields.specs.Limits.{perContourLimit, candidateLimit, passLimit, ver
 use Rattle.fields.specs.Layout.{jobOf, contoursOf, pairsOf, perContourOf, passesOf, moveLimitOf, homePlace, exteriorOf, interiorOf, idOf, tagOf, vertexCountOf, typeOf, vertexPlace, beforeIdOf, beforeTagOf, afterIdOf, afterTagOf}
 use Rattle.fields.specs.Values.{asType, asPreference, pointAt}
 use Rattle.card.specs.Stages.{blocksDue, beforeOf, afterOf}
-use Rattle.card.specs.Names.{seatsOf}
+use Rattle.card.specs.Names.{pairsOn}
 
 -- a contour: who it is, what it is, and its corners in order
 pub record Contour : Type 0 where
@@ -95,4 +95,4 @@ pub record Accepted (s : List ℕ) : Type 0 where
   pub ids-differ : (j k : ℕ) → j < contoursOf s → k < contoursOf s → idOf s j ≡ idOf s k → j ≡ k
   pub before-named : (q : ℕ) → q < pairsOf s → Names s (beforeIdOf s q) (beforeTagOf s q) (beforeOf s q)
   pub after-named : (q : ℕ) → q < pairsOf s → Names s (afterIdOf s q) (afterTagOf s q) (afterOf s q)
-  pub acyclic : Acyclic (contoursOf s) (seatsOf s (pairsOf s))
+  pub acyclic : Acyclic (contoursOf s) (pairsOn s)

@@ -7,11 +7,10 @@ use Prim.Native.Nat.{ℕ, _<_}
 use lib.ListN.{getD}
 use Rattle.answer.specs.declared.Check.the-variants.{Fine, Refused}
 use Rattle.closure.specs.Cycle.{linked}
-use Rattle.closure.specs.Pairs.{paired, every}
-use Rattle.hierarchy.specs.Legal.{EachOnce}
-use Rattle.hierarchy.specs.Sort.{both}
-use Rattle.fields.specs.Layout.{contoursOf, pairsOf}
-use Rattle.card.specs.Names.{seatsOf}
+use Rattle.closure.specs.Pairs.{paired, every, both}
+use Rattle.keep.specs.Legal.{EachOnce}
+use Rattle.fields.specs.Layout.{contoursOf}
+use Rattle.card.specs.Names.{pairsOn}
 use Rattle.card.specs.Verdict.{checkOf}
 use Rattle.card_laws.specs.Table.{Past11, Precedes}
 
@@ -35,6 +34,6 @@ pub record Twelve (s : List ℕ) : Type 0 where
 
 -- of a fine card: positions are linked exactly where a pair puts the one before the other, and every pair's positions are contours
 pub record Links (s : List ℕ) : Type 0 where
-  pub linked-if : (i j : ℕ) → Precedes s i j → linked (contoursOf s) (seatsOf s (pairsOf s)) i j ≡ true
-  pub linked-only : (i j : ℕ) → linked (contoursOf s) (seatsOf s (pairsOf s)) i j ≡ true → Precedes s i j
-  pub all-contours : every (both (contoursOf s)) (paired (seatsOf s (pairsOf s))) ≡ true
+  pub linked-if : (i j : ℕ) → Precedes s i j → linked (contoursOf s) (pairsOn s) i j ≡ true
+  pub linked-only : (i j : ℕ) → linked (contoursOf s) (pairsOn s) i j ≡ true → Precedes s i j
+  pub all-contours : every (both (contoursOf s)) (paired (pairsOn s)) ≡ true

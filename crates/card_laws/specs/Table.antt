@@ -9,10 +9,10 @@ use lib.ListN.{length}
 use Rattle.answer.specs.declared.Refusal.{Refusal}
 use Rattle.answer.specs.declared.Check.the-variants.{Fine, Refused}
 use Rattle.block.specs.Field.{byteAt, u32At}
-use Rattle.block.specs.Block.{blockBytes, checkPlace, checkAt, Due}
+use Rattle.block.specs.Block.{blockBytes, payloadBytes, checkPlace, checkAt, Due}
 use Rattle.points.specs.Bad.{badPoint}
 use Rattle.closure.specs.Limits.{CONTOURS, PAIRS}
-use Rattle.fields.specs.Limits.{cardBytes, perContourLimit, candidateLimit, passLimit, vertexLimit, pairsABlock, payloadBytes}
+use Rattle.fields.specs.Limits.{cardBytes, perContourLimit, candidateLimit, passLimit, vertexLimit, pairsABlock}
 use Rattle.fields.specs.Layout.{blocksOf, payload, contoursOf, pairsOf, perContourOf, passesOf, homePlace, exteriorOf, interiorOf, idOf, tagOf, vertexCountOf, typeOf, fillerOf, vertexPlace, beforeIdOf, beforeTagOf, afterIdOf, afterTagOf}
 use Rattle.fields.specs.Values.{pointAt}
 use Rattle.card.specs.Verdict.{checkOf}

@@ -1,28 +1,16 @@
 -- A card's bytes, from what it says: the other way round than reading, for examples. Assumes nothing.
 use mathlib.Core.List.{List, [], _∷_, _++_}
-use Prim.Native.Nat.{ℕ, zero, suc, _+_, _-_, _/_, _%_}
-use lib.ListN.{length, take, drop, replicate}
+use Prim.Native.Nat.{ℕ, zero, suc, _+_, _-_, _/_}
+use lib.ListN.{length, take, drop}
 use lib.Ieee.{Float, binary64, toBits}
 use Rattle.answer.specs.declared.Point.{Point}
 use Rattle.answer.specs.declared.ContourType.{ContourType}
 use Rattle.answer.specs.declared.ContourType.the-variants.{Exterior, Interior}
 use Rattle.answer.specs.declared.CutDirectionPreference.{CutDirectionPreference}
 use Rattle.answer.specs.declared.CutDirectionPreference.the-variants.{Ccw, Cw, Auto}
-use Rattle.block.specs.Block.{weigh}
-use Rattle.fields.specs.Limits.{pairsABlock, payloadBytes}
+use Rattle.block.specs.Write.{bytes, blockOf}
+use Rattle.fields.specs.Limits.{pairsABlock}
 use Rattle.card_laws.specs.Card.{Contour, Pair, Card}
-
--- a number in so many bytes, the lowest first
-unfoldable pub bytes : ℕ → ℕ → List ℕ
-bytes zero x = []
-bytes (suc k) x = x % 256 ∷ bytes k (x / 256)
-
--- a block: its start, the payload filled up with zeros, the check
-unfoldable pub blockOf : ℕ → ℕ → List ℕ → List ℕ
-unfolding bytes weigh
-blockOf kind number payload =
-    let body = kind ∷ 1 ∷ bytes 2 number ++ bytes 4 0 ++ payload ++ replicate (payloadBytes - length payload) 0 in
-    body ++ bytes 4 (weigh 1 body)
 
 unfoldable pub numberBytes : Float → List ℕ
 unfolding bytes toBits
@@ -61,7 +49,7 @@ contourBytes c = bytes 4 (c .id) ++ bytes 4 (c .tag) ++ bytes 2 (length (c .vert
 unfoldable pub contourBlocks : ℕ → List Contour → List ℕ
 unfolding blockOf contourBytes
 contourBlocks b [] = []
-contourBlocks b (c ∷ more) = blockOf 2 b (contourBytes c) ++ contourBlocks (suc b) more
+contourBlocks b (c ∷ more) = blockOf 2 1 b (contourBytes c) ++ contourBlocks (suc b) more
 
 unfoldable pub pairBytes : List Pair → List ℕ
 unfolding bytes
@@ -72,10 +60,10 @@ pairBytes (p ∷ more) = bytes 4 (p .before-id) ++ bytes 4 (p .before-tag) ++ by
 unfoldable pub pairBlocks : ℕ → ℕ → List Pair → List ℕ
 unfolding blockOf pairBytes
 pairBlocks zero b l = []
-pairBlocks (suc k) b l = blockOf 3 b (pairBytes (take pairsABlock l)) ++ pairBlocks k (suc b) (drop pairsABlock l)
+pairBlocks (suc k) b l = blockOf 3 1 b (pairBytes (take pairsABlock l)) ++ pairBlocks k (suc b) (drop pairsABlock l)
 
 unfoldable pub written : Card → List ℕ
 unfolding blockOf headBytes contourBlocks pairBlocks
 written c =
-    blockOf 1 0 (headBytes c) ++ contourBlocks 1 (c .contours)
+    blockOf 1 1 0 (headBytes c) ++ contourBlocks 1 (c .contours)
     ++ pairBlocks ((length (c .pairs) + (pairsABlock - 1)) / pairsABlock) (suc (length (c .contours))) (c .pairs)

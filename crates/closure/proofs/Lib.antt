@@ -1,3 +1,4 @@
 pub mod PairLaws
 pub mod FlagLaws
 pub mod PathLaws
+pub mod CountLaws

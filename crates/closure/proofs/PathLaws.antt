@@ -1,21 +1,23 @@
--- `leads` says yes exactly where a path is: links that lead from one position to another. Assumes nothing.
+-- `leads` says yes exactly where a path is: links that lead from one position to another; below n, links are the pairs of the list.
+-- Assumes nothing.
 use mathlib.Core.Bool.{Bool, true, false, _&&_, _||_}
-use mathlib.Core.Path.{_≡_, refl, sym, _∙_}
+use mathlib.Core.Path.{_≡_, refl, sym, ap, _∙_}
 use mathlib.Core.Logic.{_⊎_, inl, inr, ⊎-elim, _↔_}
-use mathlib.Core.List.{List}
+use mathlib.Core.List.{List, [], _∷_}
 use Prim.Native.Nat.{ℕ, zero, suc, _*_, _≤_, _<_}
 use native.Mathlib.Nat.{eq-or-lt-of-le, le-of-suc-le-suc, not-suc-le-zero}
 use native.Mathlib.Omega.{arith}
-use lib.Dec.{ltb}
-use borrow.Author.Tests.{ltb-true}
+use lib.Dec.{eqb, ltb}
+use borrow.Author.Tests.{eqb-true, ltb-true}
 use Rattle.answer.specs.declared.Found.{Found}
 use Rattle.answer.specs.Lowest.{lowest}
 use Rattle.answer.proofs.LowestLaws.{absent-is, is-absent}
 use lib.ListN.{replicate}
 use Rattle.closure.specs.Limits.{CONTOURS}
 use Rattle.closure.specs.Flags.{flag, Noted, Says}
-use Rattle.closure.proofs.FlagLaws.{closed-leads}
-use Rattle.closure.specs.Pairs.{paired, someOf, isPair}
+use Rattle.closure.proofs.FlagLaws.{closed-leads, linked-is}
+use Rattle.closure.specs.Pairs.{Pair, paired, every, someOf, isPair}
+use Rattle.closure.proofs.PairLaws.{is-pair}
 use Rattle.closure.specs.Cycle.{linked, Reaches, step, onward, leads, onCycle, Acyclic}
 
 -- ---- yes and no
@@ -143,3 +145,43 @@ pub flags-exactly : (n : ℕ) (pairs : List ℕ) (f g : List Bool) → n ≤ CON
 flags-exactly n pairs f g small noted says i j h l =
     let e : flag g i j ≡ leads (linked n pairs) n i j = closed-leads n pairs f g small noted says i j h l in
     ((λ t. leads-reaches (linked n pairs) n i j (sym e ∙ t)), (λ r. e ∙ reaches-leads n (linked n pairs) (linked-within n pairs) r))
+
+-- ---- every pair of a list, one by one
+
+-- what holds of each pair of the list holds of all
+pub every-is : (test : Pair → Bool) (ps : List Pair)
+    → ((b a : ℕ) → someOf (isPair b a) ps ≡ true → test (record { before = b; after = a }) ≡ true) → every test ps ≡ true
+unfolding every someOf
+every-is test [] h = refl
+every-is test (p ∷ more) h = both-true (test p) (every test more)
+    (h (p .before) (p .after)
+    (or-left (isPair (p .before) (p .after) p) (someOf (isPair (p .before) (p .after)) more)
+    (is-pair (p .before) (p .after) (p .before) (p .after) refl refl)))
+    (every-is test more (λ b a t. h b a (or-right (isPair b a p) (someOf (isPair b a) more) t)))
+
+-- and what holds of all holds of each
+pub every-at : (test : Pair → Bool) (ps : List Pair) (b a : ℕ) → every test ps ≡ true → someOf (isPair b a) ps ≡ true
+    → test (record { before = b; after = a }) ≡ true
+unfolding every someOf
+every-at test [] b a e t = let z : _≡_ {A = ℕ} 0 1 = cc in absurd (omega arith)
+every-at test (p ∷ more) b a e t =
+    go (or-cases (isPair b a p) (someOf (isPair b a) more) t) (every-at test more b a (and-second (test p) (every test more) e))
+  where
+    go : (isPair b a p ≡ true) ⊎ (someOf (isPair b a) more ≡ true)
+        → (someOf (isPair b a) more ≡ true → test (record { before = b; after = a }) ≡ true)
+        → test (record { before = b; after = a }) ≡ true
+    go (inl i) rec =
+        let x : p .before ≡ b = eqb-true (p .before) b (and-first (eqb (p .before) b) (eqb (p .after) a) i) in
+        let y : p .after ≡ a = eqb-true (p .after) a (and-second (eqb (p .before) b) (eqb (p .after) a) i) in
+        let q : p ≡ record { before = b; after = a } = λ j. record { before = x j; after = y j } in
+        ap test (sym q) ∙ and-first (test p) (every test more) e
+    go (inr s) rec = rec s
+
+-- below n a pair of the list is a link
+pub linked-pair : (n : ℕ) (pairs : List ℕ) (b a : ℕ) → b < n → a < n → someOf (isPair b a) (paired pairs) ≡ true
+    → linked n pairs b a ≡ true
+linked-pair n pairs b a hb ha t = linked-is n pairs b a hb ha ∙ t
+
+-- and a link a pair
+pub pair-linked : (n : ℕ) (pairs : List ℕ) (b a : ℕ) → linked n pairs b a ≡ true → someOf (isPair b a) (paired pairs) ≡ true
+pair-linked n pairs b a t = let h = linked-within n pairs b a t in sym (linked-is n pairs b a (h .0) (h .1)) ∙ t

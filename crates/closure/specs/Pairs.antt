@@ -2,7 +2,7 @@
 use mathlib.Core.Bool.{Bool, true, false, _&&_, _||_}
 use mathlib.Core.List.{List, [], _∷_}
 use Prim.Native.Nat.{ℕ}
-use lib.Dec.{eqb}
+use lib.Dec.{eqb, ltb}
 
 -- the first is cut before the second
 pub record Pair : Type 0 where
@@ -28,3 +28,7 @@ someOf test (p ∷ more) = test p || someOf test more
 -- the pair is this one
 abbrev pub isPair : ℕ → ℕ → Pair → Bool
 isPair b a p = eqb (p .before) b && eqb (p .after) a
+
+-- both positions are below n
+abbrev pub both : ℕ → Pair → Bool
+both n p = ltb (p .before) n && ltb (p .after) n

@@ -1,6 +1,5 @@
 -- The starred closest point of the scope document, computed from the definition. Assumes nothing.
 use mathlib.Core.Path.{_≡_, refl}
-use mathlib.Core.List.{List, [], _∷_}
 use lib.Ieee.{Float, binary64, add, sub, mul, div, neg, lt, ofBits, ofFields, odd, size, span, climb, round, units, sum}
 use lib.Count.{trailingZeros}
 use Rattle.answer.specs.Stage.{firstRefusal}
@@ -11,20 +10,14 @@ use Rattle.points.specs.Bad.{badNumber, badPoint, badAt, firstBad}
 use Rattle.points.specs.Distance.{squares, distanceSqOf}
 use Rattle.points.specs.Along.{alongOf}
 use Rattle.points.specs.Numbers.{zero64}
+use Rattle.points.specs.Square.{square}
 use Rattle.cost.specs.Closest.{clampOf, footOf, closerOf, closestFrom, closestTo, polygonAndPoint, closestOnPolygonOf}
-
-abbrev four64 : Float
-four64 = ofBits binary64 0x4010_0000_0000_0000
 
 abbrev two64 : Float
 two64 = ofBits binary64 0x4000_0000_0000_0000
 
 abbrev half64 : Float
 half64 = ofBits binary64 0x3fe0_0000_0000_0000
-
--- the square (0,0), (4,0), (4,4), (0,4)
-abbrev pub square : List Float
-square = zero64 ∷ zero64 ∷ four64 ∷ zero64 ∷ four64 ∷ four64 ∷ zero64 ∷ four64 ∷ []
 
 -- closest to (2,2) is (2,0), on edge 0, halfway along
 pub closest-of-square : closestOnPolygonOf square (point two64 two64) ≡ At (record { point = point two64 zero64; vertex = 0; t = half64 })

@@ -60,16 +60,10 @@ fn two_points(a: Point, b: Point) -> Check
     ensures { λ r. ⌜ r ≡ twoPoints a b ⌝ }
 {
     if points::bad_point(a) {
-        return Check::Refused(Refusal {
-            number: 8,
-            place: 0,
-        });
+        return answer::refused(8, 0);
     }
     if points::bad_point(b) {
-        return Check::Refused(Refusal {
-            number: 8,
-            place: 1,
-        });
+        return answer::refused(8, 1);
     }
     Check::Fine
 }
@@ -172,16 +166,10 @@ fn polygon_and_point(polygon: &[f64], p: Point) -> Check
     let whole = polygon.len() / 2;
     let count = (polygon.len() + 1) / 2;
     match points::first_bad(polygon, count) {
-        Found::At(k) => Check::Refused(Refusal {
-            number: 8,
-            place: k,
-        }),
+        Found::At(k) => answer::refused(8, k),
         Found::Absent => {
             if points::bad_point(p) {
-                return Check::Refused(Refusal {
-                    number: 8,
-                    place: whole,
-                });
+                return answer::refused(8, whole);
             }
             Check::Fine
         }
@@ -227,17 +215,11 @@ fn home_and_legs(home: Point, numbers: &[f64]) -> Check
     ensures { λ r. ⌜ r ≡ homeAndLegs home (now (numbers .entry)) ⌝ }
 {
     if points::bad_point(home) {
-        return Check::Refused(Refusal {
-            number: 8,
-            place: 0,
-        });
+        return answer::refused(8, 0);
     }
     let count = 2 * ((numbers.len() + 3) / 4);
     match points::first_bad(numbers, count) {
-        Found::At(k) => Check::Refused(Refusal {
-            number: 8,
-            place: k + 1,
-        }),
+        Found::At(k) => answer::refused(8, k + 1),
         Found::Absent => Check::Fine,
     }
 }
@@ -267,22 +249,13 @@ fn amounts(total: f64, count: usize, weight: f64) -> Check
     ensures { λ r. ⌜ r ≡ amounts total count weight ⌝ }
 {
     if no_amount(total) {
-        return Check::Refused(Refusal {
-            number: 14,
-            place: 1,
-        });
+        return answer::refused(14, 1);
     }
     if no_amount(weight) {
-        return Check::Refused(Refusal {
-            number: 14,
-            place: 2,
-        });
+        return answer::refused(14, 2);
     }
     if count > MOST_PIERCES {
-        return Check::Refused(Refusal {
-            number: 14,
-            place: 3,
-        });
+        return answer::refused(14, 3);
     }
     Check::Fine
 }

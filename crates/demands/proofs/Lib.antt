@@ -1,4 +1,3 @@
-pub mod PairLaws
 pub mod AskedLaws
 pub mod Demand1
 pub mod ChosenLaws

@@ -25,7 +25,8 @@ use Rattle.start.specs.Nearest.{Ground, Way, reachOf, lastOf, chosen, visit, st
 use Rattle.start.proofs.ChoiceLaws.{chosen-fair}
 use Rattle.instance.proofs.OwnerLaws.{gathered-grows, first-at}
 use Rattle.solve.specs.Solve.{groundIn}
-use Rattle.instance.specs.Search.{homeOn, candidatesOn, countOn, ownersOn, firstsOn, pairsOn, homesOn, tableOn, sheetOn}
+use Rattle.card.specs.Names.{pairsOn}
+use Rattle.instance.specs.Search.{homeOn, candidatesOn, countOn, ownersOn, firstsOn, homesOn, tableOn, sheetOn}
 use Rattle.tour.specs.Search.{startOn}
 use Rattle.demands.specs.Demand2.{wayOn, reachOn, Ready, Takes, Starts}
 use Rattle.tour_laws.specs.Visits.{AllBelow}

@@ -11,6 +11,7 @@ pair e f i = (e i, f i)
 
 of-numbers : OfNumbers
 of-numbers = record {
+  refused = λ number place. one _;
   code = λ c. one _;
   sqrt = λ x. one _;
   root = λ x. one _;

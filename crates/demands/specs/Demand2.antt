@@ -26,7 +26,8 @@ use Rattle.improve.specs.After.{After}
 use Rattle.solve.specs.declared.Outcome.{Outcome}
 use Rattle.solve.specs.Solve.{groundIn}
 use Rattle.tour.specs.declared.Toured.the-variants.{Done}
-use Rattle.instance.specs.Search.{homeOn, candidatesOn, countOn, ownersOn, firstsOn, pairsOn, homesOn, tableOn, sheetOn}
+use Rattle.card.specs.Names.{pairsOn}
+use Rattle.instance.specs.Search.{homeOn, candidatesOn, countOn, ownersOn, firstsOn, homesOn, tableOn, sheetOn}
 use Rattle.tour.specs.Search.{startOn}
 use Rattle.tour.specs.Tour.{tourOf}
 

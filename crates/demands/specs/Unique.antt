@@ -58,6 +58,7 @@ use Rattle.questions.specs.Index.{pickedOf, placeIn, locatedOf, globalOf}
 
 -- answer, root
 pub record OfNumbers : Type 0 where
+  pub refused : (number place : ℕ) → OneAnswer (Is (Check.Refused (record { number = number; place = place })))
   pub code : (c : Check) → OneAnswer (Is (codeOf c))
   pub sqrt : (x : Float) → OneAnswer (Is (sqrtOf x))
   pub root : (x : Float) → OneAnswer (Is (rootOf x))

@@ -22,10 +22,6 @@ vertexLimit = 30
 abbrev pub pairsABlock : ℕ
 pairsABlock = 31
 
--- bytes of a block's payload
-abbrev pub payloadBytes : ℕ
-payloadBytes = 500
-
 -- the bits of 1,048,576: no coordinate is larger in size
 abbrev pub farthest : ℕ
 farthest = 0x4130_0000_0000_0000

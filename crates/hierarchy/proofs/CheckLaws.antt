@@ -1,7 +1,7 @@
 -- Which refusal the first of the checks on a list of pairs gives. Assumes nothing.
-use mathlib.Core.Bool.{Bool}
-use mathlib.Core.Path.{_≡_, sym, ap, _∙_}
-use mathlib.Core.Logic.{⊎-elim}
+use mathlib.Core.Bool.{Bool, true}
+use mathlib.Core.Path.{_≡_, refl, sym, ap, _∙_}
+use mathlib.Core.Logic.{⊎-elim, _↔_}
 use mathlib.Core.List.{List}
 use Prim.Native.Nat.{ℕ, _+_, _*_, _/_, _%_, _≤_, _<_}
 use native.Mathlib.Omega.{arith}
@@ -20,6 +20,8 @@ use Rattle.answer.specs.declared.Found.{Found}
 use Rattle.closure.specs.Cycle.{firstOnCycle}
 use Rattle.hierarchy.specs.Sort.{sortedBy}
 use Rattle.keep.specs.Keep.{keepsPairs}
+use Rattle.keep.specs.Legal.{EachOnce, Legal}
+use Rattle.keep.proofs.OrderLaws.{keeps-legal, legal-keeps}
 use Rattle.hierarchy.specs.Questions.{pairsCheck, verdictOf, pairListOf, idsOf, orderOf, validSequence, topologicalSort}
 
 module _ (contours : ℕ) (pairs : List ℕ) where
@@ -101,9 +103,22 @@ module _ (contours : ℕ) (pairs : List ℕ) (check : Check) (is : check ≡ pai
   sort-refused r e = rw (← is, e)
 
   module _ (found : Found) (at : found ≡ firstOnCycle contours pairs) (e : check ≡ Check.Fine) where
-    pub sort-cycle : (k : ℕ) → found ≡ Found.At k →
-        _≡_ {A = Order} (record { check = Check.Refused (record { number = 12; place = k }); positions = replicate CONTOURS 0; count = 0 }) (topologicalSort contours pairs)
-    sort-cycle k f = rw (← is, e, ← at, f)
+    pub sort-cycle : (k : ℕ) (a : Check) → found ≡ Found.At k → a ≡ Check.Refused (record { number = 12; place = k })
+        → _≡_ {A = Order} (record { check = a; positions = replicate CONTOURS 0; count = 0 }) (topologicalSort contours pairs)
+    sort-cycle k a f r = rw (r, ← is, e, ← at, f)
 
     pub sort-told : (a : Order) → found ≡ Found.Absent → a ≡ orderOf Check.Fine (sortedBy contours pairs) → a ≡ topologicalSort contours pairs
     sort-told a f p = p ∙ rw (← is, e, ← at, f)
+
+-- a sequence of each position once is valid exactly where it is a legal order
+pub valid-exactly : (contours : ℕ) (pairs order : List ℕ) → Check.Fine ≡ pairsCheck contours pairs → EachOnce contours order →
+    (validSequence contours pairs order ≡ Verdict.Is true) ↔ Legal contours pairs order
+valid-exactly contours pairs order fine each = (
+  (λ e. keeps-legal contours order each pairs (let s : Verdict.Is (keepsPairs order pairs) ≡ Verdict.Is true = told ∙ e in cc)),
+  (λ legal. sym told ∙ ap Verdict.Is (legal-keeps contours order each pairs legal)),
+)
+  where
+    told : Verdict.Is (keepsPairs order pairs) ≡ validSequence contours pairs order
+    told =
+        valid-told contours pairs order Check.Fine fine (keepsPairs order pairs) refl
+        (omega (arith, each .size, fine-small contours pairs fine .few)) refl

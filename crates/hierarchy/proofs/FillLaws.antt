@@ -12,20 +12,17 @@ use Rattle.answer.specs.declared.Check.{Check}
 use Rattle.closure.specs.Limits.{PAIRS}
 use Rattle.closure.specs.Pairs.{Pair, paired}
 use Rattle.closure.proofs.PairLaws.{pairAt, paired-more, paired-end}
-use Rattle.hierarchy.specs.Fill.{padded, Filled}
+use Rattle.answer.proofs.RoomLaws.{padded-one}
+use Rattle.hierarchy.specs.Fill.{Filled}
 use Rattle.hierarchy.specs.Questions.{picked, idsOf, pairListOf}
 
 pub filled-none : (n : ℕ) → Filled n (replicate n 0) 0 []
 filled-none n = record { holds = ap (λ (m : ℕ). replicate m 0) (sym (sub-zero n)); counts = refl }
 
-padded-more : (n : ℕ) (l : List ℕ) (x : ℕ) → length l < n → set (padded n l) (length l) x ≡ padded n (l ++ (x ∷ []))
-padded-more n l x h =
-    let e : n - length l ≡ suc (n - length (l ++ (x ∷ []))) = omega (arith, length-append l (x ∷ [])) in
-    rw e (set-append-seam l 0 (replicate (n - length (l ++ (x ∷ []))) 0) x ∙ sym (append-assoc l (x ∷ []) (replicate (n - length (l ++ (x ∷ []))) 0)))
-
-pub filled-more : (n : ℕ) (items : List ℕ) (count : ℕ) (l : List ℕ) (x : ℕ) → count < n → Filled n items count l → Filled n (set items count x) (count + 1) (l ++ (x ∷ []))
+pub filled-more : (n : ℕ) (items : List ℕ) (count : ℕ) (l : List ℕ) (x : ℕ) → count < n → Filled n items count l
+    → Filled n (set items count x) (count + 1) (l ++ (x ∷ []))
 filled-more n items count l x h f = record {
-  holds = rw (f .holds, f .counts) (padded-more n l x (omega (arith, f .counts)));
+  holds = rw (f .holds, f .counts) (padded-one n 0 l x (length l) refl (omega (arith, f .counts)));
   counts = omega (arith, f .counts, length-append l (x ∷ []));
 }
 

@@ -11,10 +11,12 @@ use borrow.Author.Tests.{eq-eqb, ne-eqb, lt-ltb, le-ltb}
 use lib.ListN.{length, getD, set, take, drop, replicate, length-set, length-append, length-replicate, length-drop, take-append-drop}
 use lib.Seq.{getD-set-same, getD-set-other, take-suc, take-suc-set, take-at, take-all, drop-cons, getD-take, take-append-le, drop-append-le}
 use Rattle.closure.specs.Limits.{CONTOURS}
-use Rattle.closure.specs.Pairs.{Pair, paired}
+use Rattle.closure.specs.Pairs.{Pair, paired, both}
 use Rattle.closure.proofs.PairLaws.{same-or, lt-or, pairAt, paired-more, paired-end}
-use Rattle.hierarchy.specs.Fill.{padded, Filled}
-use Rattle.hierarchy.specs.Sort.{Kahn, both, heldBack, tallied, freeBelow, untaken, loosened, released, frontTaken, queueTaken, sortedBy}
+use Rattle.answer.specs.Room.{padded}
+use Rattle.answer.proofs.RoomLaws.{padded-length}
+use Rattle.hierarchy.specs.Fill.{Filled}
+use Rattle.hierarchy.specs.Sort.{Kahn, heldBack, tallied, freeBelow, untaken, loosened, released, frontTaken, queueTaken, sortedBy}
 use Rattle.hierarchy.specs.Code.{heldCount, standing, firstTaken, Roomy, Stands}
 use Rattle.answer.specs.declared.Check.{Check}
 use Rattle.hierarchy.specs.declared.Order.{Order}
@@ -129,9 +131,7 @@ held-yes w d = rw (ne-eqb w 0 d)
 -- the array is as long as the limit
 roomy-length : (w o : List ℕ) (k : ℕ) → Roomy w o k → length o ≡ CONTOURS
 roomy-length w o k s =
-    let e : length o ≡ length (padded CONTOURS (take k o)) = ap length (s .filled .holds) in
-    let f : length (padded CONTOURS (take k o)) ≡ length (take k o) + (CONTOURS - length (take k o)) = length-append (take k o) (replicate (CONTOURS - length (take k o)) 0) ∙ ap (λ (z : ℕ). length (take k o) + z) (length-replicate {A = ℕ} (CONTOURS - length (take k o)) 0) in
-    omega (arith, s .filled .counts, s .room)
+    ap length (s .filled .holds) ∙ padded-length CONTOURS 0 (take k o) (omega (arith, s .filled .counts, s .room))
 
 module _ (w o : List ℕ) (k a : ℕ) (roomy : Roomy w o k) (ha : a < CONTOURS) where
   in-waits : a < length w

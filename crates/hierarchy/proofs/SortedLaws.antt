@@ -11,23 +11,23 @@ use borrow.Author.Tests.{eq-eqb, ne-eqb, eqb-true, eqb-false, not-true, lt-ltb, 
 use lib.ListN.{length, getD, set, replicate, length-set, length-append, length-replicate, List·getD-append}
 use lib.Seq.{getD-set-same, getD-set-other, getD-append-seam, take-all}
 use Rattle.closure.specs.Limits.{CONTOURS}
-use Rattle.closure.specs.Pairs.{Pair, paired, someOf, isPair}
+use Rattle.closure.specs.Pairs.{Pair, paired, someOf, isPair, both}
 use Rattle.closure.specs.Cycle.{linked, onCycle, Acyclic, firstOnCycle}
 use Rattle.answer.specs.declared.Check.{Check}
 use Rattle.answer.specs.declared.Found.{Found}
 use Rattle.answer.specs.Lowest.{lowest}
 use Rattle.answer.proofs.LowestLaws.{LowestAt, Nowhere, at-is, absent-is, search-through}
 use Rattle.closure.proofs.PairLaws.{same-or, lt-or, is-pair}
-use Rattle.closure.proofs.PathLaws.{or-cases, or-left, or-right, and-first, and-second, both-true, yes-or-no, true-false, linked-within, absent-exactly}
-use Rattle.hierarchy.specs.Sort.{Kahn, both, heldBack, tallied, freeBelow, untaken, loosened, released, queueTaken, sortedBy}
+use Rattle.closure.proofs.PathLaws.{or-cases, or-left, or-right, and-first, and-second, both-true, yes-or-no, true-false, linked-within, absent-exactly, linked-pair, pair-linked}
+use Rattle.hierarchy.specs.Sort.{Kahn, heldBack, tallied, freeBelow, untaken, loosened, released, queueTaken, sortedBy}
 use Rattle.hierarchy.specs.Code.{firstTaken}
 use Rattle.hierarchy.specs.declared.Order.{Order}
 use Rattle.hierarchy.specs.Questions.{pairsCheck, orderOf, topologicalSort}
-use Rattle.hierarchy.specs.Legal.{Legal}
+use Rattle.keep.specs.Legal.{Legal}
 use Rattle.hierarchy.proofs.CheckLaws.{fine-small, sort-cycle, sort-told}
 use Rattle.hierarchy.proofs.SortLaws.{both-yes, zeros, tallied-length, queue-step, queue-end}
-use Rattle.hierarchy.proofs.CountLaws.{anyBelow, met, met-is, met-at, Different, met-not, different-few, all-many, Least, least}
-use Rattle.hierarchy.proofs.OrderLaws.{linked-pair, pair-linked, legal-acyclic}
+use Rattle.closure.proofs.CountLaws.{anyBelow, met, met-is, met-at, Different, met-not, different-few, all-many, Least, least}
+use Rattle.keep.proofs.OrderLaws.{legal-acyclic}
 
 -- ---- how many pairs pass a test
 
@@ -553,7 +553,10 @@ module _ (contours : ℕ) (pairs : List ℕ) (fine : Check.Fine ≡ pairsCheck c
 
   -- where k is the lowest position that reaches itself, it is refused 12 at k
   pub sort-refuses : (k : ℕ) → LowestAt (onCycle contours pairs) contours k → (topologicalSort contours pairs) .check ≡ Check.Refused (record { number = 12; place = k })
-  sort-refuses k at = ap (λ (r : Order). r .check) (sym (sort-cycle contours pairs Check.Fine fine (Found.At k) (sym (first-on ∙ at-is (onCycle contours pairs) contours k at)) refl k refl))
+  sort-refuses k at =
+      ap (λ (r : Order). r .check)
+      (sym (sort-cycle contours pairs Check.Fine fine (Found.At k) (sym (first-on ∙ at-is (onCycle contours pairs) contours k at)) refl
+      k _ refl refl))
 
   -- refused 12 exactly where there is no legal order
   pub refused-exactly : ((k : ℕ) × ((topologicalSort contours pairs) .check ≡ Check.Refused (record { number = 12; place = k }))) ↔ (((order : List ℕ) × Legal contours pairs order) → ⊥)

@@ -1,14 +1,11 @@
 -- A list held in the first entries of an array. Assumes nothing.
 use mathlib.Core.Path.{_≡_}
-use mathlib.Core.List.{List, _++_}
-use Prim.Native.Nat.{ℕ, _-_}
-use lib.ListN.{length, replicate}
+use mathlib.Core.List.{List}
+use Prim.Native.Nat.{ℕ}
+use lib.ListN.{length}
+use Rattle.answer.specs.Room.{padded}
 
--- a list in an array of n entries, the rest 0
-abbrev pub padded : ℕ → List ℕ → List ℕ
-padded n l = l ++ replicate (n - length l) 0
-
--- the array holds the list, and count is its length
+-- the array of n entries holds the list, the rest 0, and count is its length
 pub record Filled (n : ℕ) (items : List ℕ) (count : ℕ) (l : List ℕ) : Type 0 where
-  pub holds : items ≡ padded n l
+  pub holds : items ≡ padded n 0 l
   pub counts : count ≡ length l

@@ -2,4 +2,3 @@ pub mod Fill
 pub mod Sort
 pub mod Code
 pub mod Questions
-pub mod Legal

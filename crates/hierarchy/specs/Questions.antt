@@ -10,12 +10,13 @@ use Rattle.answer.specs.Lowest.{refuseAt, refuseIf}
 use Rattle.closure.specs.Limits.{CONTOURS, PAIRS}
 use Rattle.closure.specs.Pairs.{Pair, paired, someOf, isPair}
 use Rattle.closure.specs.Cycle.{firstOnCycle}
-use Rattle.hierarchy.specs.declared.Count.{Count}
+use Rattle.answer.specs.declared.Count.{Count}
+use Rattle.answer.specs.Count.{countUnless}
+use Rattle.answer.specs.Room.{padded}
 use Rattle.hierarchy.specs.declared.Verdict.{Verdict}
 use Rattle.hierarchy.specs.declared.PairList.{PairList}
 use Rattle.hierarchy.specs.declared.Ids.{Ids}
 use Rattle.hierarchy.specs.declared.Order.{Order}
-use Rattle.hierarchy.specs.Fill.{padded}
 use Rattle.keep.specs.Keep.{keepsPairs}
 use Rattle.hierarchy.specs.Sort.{sortedBy}
 
@@ -39,26 +40,22 @@ sortCheck contours pairs = orElse (pairsCheck contours pairs) (refuseAt 12 (firs
 
 -- ---- answers: a refusal's number and place, or the value
 
-abbrev pub countOf : Check → ℕ → Count
-countOf Check.Fine n = Count.Is n
-countOf (Check.Refused r) n = Count.Refused r
-
 abbrev pub verdictOf : Check → Bool → Verdict
 verdictOf Check.Fine b = Verdict.Is b
 verdictOf (Check.Refused r) b = Verdict.Refused r
 
 -- a refusal's list is empty
 abbrev pub pairListOf : Check → List ℕ → PairList
-pairListOf Check.Fine l = record { check = Check.Fine; ids = padded (2 * PAIRS) l; count = length l / 2 }
-pairListOf (Check.Refused r) l = record { check = Check.Refused r; ids = padded (2 * PAIRS) []; count = 0 }
+pairListOf Check.Fine l = record { check = Check.Fine; ids = padded (2 * PAIRS) 0 l; count = length l / 2 }
+pairListOf (Check.Refused r) l = record { check = Check.Refused r; ids = padded (2 * PAIRS) 0 []; count = 0 }
 
 abbrev pub idsOf : Check → List ℕ → Ids
-idsOf Check.Fine l = record { check = Check.Fine; ids = padded PAIRS l; count = length l }
-idsOf (Check.Refused r) l = record { check = Check.Refused r; ids = padded PAIRS []; count = 0 }
+idsOf Check.Fine l = record { check = Check.Fine; ids = padded PAIRS 0 l; count = length l }
+idsOf (Check.Refused r) l = record { check = Check.Refused r; ids = padded PAIRS 0 []; count = 0 }
 
 abbrev pub orderOf : Check → List ℕ → Order
-orderOf Check.Fine l = record { check = Check.Fine; positions = padded CONTOURS l; count = length l }
-orderOf (Check.Refused r) l = record { check = Check.Refused r; positions = padded CONTOURS []; count = 0 }
+orderOf Check.Fine l = record { check = Check.Fine; positions = padded CONTOURS 0 l; count = length l }
+orderOf (Check.Refused r) l = record { check = Check.Refused r; positions = padded CONTOURS 0 []; count = 0 }
 
 -- ---- the questions
 
@@ -76,7 +73,7 @@ startsAt id p = eqb (p .before) id
 
 -- how many contours there are
 abbrev pub numContours : ℕ → List ℕ → Count
-numContours contours pairs = countOf (pairsCheck contours pairs) contours
+numContours contours pairs = countUnless (pairsCheck contours pairs) contours
 
 -- the pairs themselves
 abbrev pub precedencesOf : ℕ → List ℕ → PairList

@@ -5,7 +5,7 @@ use Prim.Native.Nat.{ℕ, zero, suc, _+_, _-_}
 use lib.Dec.{ltb, eqb}
 use lib.ListN.{length, getD, set, drop, replicate}
 use Rattle.closure.specs.Limits.{CONTOURS}
-use Rattle.closure.specs.Pairs.{Pair, paired}
+use Rattle.closure.specs.Pairs.{Pair, paired, both}
 
 -- how far it has come: the positions taken, in their order; the queue of those that nothing holds back any more, in the
 -- order in which they came free; and how many pairs still hold each position back
@@ -14,15 +14,11 @@ pub record Kahn : Type 0 where
   pub queue : List ℕ
   pub waits : List ℕ
 
--- both positions are below n; other pairs are passed over
-abbrev pub both : ℕ → Pair → Bool
-both n p = ltb (p .before) n && ltb (p .after) n
-
 -- one more pair holds position a back
 abbrev pub heldBack : List ℕ → ℕ → List ℕ
 heldBack w a = set w a (getD w a 0 + 1)
 
--- each pair holds its second back
+-- each pair holds its second back; a pair of which one is not below n is passed over
 unfoldable pub tallied : ℕ → List Pair → List ℕ → List ℕ
 tallied n [] w = w
 tallied n (p ∷ more) w = tallied n more (cond (both n p) (heldBack w (p .after)) w)

@@ -1,5 +1,6 @@
 // The questions on a list of pairs, each of which puts one contour before another.
 use answer::Check;
+use answer::Count;
 use answer::Found;
 use answer::Refusal;
 use closure::CONTOURS;
@@ -10,19 +11,13 @@ ghost use lib.Dec.{eqb};
 ghost use Prim.Native.Nat.{_-_, _*_, _≤_, _<_};
 ghost use Rattle.answer.specs.declared.Check.{Check};
 ghost use Rattle.closure.specs.Limits.{CONTOURS, PAIRS};
-ghost use Rattle.closure.specs.Pairs.{paired, someOf, isPair};
+ghost use Rattle.closure.specs.Pairs.{paired, someOf, isPair, both};
 ghost use lib.ListN.{length, replicate};
 ghost use Rattle.keep.specs.Keep.{lastRank, keepsPairs};
 ghost use Rattle.hierarchy.specs.Questions.{pairsCheck, picked, endsAt, startsAt, pairListOf, idsOf, numContours, precedencesOf, violatesOf, predecessorsOf, successorsOf, validSequence, orderOf, topologicalSort};
 ghost use Rattle.hierarchy.specs.Fill.{Filled};
-ghost use Rattle.hierarchy.specs.Sort.{both, tallied, freeBelow, loosened, released, queueTaken, sortedBy};
+ghost use Rattle.hierarchy.specs.Sort.{tallied, freeBelow, loosened, released, queueTaken, sortedBy};
 ghost use Rattle.hierarchy.specs.Code.{standing, Roomy, Stands};
-
-// A number, or why there is none.
-pub enum Count {
-    Is(usize),
-    Refused(Refusal),
-}
 
 // Yes or no, or why neither.
 pub enum Verdict {
@@ -56,24 +51,15 @@ fn check_pairs(contours: usize, pairs: &[u32]) -> Check
     ensures { λ r. ⌜ r ≡ pairsCheck contours (now (pairs .entry)) ⌝ }
 {
     if contours > CONTOURS {
-        return Check::Refused(Refusal {
-            number: 4,
-            place: 1,
-        });
+        return answer::refused(4, 1);
     }
     let whole = pairs.len() / 2;
     let half = pairs.len() % 2;
     if whole + half > PAIRS {
-        return Check::Refused(Refusal {
-            number: 4,
-            place: 2,
-        });
+        return answer::refused(4, 2);
     }
     if half == 1 {
-        return Check::Refused(Refusal {
-            number: 10,
-            place: whole,
-        });
+        return answer::refused(10, whole);
     }
     Check::Fine
 }
@@ -446,10 +432,7 @@ pub fn topological_sort(contours: usize, pairs: &[u32]) -> Order
         return sorted(contours, pairs);
     };
     Order {
-        check: Check::Refused(Refusal {
-            number: 12,
-            place: k,
-        }),
+        check: answer::refused(12, k),
         positions: [0u32; CONTOURS],
         count: 0,
     }

@@ -11,7 +11,7 @@ use Rattle.answer.specs.Stage.{firstRefusal}
 use Rattle.answer.specs.Lowest.{refuseIf}
 use Rattle.fields.specs.Layout.{contoursOf}
 use Rattle.card.specs.Verdict.{checkOf}
-use Rattle.solve.specs.Solve.{placed}
+use Rattle.answer.specs.Room.{placed}
 use Rattle.questions.specs.declared.Located.{Located}
 use Rattle.questions.specs.declared.Located.the-variants as located
 use Rattle.tour.specs.Search.{tourOn, outcomeOn}

@@ -14,7 +14,7 @@ use Rattle.card.specs.Verdict.{checkOf}
 use Rattle.card_laws.proofs.Facts.{accepted}
 use Rattle.instance.specs.Gather.{verticesOf, outlineOf, wayOf, offersOf, gathered, owners, firsts, heldOf}
 use Rattle.instance.specs.Room.{heldAt, instanceOf}
-use Rattle.instance.proofs.RoomLaws.{padded-front}
+use Rattle.answer.proofs.RoomLaws.{padded-front}
 use Rattle.instance.proofs.GatherLaws.{all-held, gathered-within, owners-length, firsts-length, vertices-length}
 
 module _ (s : List ℕ) (fine : checkOf s ≡ Fine) where

@@ -28,8 +28,10 @@ use Rattle.candidates.specs.Direction.{directionOf}
 use Rattle.points.specs.Points.{points}
 use Rattle.points.specs.Numbers.{zero64}
 use Rattle.instance.specs.Gather.{verticesOf, outlineOf, wayOf, offersOf, gathered, owners, firsts, roomFor, heldOf}
-use Rattle.instance.specs.Room.{padded, flat, outlined, heldAt, joined, Roomy, instanceOf}
-use Rattle.instance.proofs.RoomLaws.{padded-length, padded-front, padded-paste, padded-one, padded-two, points-flat, flat-length, flat-more}
+use Rattle.answer.specs.Room.{padded}
+use Rattle.answer.proofs.RoomLaws.{padded-length, padded-front, padded-paste, padded-one, padded-two}
+use Rattle.instance.specs.Room.{flat, outlined, heldAt, joined, Roomy, instanceOf}
+use Rattle.instance.proofs.RoomLaws.{points-flat, flat-length, flat-more}
 
 -- ---- how many contours
 

@@ -16,11 +16,11 @@ use Rattle.closure.specs.Limits.{CONTOURS, PAIRS}
 use Rattle.fields.specs.Limits.{candidateLimit}
 use Rattle.fields.specs.Layout.{contoursOf, pairsOf}
 use Rattle.card.specs.declared.Named.{Named}
-use Rattle.card.specs.Names.{namedPairs, namedOf}
+use Rattle.card.specs.Names.{namedPairs, namedOf, pairsOn}
 use Rattle.card.specs.Stages.{nameFault}
 use Rattle.answer.specs.Lowest.{refuseAt}
 use Rattle.answer.proofs.StageLaws.{is-fine}
-use Rattle.card.proofs.GroupLaws.{named-stage, named-seats}
+use Rattle.card.proofs.GroupLaws.{named-stage, named-seats, named-whole, named-within}
 use Rattle.card.proofs.NameLaws.{seats-length}
 use Rattle.card.specs.Verdict.{stagesOf, checkOf}
 use Rattle.card_laws.proofs.Facts.{accepted}
@@ -29,7 +29,7 @@ use Rattle.table.proofs.DistanceLaws.{homes-length, distances-length}
 use Rattle.instance.specs.declared.Instance.{Instance}
 use Rattle.instance.specs.declared.Prepared.{Prepared}
 use Rattle.instance.specs.Room.{instanceOf}
-use Rattle.instance.specs.Search.{homeOn, candidatesOn, countOn, ownersOn, firstsOn, pairsOn, sheetOn}
+use Rattle.instance.specs.Search.{homeOn, candidatesOn, countOn, ownersOn, firstsOn, sheetOn}
 use Rattle.instance.specs.Prepared.{noDistances, preparedOf, Front, HeldOn, PreparedOn, sheetIn}
 use Rattle.instance.proofs.GatherLaws.{owners-length, firsts-length}
 use Rattle.instance.proofs.FineLaws.{few-candidates, count-is, contours-is, items-lent, owner-lent, first-lent}
@@ -97,26 +97,26 @@ module _ (items : List Candidate) (t : ℕ) (few : t ≤ candidateLimit) (w : t 
 
 -- ---- all that is prepared
 
-pub prepared-is : (s : List ℕ) {all : Instance} {home : Point} {homes : List Float} {named : Named} {m few : ℕ}
-    → all ≡ instanceOf s → home ≡ homeOn s → homes ≡ homed (all .items) (all .count) home noDistances
-    → named ≡ namedOf s → m ≡ pairsOf s → few ≡ min m PAIRS
-    → record { all = all; homes = homes; pairs = named .places; seats = 2 * few } ≡ preparedOf s
+pub prepared-is : (s : List ℕ) {all : Instance} {home : Point} {homes : List Float} {named : Named}
+    → all ≡ instanceOf s → home ≡ homeOn s → homes ≡ homed (all .items) (all .count) home noDistances → named ≡ namedOf s
+    → record { all = all; homes = homes; pairs = named .places; seats = named .count } ≡ preparedOf s
 unfolding preparedOf
-prepared-is s a h d n m f = rw (f, m, n, d, h, a)
+prepared-is s a h d n = rw (n, d, h, a)
 
 -- the pairs' positions stand at the front of theirs
-pairs-on : (s : List ℕ) → checkOf s ≡ Fine → Front (2 * min (pairsOf s) PAIRS) (namedOf s .places) (pairsOn s)
+pairs-on : (s : List ℕ) → checkOf s ≡ Fine → Front (namedOf s .count) (namedOf s .places) (pairsOn s)
 unfolding namedOf checkOf
 pairs-on s fine =
     let a = accepted s fine in
-    let f = a .few-pairs in
-    let m : min (pairsOf s) PAIRS ≡ pairsOf s = omega arith in
     let n : namedOf s ≡ namedPairs s =
     rw (le-ltb CONTOURS (contoursOf s) (a .few-contours), le-ltb PAIRS (pairsOf s) (a .few-pairs)) in
     let ten : refuseAt 10 (nameFault s) ≡ Fine = is-fine (stagesOf s) fine 10 (lit< tt) in
-    rw m
-    (front-is (2 * pairsOf s) (namedOf s .places) (pairsOn s)
-    (named-seats s (namedOf s) n (pairsOf s) (named-stage s (namedOf s) n ∙ ten) refl) (seats-length s (pairsOf s)))
+    let known = named-stage s (namedOf s) n ∙ ten in
+    record {
+      front = named-seats s (namedOf s) n known;
+      whole = named-whole s (namedOf s) n known;
+      within = named-within s (namedOf s) n known;
+    }
 
 -- each part of what is prepared of an accepted card
 pub prepared-on : (s : List ℕ) → checkOf s ≡ Fine → (p : Prepared) → p ≡ preparedOf s → PreparedOn s p

@@ -8,14 +8,14 @@ use Rattle.points.specs.Numbers.{zero64}
 use Rattle.closure.specs.Limits.{CONTOURS, PAIRS}
 use Rattle.fields.specs.Limits.{candidateLimit}
 use Rattle.fields.specs.Layout.{contoursOf, pairsOf}
-use Rattle.card.specs.Names.{namedOf}
+use Rattle.card.specs.Names.{namedOf, pairsOn}
 use Rattle.table.specs.Distances.{entryLimit, homed, distancesOf}
 use Rattle.improve.specs.Search.{Sheet}
 use Rattle.improve.specs.Code.{sheetOf}
 use Rattle.instance.specs.declared.Instance.{Instance}
 use Rattle.instance.specs.declared.Prepared.{Prepared}
 use Rattle.instance.specs.Room.{instanceOf}
-use Rattle.instance.specs.Search.{homeOn, candidatesOn, countOn, ownersOn, firstsOn, pairsOn, homesOn}
+use Rattle.instance.specs.Search.{homeOn, candidatesOn, countOn, ownersOn, firstsOn, homesOn}
 
 -- a room for the distances from home
 abbrev pub noDistances : List Float
@@ -28,7 +28,7 @@ preparedOf s = record {
   all = instanceOf s;
   homes = homed (instanceOf s .items) (instanceOf s .count) (homeOn s) noDistances;
   pairs = namedOf s .places;
-  seats = 2 * min (pairsOf s) PAIRS;
+  seats = namedOf s .count;
 }
 
 -- a list is the front of a room, as long as n

@@ -1,11 +1,12 @@
 -- The candidates as the code holds them: lists in rooms of fixed size, what is not used blank. Assumes nothing.
 use mathlib.Core.Path.{_≡_}
-use mathlib.Core.List.{List, [], _∷_, _++_}
-use Prim.Native.Nat.{ℕ, _+_, _*_, _-_, _<_, _≤_}
+use mathlib.Core.List.{List, [], _∷_}
+use Prim.Native.Nat.{ℕ, _+_, _*_, _<_, _≤_}
 use lib.ListN.{length, replicate, set}
 use lib.Seq.{paste}
 use lib.Ieee.{Float}
 use Rattle.answer.specs.declared.Point.{Point}
+use Rattle.answer.specs.Room.{padded}
 use Rattle.candidates.specs.declared.Candidates.{Candidates}
 use Rattle.points.specs.Numbers.{zero64}
 use Rattle.candidates.specs.Generate.{blank}
@@ -14,10 +15,6 @@ use Rattle.fields.specs.Limits.{candidateLimit, vertexLimit, perContourLimit}
 use Rattle.instance.specs.declared.Instance.{Instance}
 use Rattle.instance.specs.declared.Outline.{Outline}
 use Rattle.instance.specs.Gather.{gathered, owners, firsts, heldOf}
-
--- a list in a room for so many
-abbrev pub padded : {A : Type 0} → ℕ → A → List A → List A
-padded size spare l = l ++ replicate (size - length l) spare
 
 -- points as numbers, two each
 unfoldable pub flat : List Point → List Float

@@ -5,9 +5,9 @@ use lib.ListN.{length}
 use lib.Ieee.{Float}
 use Rattle.answer.specs.declared.Point.{Point}
 use Rattle.candidates.specs.declared.Candidate.{Candidate}
-use Rattle.fields.specs.Layout.{contoursOf, pairsOf, homePlace}
+use Rattle.fields.specs.Layout.{contoursOf, homePlace}
 use Rattle.fields.specs.Values.{pointAt}
-use Rattle.card.specs.Names.{seatsOf}
+use Rattle.card.specs.Names.{pairsOn}
 use Rattle.table.specs.Distances.{distancesOf, homesOf}
 use Rattle.improve.specs.Search.{Sheet}
 use Rattle.improve.specs.Code.{sheetOf}
@@ -30,10 +30,6 @@ ownersOn s = owners s (contoursOf s)
 
 abbrev pub firstsOn : List ℕ → List ℕ
 firstsOn s = firsts s (contoursOf s)
-
--- which contours come before which, as positions
-abbrev pub pairsOn : List ℕ → List ℕ
-pairsOn s = seatsOf s (pairsOf s)
 
 -- the distances from home, and those between candidates, row by row
 abbrev pub homesOn : List ℕ → List Float

@@ -197,7 +197,7 @@ pub fn prepare(card: &[u8]) -> Prepared
     let homes = homes_of(all, fields::home(card));
     let named = card::pair_places(card);
     let pairs = named.places;
-    let seats = 2 * most(fields::pairs(card), PAIRS);
+    let seats = named.count;
     Prepared {
         all,
         homes,

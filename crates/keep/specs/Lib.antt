@@ -1,2 +1,3 @@
 pub mod Keep
 pub mod Code
+pub mod Legal

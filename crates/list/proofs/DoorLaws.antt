@@ -20,7 +20,7 @@ use Rattle.card_laws.proofs.Facts.{accepted}
 use Rattle.table.specs.Distances.{entryLimit}
 use Rattle.instance.proofs.FineLaws.{few-candidates}
 use Rattle.solve.specs.declared.Outcome.{Outcome}
-use Rattle.solve.specs.Solve.{placed}
+use Rattle.answer.specs.Room.{placed}
 use Rattle.tour.specs.declared.Toured.{Toured}
 use Rattle.tour.specs.declared.Toured.the-variants as answer
 use Rattle.instance.specs.Search.{countOn}

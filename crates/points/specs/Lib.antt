@@ -3,3 +3,4 @@ pub mod Points
 pub mod Bad
 pub mod Distance
 pub mod Along
+pub mod Square

@@ -25,8 +25,8 @@ use Rattle.cost.specs.declared.Measured.the-variants.{Is as LengthIs, Refused a
 use Rattle.cost.specs.declared.Nearest.{Nearest}
 use Rattle.cost.specs.declared.Closest.{Closest}
 use Rattle.cost.specs.declared.Closest.the-variants.{At, Nowhere, Refused as ClosestRefused}
-use Rattle.hierarchy.specs.declared.Count.{Count}
-use Rattle.hierarchy.specs.declared.Count.the-variants.{Is as CountIs, Refused as CountRefused}
+use Rattle.answer.specs.declared.Count.{Count}
+use Rattle.answer.specs.declared.Count.the-variants.{Is as CountIs, Refused as CountRefused}
 use Rattle.hierarchy.specs.declared.Verdict.{Verdict}
 use Rattle.hierarchy.specs.declared.Verdict.the-variants.{Is as VerdictIs, Refused as VerdictRefused}
 

@@ -25,6 +25,7 @@ ghost use Rattle.improve.specs.Search.{searched};
 ghost use Rattle.improve.specs.Code.{Reached, sheetOf};
 use answer::Check;
 use answer::ContourType;
+use answer::Count;
 use answer::CutDirection;
 use answer::CutDirectionPreference;
 use answer::Point;
@@ -35,7 +36,6 @@ use closure::CONTOURS;
 use closure::PAIRS;
 use cost::Closest;
 use cost::Measured;
-use hierarchy::Count;
 use hierarchy::Verdict;
 use root::Rooted;
 

@@ -15,8 +15,9 @@ use Rattle.answer.specs.Stage.{firstRefusal}
 use Rattle.answer.specs.Lowest.{refuseIf}
 use Rattle.candidates.specs.declared.Candidate.{Candidate}
 use Rattle.candidates.specs.Generate.{blank}
-use Rattle.hierarchy.specs.declared.Count.{Count}
-use Rattle.hierarchy.specs.declared.Count.the-variants as count
+use Rattle.answer.specs.declared.Count.{Count}
+use Rattle.answer.specs.declared.Count.the-variants as count
+use Rattle.answer.specs.Count.{countUnless}
 use Rattle.fields.specs.Layout.{contoursOf}
 use Rattle.card.specs.Verdict.{checkOf}
 use Rattle.card.proofs.GroupLaws.{last-stage}
@@ -24,7 +25,7 @@ use Rattle.instance.specs.declared.Instance.{Instance}
 use Rattle.instance.specs.Room.{heldAt, instanceOf}
 use Rattle.instance.specs.Search.{candidatesOn, countOn, firstsOn}
 use Rattle.instance.specs.Prepared.{HeldOn}
-use Rattle.instance.proofs.RoomLaws.{padded-at}
+use Rattle.answer.proofs.RoomLaws.{padded-at}
 use Rattle.instance.proofs.FineLaws.{instance-is}
 use Rattle.instance.proofs.OwnerLaws.{gathered-grows, first-at}
 use Rattle.questions.specs.declared.Place.{Place}
@@ -32,7 +33,7 @@ use Rattle.questions.specs.declared.Located.{Located}
 use Rattle.questions.specs.declared.Located.the-variants as located
 use Rattle.questions.specs.declared.Picked.{Picked}
 use Rattle.questions.specs.declared.Picked.the-variants as picked
-use Rattle.questions.specs.Index.{numberCheck, pickedUnless, pickedOf, placeIn, placeOn, locatedUnless, locatedOf, localCheck, countUnless, globalOf}
+use Rattle.questions.specs.Index.{numberCheck, pickedUnless, pickedOf, placeIn, placeOn, locatedUnless, locatedOf, localCheck, globalOf}
 
 -- an element of a list is the same whatever stands past the end
 any-default : {A : Type 0} (l : List A) (a : ℕ) (d e : A) → a < length l → getD l a d ≡ getD l a e

@@ -14,8 +14,8 @@ use Rattle.card.specs.Verdict.{checkOf}
 use Rattle.table.specs.Distances.{distancesOf}
 use Rattle.start.specs.Nearest.{nearest}
 use Rattle.start.specs.Code.{groundOf, Written}
-use Rattle.solve.specs.Solve.{placed}
-use Rattle.solve.proofs.RoomLaws.{room-back}
+use Rattle.answer.specs.Room.{placed}
+use Rattle.answer.proofs.RoomLaws.{room-back}
 use Rattle.instance.specs.declared.Prepared.{Prepared}
 use Rattle.instance.specs.Search.{sheetOn}
 use Rattle.instance.specs.Prepared.{PreparedOn, sheetIn}

@@ -9,8 +9,8 @@ use Rattle.answer.specs.Stage.{firstRefusal}
 use Rattle.answer.specs.Lowest.{refuseIf}
 use Rattle.candidates.specs.declared.Candidate.{Candidate}
 use Rattle.candidates.specs.Generate.{blank}
-use Rattle.hierarchy.specs.declared.Count.{Count}
-use Rattle.hierarchy.specs.declared.Count.the-variants as count
+use Rattle.answer.specs.declared.Count.{Count}
+use Rattle.answer.specs.Count.{countUnless}
 use Rattle.fields.specs.Layout.{contoursOf}
 use Rattle.card.specs.Verdict.{checkOf}
 use Rattle.instance.specs.declared.Instance.{Instance}
@@ -59,10 +59,6 @@ sizeOn s k = getD (firstsOn s) (k + 1) 0 - getD (firstsOn s) k 0
 unfoldable pub localCheck : List ℕ → ℕ → ℕ → Check
 unfolding firstRefusal
 localCheck s k j = firstRefusal (refuseIf (leb (contoursOf s) k) 15 k ∷ refuseIf (leb (sizeOn s k) j) 15 j ∷ [])
-
-abbrev pub countUnless : Check → ℕ → Count
-countUnless Fine n = count.Is n
-countUnless (Refused r) n = count.Refused r
 
 -- `local_to_global`: the number over the whole card of candidate j of contour k
 unfoldable pub globalOf : List ℕ → ℕ → ℕ → Count

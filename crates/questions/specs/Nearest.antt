@@ -9,7 +9,7 @@ use Rattle.fields.specs.Layout.{contoursOf}
 use Rattle.card.specs.Verdict.{checkOf}
 use Rattle.start.specs.Nearest.{nearest}
 use Rattle.start.specs.Code.{groundOf}
-use Rattle.solve.specs.Solve.{placed}
+use Rattle.answer.specs.Room.{placed}
 use Rattle.improve.specs.Search.{Sheet}
 use Rattle.instance.specs.Search.{sheetOn}
 use Rattle.questions.specs.declared.Stops.{Stops}

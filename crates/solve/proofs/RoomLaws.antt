@@ -1,15 +1,15 @@
 -- The tour's room through the search: the start writes its front, the improvement changes that part, and the rest is kept. Assumes nothing.
 use mathlib.Core.Path.{_≡_, sym, ap, _∙_}
-use mathlib.Core.List.{List, _++_, append-assoc}
+use mathlib.Core.List.{List, _++_}
 use Prim.Native.Nat.{ℕ, _+_, _≤_}
 use native.Mathlib.Omega.{arith}
-use lib.ListN.{length, take, drop, length-append, take-append-drop}
-use lib.Seq.{take-at, drop-at, drop-append-le}
+use lib.ListN.{length, take, drop, length-append}
+use lib.Seq.{take-at, drop-at}
 use lib.Ieee.{Float}
 use Rattle.start.specs.Code.{Written}
 use Rattle.improve.specs.Search.{Sheet, lengthIn, searched}
 use Rattle.improve.specs.Code.{Reached}
-use Rattle.solve.specs.Solve.{startIn, endIn, placed, Solved}
+use Rattle.solve.specs.Solve.{startIn, endIn, Solved}
 
 -- ---- after the start
 
@@ -58,18 +58,3 @@ module _ (sheet : Sheet) (n most limit : ℕ) (room after : List ℕ) (made : �
         held = ap (λ (l : List ℕ). l ++ drop made after) held
             ∙ ap (λ (l : List ℕ). endIn sheet n most limit .tour ++ l) (back (startIn sheet n) room after made w ∙ ap (λ (i : ℕ). drop i room) size);
       }
-
--- ---- a part of a room that was lent
-
--- what was written into the first n entries stands at the front of the whole room
-pub room-back : (tour room after : List ℕ) (n : ℕ) → after ≡ placed tour (take n room) → length after ≡ length (take n room)
-    → after ++ drop n room ≡ placed tour room
-room-back tour room after n e k =
-    let front = take n room in
-    let l : length after ≡ length tour + length (drop (length tour) front) =
-    ap length e ∙ length-append tour (drop (length tour) front) in
-    let inside : length tour ≤ length front = omega arith in
-    ap (λ (x : List ℕ). x ++ drop n room) e
-    ∙ append-assoc tour (drop (length tour) front) (drop n room)
-    ∙ ap (λ (x : List ℕ). tour ++ x)
-    (sym (drop-append-le (length tour) front (drop n room) inside) ∙ ap (drop (length tour)) (take-append-drop n room))

@@ -1,8 +1,8 @@
 -- The whole search on what is read: the start that respects the pairs, then its improvement. Assumes nothing.
 use mathlib.Core.Path.{_≡_}
-use mathlib.Core.List.{List, _++_}
+use mathlib.Core.List.{List}
 use Prim.Native.Nat.{ℕ}
-use lib.ListN.{length, drop}
+use Rattle.answer.specs.Room.{placed}
 use Rattle.start.specs.Nearest.{Ground, nearest}
 use Rattle.improve.specs.Search.{Sheet, State, lengthIn, searched}
 use Rattle.solve.specs.declared.Outcome.{Outcome}
@@ -22,10 +22,6 @@ endIn sheet n most limit = searched sheet most limit (startIn sheet n)
 -- what is told of it: the trials, and the length evaluated from the tour held
 abbrev pub outcomeIn : Sheet → State → Outcome
 outcomeIn sheet s = record { moves = s .moves; length = lengthIn sheet (s .tour) }
-
--- a tour at the front of a room, whose rest is kept
-abbrev pub placed : List ℕ → List ℕ → List ℕ
-placed tour room = tour ++ drop (length tour) room
 
 -- a search that ended in s told this outcome and left this room
 pub record Solved (sheet : Sheet) (s : State) (room : List ℕ) (r : Outcome) (after : List ℕ) : Type 0 where

@@ -12,14 +12,13 @@ use lib.Ieee.{lt}
 use lib.ListN.{length, getD, set, replicate, length-append, length-map, length-set, length-replicate, List·getD-append}
 use lib.Seq.{getD-at, getD-set-same, getD-set-other, ext-getD}
 use Rattle.closure.proofs.PairLaws.{same-or}
-use Rattle.closure.proofs.PathLaws.{and-first}
+use Rattle.closure.proofs.PathLaws.{and-first, every-at, pair-linked}
 use Rattle.closure.specs.Cycle.{linked, Acyclic}
 use Rattle.closure.specs.Limits.{CONTOURS}
-use Rattle.closure.specs.Pairs.{paired, every}
-use Rattle.hierarchy.proofs.OrderLaws.{every-at, pair-linked, ReadyNext, one-ready, legal-keeps}
+use Rattle.closure.specs.Pairs.{paired, every, both}
+use Rattle.keep.proofs.OrderLaws.{ReadyNext, one-ready, legal-keeps}
 use Rattle.keep.specs.Keep.{readyIn, readyBy, keepsPairs}
-use Rattle.hierarchy.specs.Sort.{both}
-use Rattle.hierarchy.specs.Legal.{Legal}
+use Rattle.keep.specs.Legal.{Legal}
 use Rattle.table.specs.Each.{each}
 use Rattle.table.specs.Evaluate.{homeAt, distanceAt}
 use Rattle.points.specs.Numbers.{huge}

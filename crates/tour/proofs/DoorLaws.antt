@@ -15,7 +15,7 @@ use Rattle.card.specs.Verdict.{checkOf}
 use Rattle.card.proofs.GroupLaws.{last-stage}
 use Rattle.solve.specs.declared.Outcome.{Outcome}
 use Rattle.solve.specs.Solve.{Solved}
-use Rattle.solve.proofs.RoomLaws.{room-back}
+use Rattle.answer.proofs.RoomLaws.{room-back}
 use Rattle.tour.specs.declared.Toured.the-variants as answer
 use Rattle.instance.specs.Search.{countOn, tableOn, sheetOn}
 use Rattle.tour.specs.Search.{endOn, tourOn}

@@ -10,7 +10,7 @@ use Rattle.answer.specs.Stage.{firstRefusal}
 use Rattle.answer.specs.Lowest.{refuseIf}
 use Rattle.fields.specs.Layout.{contoursOf}
 use Rattle.card.specs.Verdict.{checkOf}
-use Rattle.solve.specs.Solve.{placed}
+use Rattle.answer.specs.Room.{placed}
 use Rattle.tour.specs.declared.Toured.{Toured}
 use Rattle.tour.specs.declared.Toured.the-variants as answer
 use Rattle.instance.specs.Search.{countOn, tableOn}

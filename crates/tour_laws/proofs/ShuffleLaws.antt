@@ -9,7 +9,7 @@ use lib.Dec.{eqb}
 use borrow.Author.Tests.{eq-eqb, ne-eqb}
 use lib.ListN.{length, getD}
 use Rattle.closure.proofs.PairLaws.{same-or, lt-or}
-use Rattle.hierarchy.specs.Legal.{EachOnce}
+use Rattle.keep.specs.Legal.{EachOnce}
 use Rattle.improve.proofs.TourLaws.{times, Shuffled}
 
 -- what stands in a list is counted

@@ -9,8 +9,8 @@ use lib.Dec.{lit≤}
 use lib.ListN.{length, getD, length-map, length-append}
 use Rattle.answer.specs.declared.Check.the-variants.{Fine}
 use Rattle.points.proofs.SizeLaws.{Near, near-more, good-near, distance-below}
-use Rattle.hierarchy.specs.Legal.{EachOnce, Legal}
-use Rattle.hierarchy.proofs.OrderLaws.{keeps-legal, legal-keeps}
+use Rattle.keep.specs.Legal.{EachOnce, Legal}
+use Rattle.keep.proofs.OrderLaws.{keeps-legal, legal-keeps}
 use Rattle.fields.specs.Layout.{contoursOf, passesOf, moveLimitOf}
 use Rattle.card.specs.Verdict.{checkOf}
 use Rattle.card_laws.specs.Orders.{LegalOrder}
@@ -27,7 +27,8 @@ use Rattle.instance.specs.Gather.{gathered, offersOf}
 use Rattle.instance.proofs.FineLaws.{some-offers}
 use Rattle.instance.proofs.OwnerLaws.{first-at, grouped}
 use Rattle.solve.specs.Solve.{groundIn}
-use Rattle.instance.specs.Search.{homeOn, candidatesOn, countOn, ownersOn, firstsOn, pairsOn, sheetOn}
+use Rattle.card.specs.Names.{pairsOn}
+use Rattle.instance.specs.Search.{homeOn, candidatesOn, countOn, ownersOn, firstsOn, sheetOn}
 use Rattle.tour.specs.Search.{startOn, endOn, tourOn}
 use Rattle.tour_laws.specs.Visits.{AllBelow, Visits}
 use Rattle.tour_laws.proofs.BelowLaws.{below-at, below-kept, start-below}

@@ -3,7 +3,7 @@ use mathlib.Core.Path.{_≡_}
 use mathlib.Core.List.{List, [], _∷_}
 use Prim.Native.Nat.{ℕ, _<_}
 use lib.ListN.{length}
-use Rattle.hierarchy.specs.Legal.{EachOnce}
+use Rattle.keep.specs.Legal.{EachOnce}
 use Rattle.fields.specs.Layout.{contoursOf}
 use Rattle.improve.specs.Search.{contours}
 use Rattle.instance.specs.Search.{countOn, ownersOn}

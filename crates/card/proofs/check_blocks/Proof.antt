@@ -7,8 +7,8 @@ use Rattle.card.proofs.check_blocks.Tie as tie
 count-fault-requires : tie.Need-count-fault-requires
 count-fault-requires c κs = search needs
 
-refused-requires : tie.Need-refused-requires
-refused-requires c κs = search needs
+refused-at-requires : tie.Need-refused-at-requires
+refused-at-requires c κs = search needs
 
 enum-told : tie.Need-enum-told
 enum-told c = search needs
@@ -18,13 +18,13 @@ enum-told-2 c = search needs
 
 returns : tie.Need-returns
 returns c = let r1 = c .before .before in
-    stops-at 5 (r1 .refused .ensures) (r1 .before .count-fault .ensures) _ (c .enum-told2 .given .1)
+    stops-at 5 (r1 .refused-at .ensures) (r1 .before .count-fault .ensures) _ (c .enum-told2 .given .1)
 
 start-fault-requires : tie.Need-start-fault-requires
 start-fault-requires c κs = search needs
 
-refused-requires-2 : tie.Need-refused-requires-2
-refused-requires-2 c κs = search needs
+refused-at-requires-2 : tie.Need-refused-at-requires-2
+refused-at-requires-2 c κs = search needs
 
 enum-told-3 : tie.Need-enum-told-3
 enum-told-3 c = search needs
@@ -36,14 +36,14 @@ returns-2 : tie.Need-returns-2
 returns-2 c = let r2 = c .before .before in
     let t1 = r2 .before .before in
     let r1 = t1 .before .before in
-    goes-past 5 (r1 .refused .ensures) (r1 .before .count-fault .ensures) _ (t1 .enum-told .given .1)
-    (stops-at 3 (r2 .refused2 .ensures) (r2 .before .start-fault .ensures) _ (c .enum-told4 .given .1))
+    goes-past 5 (r1 .refused-at .ensures) (r1 .before .count-fault .ensures) _ (t1 .enum-told .given .1)
+    (stops-at 3 (r2 .refused-at2 .ensures) (r2 .before .start-fault .ensures) _ (c .enum-told4 .given .1))
 
 contour-fault-requires : tie.Need-contour-fault-requires
 contour-fault-requires c κs = search needs
 
-refused-requires-3 : tie.Need-refused-requires-3
-refused-requires-3 c κs = search needs
+refused-at-requires-3 : tie.Need-refused-at-requires-3
+refused-at-requires-3 c κs = search needs
 
 enum-told-5 : tie.Need-enum-told-5
 enum-told-5 c = search needs
@@ -57,15 +57,15 @@ returns-3 c = let r3 = c .before .before in
     let r2 = t2 .before .before in
     let t1 = r2 .before .before in
     let r1 = t1 .before .before in
-    goes-past 5 (r1 .refused .ensures) (r1 .before .count-fault .ensures) _ (t1 .enum-told .given .1)
-    (goes-past 3 (r2 .refused2 .ensures) (r2 .before .start-fault .ensures) _ (t2 .enum-told3 .given .1)
-    (stops-at 6 (r3 .refused3 .ensures) (r3 .before .contour-fault .ensures) _ (c .enum-told6 .given .1)))
+    goes-past 5 (r1 .refused-at .ensures) (r1 .before .count-fault .ensures) _ (t1 .enum-told .given .1)
+    (goes-past 3 (r2 .refused-at2 .ensures) (r2 .before .start-fault .ensures) _ (t2 .enum-told3 .given .1)
+    (stops-at 6 (r3 .refused-at3 .ensures) (r3 .before .contour-fault .ensures) _ (c .enum-told6 .given .1)))
 
 spare-fault-requires : tie.Need-spare-fault-requires
 spare-fault-requires c κs = search needs
 
-refused-requires-4 : tie.Need-refused-requires-4
-refused-requires-4 c κs = search needs
+refused-at-requires-4 : tie.Need-refused-at-requires-4
+refused-at-requires-4 c κs = search needs
 
 returns-4 : tie.Need-returns-4
 returns-4 c = let r4 = c in
@@ -75,30 +75,30 @@ returns-4 c = let r4 = c in
     let r2 = t2 .before .before in
     let t1 = r2 .before .before in
     let r1 = t1 .before .before in
-    goes-past 5 (r1 .refused .ensures) (r1 .before .count-fault .ensures) _ (t1 .enum-told .given .1)
-    (goes-past 3 (r2 .refused2 .ensures) (r2 .before .start-fault .ensures) _ (t2 .enum-told3 .given .1)
-    (goes-past 6 (r3 .refused3 .ensures) (r3 .before .contour-fault .ensures) _ (t3 .enum-told5 .given .1)
-    (ends-with 7 (r4 .refused4 .ensures) (r4 .before .spare-fault .ensures))))
+    goes-past 5 (r1 .refused-at .ensures) (r1 .before .count-fault .ensures) _ (t1 .enum-told .given .1)
+    (goes-past 3 (r2 .refused-at2 .ensures) (r2 .before .start-fault .ensures) _ (t2 .enum-told3 .given .1)
+    (goes-past 6 (r3 .refused-at3 .ensures) (r3 .before .contour-fault .ensures) _ (t3 .enum-told5 .given .1)
+    (ends-with 7 (r4 .refused-at4 .ensures) (r4 .before .spare-fault .ensures))))
 
 pub check-blocks-spec : {M : Type 1} → statement M
 check-blocks-spec =
     tie.close
     (tie.spec
     count-fault-requires
-    refused-requires
+    refused-at-requires
     enum-told
     enum-told-2
     returns
     start-fault-requires
-    refused-requires-2
+    refused-at-requires-2
     enum-told-3
     enum-told-4
     returns-2
     contour-fault-requires
-    refused-requires-3
+    refused-at-requires-3
     enum-told-5
     enum-told-6
     returns-3
     spare-fault-requires
-    refused-requires-4
+    refused-at-requires-4
     returns-4)

@@ -7,8 +7,8 @@ use Rattle.card.proofs.check_contours.Tie as tie
 far-fault-requires : tie.Need-far-fault-requires
 far-fault-requires c κs = search needs
 
-refused-requires : tie.Need-refused-requires
-refused-requires c κs = search needs
+refused-at-requires : tie.Need-refused-at-requires
+refused-at-requires c κs = search needs
 
 enum-told : tie.Need-enum-told
 enum-told c = search needs
@@ -18,30 +18,30 @@ enum-told-2 c = search needs
 
 returns : tie.Need-returns
 returns c = let r1 = c .before .before in
-    stops-at 8 (r1 .refused .ensures) (r1 .before .far-fault .ensures) _ (c .enum-told2 .given .1)
+    stops-at 8 (r1 .refused-at .ensures) (r1 .before .far-fault .ensures) _ (c .enum-told2 .given .1)
 
 repeat-fault-requires : tie.Need-repeat-fault-requires
 repeat-fault-requires c κs = search needs
 
-refused-requires-2 : tie.Need-refused-requires-2
-refused-requires-2 c κs = search needs
+refused-at-requires-2 : tie.Need-refused-at-requires-2
+refused-at-requires-2 c κs = search needs
 
 returns-2 : tie.Need-returns-2
 returns-2 c = let r2 = c in
     let t1 = r2 .before .before in
     let r1 = t1 .before .before in
-    goes-past 8 (r1 .refused .ensures) (r1 .before .far-fault .ensures) _ (t1 .enum-told .given .1)
-    (ends-with 9 (r2 .refused2 .ensures) (r2 .before .repeat-fault .ensures))
+    goes-past 8 (r1 .refused-at .ensures) (r1 .before .far-fault .ensures) _ (t1 .enum-told .given .1)
+    (ends-with 9 (r2 .refused-at2 .ensures) (r2 .before .repeat-fault .ensures))
 
 pub check-contours-spec : {M : Type 1} → statement M
 check-contours-spec =
     tie.close
     (tie.spec
     far-fault-requires
-    refused-requires
+    refused-at-requires
     enum-told
     enum-told-2
     returns
     repeat-fault-requires
-    refused-requires-2
+    refused-at-requires-2
     returns-2)

@@ -1,7 +1,7 @@
 -- `card::check_pairs` meets its contract. Assumes nothing.
 use denote.Ref.{now}
 use borrow.Author.Needs.{needs}
-use Rattle.card.proofs.GroupLaws.{stopped, passed, named-stage, named-seats, seats-length-is, seats-within}
+use Rattle.card.proofs.GroupLaws.{stopped, passed, named-stage, named-seats, named-whole, named-within}
 use Rattle.card.proofs.check_pairs.Statement.{statement}
 use Rattle.card.proofs.check_pairs.Tie as tie
 
@@ -18,37 +18,26 @@ returns : tie.Need-returns
 returns c = let n = c .before .before in
     stopped _ _ _ (named-stage (now (n .before .before .args .card)) _ (n .named-pairs .ensures)) _ (c .enum-told2 .given .1)
 
-pairs-requires : tie.Need-pairs-requires
-pairs-requires c κs = search needs
-
-mul-end : tie.Need-mul-end
-mul-end c = search needs
-
 array-share-prefix-places : tie.Need-array-share-prefix-places
-array-share-prefix-places c = let t = c .before .before in
+array-share-prefix-places c = let t = c .before in
     let n = t .before .before in
-    let s = now (n .before .before .args .card) in
-    let m = c .pairs .ensures in
-    seats-within s _ _ (named-seats s _ (n .named-pairs .ensures) _ (t .enum-told .given .1) m) m
+    named-within (now (n .before .before .args .card)) _ (n .named-pairs .ensures) (t .enum-told .given .1)
 
 slice-aggregate-check-seats : tie.Need-slice-aggregate-check-seats
-slice-aggregate-check-seats c = let p = c .before in
-    let t = p .before .before in
+slice-aggregate-check-seats c = let t = c .before .before in
     let n = t .before .before in
-    let s = now (n .before .before .args .card) in
-    let m = p .pairs .ensures in
-    seats-length-is s _ _ (named-seats s _ (n .named-pairs .ensures) _ (t .enum-told .given .1) m) m
+    named-whole (now (n .before .before .args .card)) _ (n .named-pairs .ensures) (t .enum-told .given .1)
 
 check-seats-requires : tie.Need-check-seats-requires
-check-seats-requires c κs = let p = c .before in
-    let t = p .before .before in
+check-seats-requires c κs = let t = c .before .before in
     let n = t .before .before in
-    named-seats (now (n .before .before .args .card)) _ (n .named-pairs .ensures) _ (t .enum-told .given .1) (p .pairs .ensures)
+    named-seats (now (n .before .before .args .card)) _ (n .named-pairs .ensures) (t .enum-told .given .1)
 
 returns-2 : tie.Need-returns-2
-returns-2 c = let t = c .before .before .before .before in
+returns-2 c = let t = c .before .before .before in
     let n = t .before .before in
-    passed _ _ _ (named-stage (now (n .before .before .args .card)) _ (n .named-pairs .ensures)) _ (t .enum-told .given .1) (c .check-seats .ensures)
+    passed _ _ _ (named-stage (now (n .before .before .args .card)) _ (n .named-pairs .ensures)) _ (t .enum-told .given .1)
+    (c .check-seats .ensures)
 
 pub check-pairs-spec : {M : Type 1} → statement M
 check-pairs-spec =
@@ -58,8 +47,6 @@ check-pairs-spec =
     enum-told
     enum-told-2
     returns
-    pairs-requires
-    mul-end
     array-share-prefix-places
     slice-aggregate-check-seats
     check-seats-requires

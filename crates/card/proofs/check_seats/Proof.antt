@@ -8,8 +8,8 @@ use Rattle.card.proofs.check_seats.Tie as tie
 tag-fault-requires : tie.Need-tag-fault-requires
 tag-fault-requires c κs = search needs
 
-refused-requires : tie.Need-refused-requires
-refused-requires c κs = search needs
+refused-at-requires : tie.Need-refused-at-requires
+refused-at-requires c κs = search needs
 
 enum-told : tie.Need-enum-told
 enum-told c = search needs
@@ -19,7 +19,7 @@ enum-told-2 c = search needs
 
 returns : tie.Need-returns
 returns c = let r1 = c .before .before in
-    stops-at 11 (r1 .refused .ensures) (r1 .before .tag-fault .ensures) _ (c .enum-told2 .given .1)
+    stops-at 11 (r1 .refused-at .ensures) (r1 .before .tag-fault .ensures) _ (c .enum-told2 .given .1)
 
 contours-requires : tie.Need-contours-requires
 contours-requires c κs = search needs
@@ -27,15 +27,15 @@ contours-requires c κs = search needs
 first-on-cycle-requires : tie.Need-first-on-cycle-requires
 first-on-cycle-requires c κs = search needs
 
-refused-requires-2 : tie.Need-refused-requires-2
-refused-requires-2 c κs = search needs
+refused-at-requires-2 : tie.Need-refused-at-requires-2
+refused-at-requires-2 c κs = search needs
 
 returns-2 : tie.Need-returns-2
 returns-2 c = let t1 = c .before .before .before in
     let r1 = t1 .before .before in
     let st = r1 .before .before .before .before in
-    goes-past 11 (r1 .refused .ensures) (r1 .before .tag-fault .ensures) _ (t1 .enum-told .given .1)
-    (ends-with 12 (c .refused2 .ensures)
+    goes-past 11 (r1 .refused-at .ensures) (r1 .before .tag-fault .ensures) _ (t1 .enum-told .given .1)
+    (ends-with 12 (c .refused-at2 .ensures)
     (cycle-is (now (st .args .card)) _ _ _ (c .before .before .contours .ensures) (st .pre)
     (c .before .first-on-cycle .ensures)))
 
@@ -44,11 +44,11 @@ check-seats-spec =
     tie.close
     (tie.spec
     tag-fault-requires
-    refused-requires
+    refused-at-requires
     enum-told
     enum-told-2
     returns
     contours-requires
     first-on-cycle-requires
-    refused-requires-2
+    refused-at-requires-2
     returns-2)

@@ -1,20 +1,22 @@
 -- `card::named_pairs` meets its contract. Assumes nothing.
 use mathlib.Core.Path.{_≡_, refl}
-use Prim.Native.Nat.{_≤_, _-_}
+use Prim.Native.Nat.{_*_, _≤_, _-_}
 use native.Mathlib.Omega.{arith}
 use denote.Ref.{now}
 use borrow.Author.Needs.{needs}
+use Rattle.answer.specs.Room.{padded}
 use Rattle.answer.proofs.LowestLaws.{Nowhere}
+use Rattle.closure.specs.Limits.{PAIRS}
 use Rattle.fields.specs.Layout.{pairsOf}
 use Rattle.card.specs.Stages.{unnamed}
-use Rattle.card.specs.Names.{seatsOf, padded}
+use Rattle.card.specs.Names.{seatsOf}
 use Rattle.card.proofs.LoopLaws.{none-yet, one-more}
-use Rattle.card.proofs.NameLaws.{position-below, first-unknown, second-unknown, both-known, before-is, after-is, padded-none, padded-more, named-until, named-all}
+use Rattle.card.proofs.NameLaws.{position-below, first-unknown, second-unknown, both-known, before-is, after-is, places-none, places-more, named-until, named-all}
 use Rattle.card.proofs.named_pairs.Statement.{statement}
 use Rattle.card.proofs.named_pairs.Tie as tie
 
 abbrev Inv-loop : tie.InvT-loop
-Inv-loop card m places₀ q₀ places q = (m ≡ pairsOf card) × (q ≤ m) × Nowhere (unnamed card) q × (places ≡ padded (seatsOf card q))
+Inv-loop card m places₀ q₀ places q = (m ≡ pairsOf card) × (q ≤ m) × Nowhere (unnamed card) q × (places ≡ padded (2 * PAIRS) 0 (seatsOf card q))
 
 abbrev μ-loop : tie.MeasureT-loop
 μ-loop card m places₀ q₀ places q = m - q
@@ -24,7 +26,7 @@ pairs-requires c κs = tt
 
 loop-holds : tie.Need-loop-holds Inv-loop μ-loop
 loop-holds c = let s = now (c .before .before .args .card) in
-    (c .pairs .ensures, omega arith, none-yet (unnamed s), padded-none s)
+    (c .pairs .ensures, omega arith, none-yet (unnamed s), places-none s)
 
 before-id-requires : tie.Need-before-id-requires Inv-loop μ-loop
 before-id-requires c κs = tt
@@ -38,15 +40,18 @@ enum-known-before c = search needs
 enum-told : tie.Need-enum-told Inv-loop μ-loop
 enum-told c = search needs
 
-refusal-requires : tie.Need-refusal-requires Inv-loop μ-loop
-refusal-requires c κs = tt
+refused-requires : tie.Need-refused-requires Inv-loop μ-loop
+refused-requires c κs = tt
+
+mul-t12 : tie.Need-mul-t12 Inv-loop μ-loop
+mul-t12 c = omega arith
 
 returns : tie.Need-returns Inv-loop μ-loop
 returns c = let p = c .before .before .before in
     let l = p .before .before .before in
     let s = now (l .before .before .before .args .card) in
     let i = l .loop .inv in
-    named-until s _ _ _ (i .2) (i .3) (omega arith) (first-unknown s _ _ _ (p .before .before-id .ensures) (p .position-of .ensures) (c .before .enum-told .given .1)) (c .refusal .ensures)
+    named-until s _ _ _ (i .2) (i .3) (omega arith) (first-unknown s _ _ _ (p .before .before-id .ensures) (p .position-of .ensures) (c .before .enum-told .given .1)) (c .refused .ensures)
 
 after-id-requires : tie.Need-after-id-requires Inv-loop μ-loop
 after-id-requires c κs = tt
@@ -60,15 +65,18 @@ enum-known-after c = search needs
 enum-told-2 : tie.Need-enum-told-2 Inv-loop μ-loop
 enum-told-2 c = search needs
 
-refusal-requires-2 : tie.Need-refusal-requires-2 Inv-loop μ-loop
-refusal-requires-2 c κs = tt
+refused-requires-2 : tie.Need-refused-requires-2 Inv-loop μ-loop
+refused-requires-2 c κs = tt
+
+mul-t16 : tie.Need-mul-t16 Inv-loop μ-loop
+mul-t16 c = omega arith
 
 returns-2 : tie.Need-returns-2 Inv-loop μ-loop
 returns-2 c = let p = c .before .before .before in
     let l = p .before .before .before .before .before .before .before .before in
     let s = now (l .before .before .before .args .card) in
     let i = l .loop .inv in
-    named-until s _ _ _ (i .2) (i .3) (omega (arith, l)) (second-unknown s _ _ _ (p .before .after-id .ensures) (p .position-of2 .ensures) (c .before .enum-told2 .given .1)) (c .refusal2 .ensures)
+    named-until s _ _ _ (i .2) (i .3) (omega (arith, l)) (second-unknown s _ _ _ (p .before .after-id .ensures) (p .position-of2 .ensures) (c .before .enum-told2 .given .1)) (c .refused2 .ensures)
 
 cast-places : tie.Need-cast-places Inv-loop μ-loop
 cast-places c = let k = c .before .before .before .before .before .before in
@@ -112,7 +120,10 @@ loop-again c = let k′ = c .before in
     let known = both-known s (l .loop .q) _ _ _ _ _ _ (p .before .before-id .ensures) (p .position-of .ensures) (k .before2 .given .1) (p′ .before .after-id .ensures) (p′ .position-of2 .ensures) (k′ .after .given .1) in
     let b = before-is s (l .loop .q) _ _ _ _ _ _ (p .before .before-id .ensures) (p .position-of .ensures) (k .before2 .given .1) (p′ .before .after-id .ensures) (p′ .position-of2 .ensures) (k′ .after .given .1) in
     let a = after-is s (l .loop .q) _ _ _ _ _ _ (p .before .before-id .ensures) (p .position-of .ensures) (k .before2 .given .1) (p′ .before .after-id .ensures) (p′ .position-of2 .ensures) (k′ .after .given .1) in
-    (i .0, omega arith, one-more (unnamed s) _ (i .2) known, padded-more s _ _ _ _ (omega (arith, l .before .before .before .pre)) (i .3) b a)
+    (i .0, omega arith, one-more (unnamed s) _ (i .2) known, places-more s _ _ _ _ (omega (arith, l .before .before .before .pre)) (i .3) b a)
+
+mul-t26 : tie.Need-mul-t26 Inv-loop μ-loop
+mul-t26 c = omega arith
 
 returns-3 : tie.Need-returns-3 Inv-loop μ-loop
 returns-3 c = let s = now (c .before .before .before .before .args .card) in
@@ -131,13 +142,15 @@ named-pairs-spec =
     position-of-requires
     enum-known-before
     enum-told
-    refusal-requires
+    refused-requires
+    mul-t12
     returns
     after-id-requires
     position-of-requires-2
     enum-known-after
     enum-told-2
-    refusal-requires-2
+    refused-requires-2
+    mul-t16
     returns-2
     cast-places
     mul-places
@@ -149,4 +162,5 @@ named-pairs-spec =
     add-q
     loop-less
     loop-again
+    mul-t26
     returns-3)

@@ -9,21 +9,21 @@ use Rattle.card.proofs.pair_places.Tie as tie
 contours-requires : tie.Need-contours-requires
 contours-requires c κs = search needs
 
-refusal-requires : tie.Need-refusal-requires
-refusal-requires c κs = search needs
+refused-requires : tie.Need-refused-requires
+refused-requires c κs = search needs
 
 returns : tie.Need-returns
-returns c = too-many-contours (now (c .before .before .before .before .args .card)) _ (omega arith) (c .refusal .ensures)
+returns c = too-many-contours (now (c .before .before .before .before .args .card)) _ (omega arith) (c .refused .ensures)
 
 pairs-requires : tie.Need-pairs-requires
 pairs-requires c κs = search needs
 
-refusal-requires-2 : tie.Need-refusal-requires-2
-refusal-requires-2 c κs = search needs
+refused-requires-2 : tie.Need-refused-requires-2
+refused-requires-2 c κs = search needs
 
 returns-2 : tie.Need-returns-2
 returns-2 c = let s = now (c .before .before .before .before .before .before .args .card) in
-    too-many-pairs s (omega arith) _ (omega arith) (c .refusal2 .ensures)
+    too-many-pairs s (omega arith) _ (omega arith) (c .refused2 .ensures)
 
 named-pairs-requires : tie.Need-named-pairs-requires
 named-pairs-requires c κs = search needs
@@ -37,10 +37,10 @@ pair-places-spec =
     tie.close
     (tie.spec
     contours-requires
-    refusal-requires
+    refused-requires
     returns
     pairs-requires
-    refusal-requires-2
+    refused-requires-2
     returns-2
     named-pairs-requires
     returns-3)

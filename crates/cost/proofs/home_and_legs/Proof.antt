@@ -11,9 +11,12 @@ use Rattle.cost.proofs.home_and_legs.Tie as tie
 bad-point-requires : tie.Need-bad-point-requires
 bad-point-requires c κs = search needs
 
+refused-requires : tie.Need-refused-requires
+refused-requires c κs = search needs
+
 returns : tie.Need-returns
 unfolding homeAndLegs firstRefusal
-returns c = rw (← (c .before .bad-point .ensures), c .if1 .taken)
+returns c = rw (← (c .before .before .bad-point .ensures), c .before .if1 .taken) (c .refused .ensures)
 
 add-count : tie.Need-add-count
 add-count c = search needs
@@ -27,15 +30,25 @@ first-bad-requires c κs = search needs
 enum-known-k : tie.Need-enum-known-k
 enum-known-k c = search needs
 
-add-t12 : tie.Need-add-t12
-add-t12 c = omega (arith, bad-within _ _ _ (sym (c .before .before .before .first-bad .ensures) ∙ c .before .k .given .1))
+add-refused : tie.Need-add-refused
+add-refused c = omega (arith, bad-within _ _ _ (sym (c .before .before .before .first-bad .ensures) ∙ c .before .k .given .1))
+
+refused-requires-2 : tie.Need-refused-requires-2
+refused-requires-2 c κs = search needs
 
 enum-told : tie.Need-enum-told
 enum-told c = search needs
 
 returns-2 : tie.Need-returns-2
 unfolding homeAndLegs firstRefusal
-returns-2 c = rw (← (c .before .before .before .before .before .bad-point .ensures), c .before .before .before .before .if1 .left, ← (c .before .before .before .first-bad .ensures), c .before .k .given .1)
+returns-2 c = let p = c .before in
+    rw (
+      ← (p .before .before .before .before .before .bad-point .ensures),
+      p .before .before .before .before .if1 .left,
+      ← (p .before .before .before .first-bad .ensures),
+      p .before .k .given .1,
+    )
+    (c .refused2 .ensures)
 
 returns-3 : tie.Need-returns-3
 unfolding homeAndLegs firstRefusal
@@ -46,12 +59,14 @@ home-and-legs-spec =
     tie.close
     (tie.spec
     bad-point-requires
+    refused-requires
     returns
     add-count
     mul-count
     first-bad-requires
     enum-known-k
-    add-t12
+    add-refused
+    refused-requires-2
     enum-told
     returns-2
     returns-3)

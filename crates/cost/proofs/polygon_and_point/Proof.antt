@@ -14,19 +14,32 @@ first-bad-requires c κs = search needs
 enum-known-k : tie.Need-enum-known-k
 enum-known-k c = search needs
 
+refused-requires : tie.Need-refused-requires
+refused-requires c κs = search needs
+
 enum-told : tie.Need-enum-told
 enum-told c = search needs
 
 bad-point-requires : tie.Need-bad-point-requires
 bad-point-requires c κs = search needs
 
+refused-requires-2 : tie.Need-refused-requires-2
+refused-requires-2 c κs = search needs
+
 returns : tie.Need-returns
 unfolding polygonAndPoint firstRefusal
-returns c = rw (← (c .before .before .before .before .first-bad .ensures), c .before .before .enum-told .given .1, ← (c .before .bad-point .ensures), c .if1 .taken)
+returns c = let p = c .before in
+    rw (
+      ← (p .before .before .before .before .first-bad .ensures),
+      p .before .before .enum-told .given .1,
+      ← (p .before .bad-point .ensures),
+      p .if1 .taken,
+    )
+    (c .refused2 .ensures)
 
 returns-2 : tie.Need-returns-2
 unfolding polygonAndPoint firstRefusal
-returns-2 c = rw (← (c .before .before .before .first-bad .ensures), c .before .k .given .1)
+returns-2 c = rw (← (c .before .before .before .before .first-bad .ensures), c .before .before .k .given .1) (c .refused .ensures)
 
 returns-3 : tie.Need-returns-3
 unfolding polygonAndPoint firstRefusal
@@ -39,8 +52,10 @@ polygon-and-point-spec =
     add-count
     first-bad-requires
     enum-known-k
+    refused-requires
     enum-told
     bad-point-requires
+    refused-requires-2
     returns
     returns-2
     returns-3)

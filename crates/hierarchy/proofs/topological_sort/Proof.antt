@@ -32,8 +32,15 @@ sorted-requires c κs = fine-small _ _ (sym (c .before .before .before .enum-tol
 returns-2 : tie.Need-returns-2
 returns-2 c = let g = c .before .before .before .before .before .before .before .before .args in sort-told (g .contours) (g .pairs .now) _ (c .before .before .before .before .before .before .check-pairs .ensures) _ (c .before .before .before .first-on-cycle-wide .ensures) (c .before .before .before .before .enum-told .given .1) _ (c .before .enum-told3 .given .1) (c .sorted .ensures)
 
+refused-requires : tie.Need-refused-requires
+refused-requires c κs = search needs
+
 returns-3 : tie.Need-returns-3
-returns-3 c = let g = c .before .before .before .before .before .before .before .before .args in sort-cycle (g .contours) (g .pairs .now) _ (c .before .before .before .before .before .before .check-pairs .ensures) _ (c .before .before .before .first-on-cycle-wide .ensures) (c .before .before .before .before .enum-told .given .1) _ (c .before .found .given .1)
+returns-3 c = let p = c .before in
+    let g = p .before .before .before .before .before .before .before .before .args in
+    sort-cycle (g .contours) (g .pairs .now) _ (p .before .before .before .before .before .before .check-pairs .ensures) _
+    (p .before .before .before .first-on-cycle-wide .ensures) (p .before .before .before .before .enum-told .given .1)
+    _ _ (p .before .found .given .1) (c .refused .ensures)
 
 pub topological-sort-spec : {M : Type 1} → statement M
 topological-sort-spec =
@@ -48,4 +55,5 @@ topological-sort-spec =
     enum-told-3
     sorted-requires
     returns-2
+    refused-requires
     returns-3)

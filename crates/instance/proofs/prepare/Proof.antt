@@ -6,9 +6,9 @@ use Rattle.instance.proofs.prepare.Tie as tie
 
 returns : tie.Need-returns
 returns c =
-    let b = c .before .before .before in
+    let b = c in
     prepared-is _ (b .before .before .before .gather .ensures) (b .before .before .home .ensures) (b .before .homes-of .ensures)
-    (b .pair-places .ensures) (c .before .pairs2 .ensures) (c .most .ensures)
+    (b .pair-places .ensures)
 
 pub prepare-spec : {M : Type 1} → statement M
 prepare-spec =
@@ -18,7 +18,4 @@ prepare-spec =
     (λ c κs. search needs)
     (λ c κs. search needs)
     (λ c κs. search needs)
-    (λ c κs. search needs)
-    (λ c κs. search needs)
-    (λ c. search needs)
     returns)

@@ -1,7 +1,8 @@
--- Legal orders: none where a position reaches itself, one is always ready where none does, and `keepsPairs` says yes exactly to them. Assumes nothing.
+-- Legal orders: none where a position reaches itself, one is always ready where none does, and `keepsPairs` says yes exactly to them.
+-- Assumes nothing.
 use mathlib.Core.Bool.{Bool, true, false, not, _||_, or-true}
 use mathlib.Core.Path.{_≡_, refl, sym, ap, _∙_}
-use mathlib.Core.Logic.{_⊎_, inl, inr, ⊎-elim, _↔_}
+use mathlib.Core.Logic.{⊎-elim, _↔_}
 use mathlib.Core.List.{List, [], _∷_}
 use Prim.Native.Nat.{ℕ, zero, suc, _+_, _≤_, _<_}
 use native.Mathlib.Nat.{not-suc-le-zero, le-of-suc-le-suc, zero-lt-suc}
@@ -10,48 +11,13 @@ use native.Mathlib.Omega.{arith}
 use lib.Dec.{eqb, ltb}
 use borrow.Author.Tests.{eq-eqb, ne-eqb, eqb-true, lt-ltb, ltb-true}
 use lib.ListN.{length, getD}
-use Rattle.answer.specs.declared.Check.{Check}
-use Rattle.closure.specs.Pairs.{Pair, paired, every, someOf, isPair}
+use Rattle.closure.specs.Pairs.{paired, every, someOf, isPair, both}
 use Rattle.closure.specs.Cycle.{linked, Reaches, step, onward, Acyclic}
-use Rattle.closure.proofs.PairLaws.{same-or, lt-or, is-pair}
-use Rattle.closure.proofs.FlagLaws.{linked-is}
-use Rattle.closure.proofs.PathLaws.{or-cases, or-left, or-right, and-first, and-second, both-true, yes-or-no, linked-within}
-use Rattle.hierarchy.specs.declared.Verdict.{Verdict}
+use Rattle.closure.proofs.PairLaws.{same-or, lt-or}
+use Rattle.closure.proofs.PathLaws.{or-right, and-first, yes-or-no, linked-within, every-is, every-at, linked-pair, pair-linked}
 use Rattle.keep.specs.Keep.{lastRank, keptAt, keptIn, keepsPairs, readyBy, readyIn}
-use Rattle.hierarchy.specs.Sort.{both}
-use Rattle.hierarchy.specs.Questions.{pairsCheck, validSequence}
-use Rattle.hierarchy.specs.Legal.{EachOnce, Legal}
-use Rattle.hierarchy.proofs.CheckLaws.{fine-small, valid-told}
-use Rattle.hierarchy.proofs.CountLaws.{Least, least, met-at, Different, different-all}
-
--- ---- every pair of a list, one by one
-
-pub every-is : (test : Pair → Bool) (ps : List Pair) → ((b a : ℕ) → someOf (isPair b a) ps ≡ true → test (record { before = b; after = a }) ≡ true) → every test ps ≡ true
-unfolding every someOf
-every-is test [] h = refl
-every-is test (p ∷ more) h = both-true (test p) (every test more)
-    (h (p .before) (p .after) (or-left (isPair (p .before) (p .after) p) (someOf (isPair (p .before) (p .after)) more) (is-pair (p .before) (p .after) (p .before) (p .after) refl refl)))
-    (every-is test more (λ b a t. h b a (or-right (isPair b a p) (someOf (isPair b a) more) t)))
-
-pub every-at : (test : Pair → Bool) (ps : List Pair) (b a : ℕ) → every test ps ≡ true → someOf (isPair b a) ps ≡ true → test (record { before = b; after = a }) ≡ true
-unfolding every someOf
-every-at test [] b a e t = let z : _≡_ {A = ℕ} 0 1 = cc in absurd (omega arith)
-every-at test (p ∷ more) b a e t = go (or-cases (isPair b a p) (someOf (isPair b a) more) t) (every-at test more b a (and-second (test p) (every test more) e))
-  where
-    go : (isPair b a p ≡ true) ⊎ (someOf (isPair b a) more ≡ true) → (someOf (isPair b a) more ≡ true → test (record { before = b; after = a }) ≡ true) → test (record { before = b; after = a }) ≡ true
-    go (inl i) rec =
-        let x : p .before ≡ b = eqb-true (p .before) b (and-first (eqb (p .before) b) (eqb (p .after) a) i) in
-        let y : p .after ≡ a = eqb-true (p .after) a (and-second (eqb (p .before) b) (eqb (p .after) a) i) in
-        let q : p ≡ record { before = b; after = a } = λ j. record { before = x j; after = y j } in
-        ap test (sym q) ∙ and-first (test p) (every test more) e
-    go (inr s) rec = rec s
-
--- below n a pair of the list is a link, and a link a pair
-pub linked-pair : (n : ℕ) (pairs : List ℕ) (b a : ℕ) → b < n → a < n → someOf (isPair b a) (paired pairs) ≡ true → linked n pairs b a ≡ true
-linked-pair n pairs b a hb ha t = linked-is n pairs b a hb ha ∙ t
-
-pub pair-linked : (n : ℕ) (pairs : List ℕ) (b a : ℕ) → linked n pairs b a ≡ true → someOf (isPair b a) (paired pairs) ≡ true
-pair-linked n pairs b a t = let h = linked-within n pairs b a t in sym (linked-is n pairs b a (h .0) (h .1)) ∙ t
+use Rattle.keep.specs.Legal.{EachOnce, Legal}
+use Rattle.closure.proofs.CountLaws.{Least, least, met-at, Different, different-all}
 
 -- ---- each position once
 
@@ -179,12 +145,3 @@ module _ (n : ℕ) (order : List ℕ) (each : EachOnce n order) where
 
   pub keeps-exactly : (pairs : List ℕ) → (keepsPairs order pairs ≡ true) ↔ Legal n pairs order
   keeps-exactly pairs = (keeps-legal pairs, legal-keeps pairs)
-
--- a sequence of each position once is valid exactly where it is a legal order
-pub valid-exactly : (contours : ℕ) (pairs order : List ℕ) → Check.Fine ≡ pairsCheck contours pairs → EachOnce contours order →
-    (validSequence contours pairs order ≡ Verdict.Is true) ↔ Legal contours pairs order
-valid-exactly contours pairs order fine each =
-    ((λ e. keeps-legal contours order each pairs (let s : Verdict.Is (keepsPairs order pairs) ≡ Verdict.Is true = told ∙ e in cc)), (λ legal. sym told ∙ ap Verdict.Is (legal-keeps contours order each pairs legal)))
-  where
-    told : Verdict.Is (keepsPairs order pairs) ≡ validSequence contours pairs order
-    told = valid-told contours pairs order Check.Fine fine (keepsPairs order pairs) refl (omega (arith, each .size, fine-small contours pairs fine .few)) refl
