@@ -1,4 +1,5 @@
--- An order by ids is legal exactly where it is by positions, once ids are unique and every pair's ids are known. Assumes nothing.
+-- An order by ids is legal exactly where it is by positions, once ids are unique and every pair's ids are known.
+-- Assumes nothing.
 use mathlib.Core.List.{List}
 use Prim.Native.Nat.{ℕ}
 use Rattle.keep.specs.Legal.{Legal}

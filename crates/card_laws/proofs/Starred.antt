@@ -15,11 +15,11 @@ use Rattle.block.specs.Write.{bytes, blockOf}
 use Rattle.card_laws.specs.Write.{numberBytes, pointBytes, headBytes, pointsBytes, contourBytes, contourBlocks, pairBytes, pairBlocks, written}
 use Rattle.card_laws.specs.Examples.{Examples}
 
--- what a card written out and its verdict are computed through: to unfold this name, here or in a crate above, is to unfold all of
--- these. A definition that the verdict comes to need is added here only
+-- what a card written out and its verdict are computed through: to unfold this name, here or in a crate above, is to
+-- unfold all of these. A definition that the verdict comes to need is added here only
 unfoldable pub verdict-computes : Unit {0}
-unfolding checkOf firstRefusal lengthFault checkFault startFault headFault countFault contourFault spareFault farVertex farFault
-    seekOf repeatFault nameFault tagFault cycleFault
+unfolding checkOf firstRefusal lengthFault checkFault startFault headFault countFault contourFault spareFault
+    farVertex farFault seekOf repeatFault nameFault tagFault cycleFault
     seatsOf lowest lowestFrom u16At u32At u64At f64At weigh checkAt checked starts allZero zerosAt paired someOf linked leads
     bytes blockOf numberBytes pointBytes headBytes pointsBytes contourBytes contourBlocks pairBytes pairBlocks written
     ofBits ofFields odd size span climb round units trailingZeros toBits

@@ -17,7 +17,8 @@ use Rattle.card_laws.specs.Table.{Past11, Precedes}
 -- an order in which a card can be cut, as positions: each contour once, and of each pair the first before the second
 pub record LegalOrder (s order : List ℕ) : Type 0 where
   pub each-once : EachOnce (contoursOf s) order
-  pub pairs-kept : (i j : ℕ) → i < contoursOf s → j < contoursOf s → Precedes s (getD order i 0) (getD order j 0) → i < j
+  pub pairs-kept : (i j : ℕ) → i < contoursOf s → j < contoursOf s
+      → Precedes s (getD order i 0) (getD order j 0) → i < j
 
 -- the card can be cut in some order
 abbrev pub SomeOrder : List ℕ → Type 0

@@ -50,10 +50,11 @@ module _ (s : List ℕ) (fine : checkOf s ≡ Fine) (grid : OnGrid s) where
       never-longer (sheetOn s) (passesOf s) (moveLimitOf s) (startOn s) (home-fits s grid)
       (number-of s grid (bound .0) (nearness (contoursOf s)) (bound .1) (startOn s) (start-visits s fine))
 
-  not-longer : upperEnd (legsOn s (tourOn s)) * step40 ≤ lowerEnd (legsOn s (startOn s)) * step40 + excess (contoursOf s) * step40
+  not-longer : upperEnd (legsOn s (tourOn s)) * step40
+      ≤ lowerEnd (legsOn s (startOn s)) * step40 + excess (contoursOf s) * step40
   not-longer =
-      more (upperEnd (legsOn s (tourOn s)) * step40) (lowerEnd (legsOn s (startOn s)) * step40) (nearness (contoursOf s))
-      (excess (contoursOf s)) step40 (twice (contoursOf s))
+      more (upperEnd (legsOn s (tourOn s)) * step40) (lowerEnd (legsOn s (startOn s)) * step40)
+      (nearness (contoursOf s)) (excess (contoursOf s)) step40 (twice (contoursOf s))
       (excess-of s grid (bound .0) (nearness (contoursOf s)) (bound .1) (tourOn s) (startOn s) (tour-visits s fine)
       (start-visits s fine) no-longer)
 

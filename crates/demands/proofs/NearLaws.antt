@@ -1,10 +1,9 @@
--- On a card that lies on the grid: the computed length of any tour that visits each contour once is near to the exact one, and what is
--- computed no longer than another is exactly no longer but for twice that. Assumes nothing.
-use mathlib.Core.Path.{_≡_, sym, _∙_, subst}
+-- On a card that lies on the grid: the computed length of any tour that visits each contour once is near to the exact
+-- one, and what is computed no longer than another is exactly no longer but for twice that. Assumes nothing.
+use mathlib.Core.Path.{_≡_, sym, subst}
 use mathlib.Core.Logic.{_⊎_, inl, inr}
 use mathlib.Core.List.{List, [], _∷_, map}
 use Prim.Native.Nat.{ℕ, _+_, _*_, _≤_, _<_}
-use native.Mathlib.Nat.{le-refl}
 use native.Mathlib.Omega.{arith}
 use lib.Dec.{T}
 use lib.Ieee.{Float, nan, binary64, le, fits}
@@ -34,14 +33,16 @@ module _ (s : List ℕ) (grid : OnGrid s) where
   unfolding AllBelow gridPoints
   stops-on [] h = tt
   stops-on (a ∷ tour) h =
-      and-i (gridPoint (stopOn s a)) (gridPoints (map (stopOn s) tour)) (grid .candidate a (h .0)) (stops-on tour (h .1))
+      and-i (gridPoint (stopOn s a)) (gridPoints (map (stopOn s) tour)) (grid .candidate a (h .0))
+      (stops-on tour (h .1))
 
   few-stops : (tour : List ℕ) → Visits s tour → length (map (stopOn s) tour) ≤ contoursOf s
   few-stops tour v = let e = length-map tour (stopOn s) in omega (arith, v .long)
 
   length-is : (tour : List ℕ) → Visits s tour → lengthIn (sheetOn s) tour ≡ computed (homeOn s) (map (stopOn s) tour)
   unfolding sheetOn
-  length-is tour v = evaluated (candidatesOn s) (ownersOn s) (homeOn s) (ends-gathered s (contoursOf s)) tour (rides s tour v)
+  length-is tour v =
+      evaluated (candidatesOn s) (ownersOn s) (homeOn s) (ends-gathered s (contoursOf s)) tour (rides s tour v)
 
   -- every distance from home is a number that the format has
   pub home-fits : HomeFits (sheetOn s .home)
@@ -63,7 +64,8 @@ module _ (s : List ℕ) (grid : OnGrid s) where
     pub near-of : (tour : List ℕ) → Visits s tour → NearEnds b (lengthIn (sheetOn s) tour) (legsOn s tour)
     near-of tour v =
         subst (λ (x : Float). NearEnds b x (legsOn s tour)) (sym (length-is tour v))
-        (route-length (contoursOf s) a b (homeOn s) (map (stopOn s) tour) enough (grid .home) (stops-on tour (v .among)) (few-stops tour v))
+        (route-length (contoursOf s) a b (homeOn s) (map (stopOn s) tour) enough (grid .home)
+        (stops-on tour (v .among)) (few-stops tour v))
 
     -- it is a number, so that it can be compared
     pub number-of : (tour : List ℕ) → Visits s tour → T (le (lengthIn (sheetOn s) tour) (lengthIn (sheetOn s) tour))

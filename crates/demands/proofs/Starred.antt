@@ -36,4 +36,10 @@ unfolding line-computes
 of-job41 = record { job-fine = examples .job41-fine; job = refl; list = refl; told = refl }
 
 pub claim : Claim
-claim = record { roots = of-roots; of-square = of-square; of-nothing = of-nothing; of-cycles = of-cycles; of-job41 = of-job41 }
+claim = record {
+  roots = of-roots;
+  of-square = of-square;
+  of-nothing = of-nothing;
+  of-cycles = of-cycles;
+  of-job41 = of-job41;
+}

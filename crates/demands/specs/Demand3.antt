@@ -34,7 +34,8 @@ pub record OnGrid (s : List ℕ) : Type 0 where
 abbrev pub legsOn : List ℕ → List ℕ → List ℕ
 legsOn s tour = alongRoute squaredLength (homeOn s) (map (stopOn s) tour)
 
--- the bounds on a card of n contours, in steps of 2^-40 mm: 2^-28 mm for the length told, 2^-27 mm for what the tour is longer than the start
+-- the bounds on a card of n contours, in steps of 2^-40 mm: 2^-28 mm for the length told, 2^-27 mm for what the tour is
+-- longer than the start
 abbrev pub nearness : ℕ → ℕ
 nearness n = 2 ^ 12
 
@@ -47,7 +48,8 @@ excess n = 2 ^ 13
 pub record Good (s tour : List ℕ) (told : Outcome) : Type 0 where
   pub legal : LegalOrder s (contours (ownersOn s) tour)
   pub near : NearEnds (nearness (contoursOf s)) (told .length) (legsOn s tour)
-  pub not-longer : upperEnd (legsOn s tour) * step40 ≤ lowerEnd (legsOn s (startOn s)) * step40 + excess (contoursOf s) * step40
+  pub not-longer : upperEnd (legsOn s tour) * step40
+      ≤ lowerEnd (legsOn s (startOn s)) * step40 + excess (contoursOf s) * step40
 
 -- of every card that lies on the grid, with whatever rooms and whatever move limit, if the answer is a tour
 abbrev pub Claim : Type 0

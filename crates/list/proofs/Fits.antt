@@ -126,7 +126,8 @@ module _ (s : List ℕ) (ofBytes : OfBytes s) where
   unfolding stopLine
   stop-short a few = place-short (placeOn s a) (let l : placeOn s a .within ≤ a = sub-le a _ in omega arith)
 
-  stops-short : (t : ℕ) (tour : List ℕ) → t ≤ 10 ^ 2 → AllBelow t tour → length (stopLines s tour) ≤ stopLongest * length tour
+  stops-short : (t : ℕ) (tour : List ℕ) → t ≤ 10 ^ 2 → AllBelow t tour
+      → length (stopLines s tour) ≤ stopLongest * length tour
   unfolding stopLines AllBelow
   stops-short t [] few h = omega arith
   stops-short t (a ∷ tour) few h =
@@ -165,8 +166,10 @@ tour-short s ofBytes fine =
     let most = few-candidates s fine in
     let stops = stops-short s ofBytes (countOn s) (tourOn s) (omega arith) (tour-among s fine) in
     let all =
-    joined (headLine s ++ stopLines s (tourOn s)) (outcomeLines (outcomeOn s)) (headLongest + stopLongest * CONTOURS) outcomeLongest
-    (joined (headLine s) (stopLines s (tourOn s)) headLongest (stopLongest * CONTOURS) (head-short s ofBytes (omega arith)) (omega arith))
+    joined (headLine s ++ stopLines s (tourOn s)) (outcomeLines (outcomeOn s))
+    (headLongest + stopLongest * CONTOURS) outcomeLongest
+    (joined (headLine s) (stopLines s (tourOn s)) headLongest (stopLongest * CONTOURS)
+    (head-short s ofBytes (omega arith)) (omega arith))
     (outcome-short (outcomeOn s)) in
     omega arith
 

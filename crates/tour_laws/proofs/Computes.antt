@@ -23,13 +23,15 @@ use Rattle.instance.specs.Search.{sheetOn}
 use Rattle.tour.specs.Search.{endOn}
 use Rattle.tour.specs.Tour.{tourCheck, roomCheck, tourOf}
 
--- to unfold this name is to unfold all of these, and what the verdict is computed through. A definition that the tour comes to need is
--- added here only
+-- to unfold this name is to unfold all of these, and what the verdict is computed through. A definition that the tour
+-- comes to need is added here only
 unfoldable pub tour-computes : Unit {0}
-unfolding verdict-computes tourOf tourCheck roomCheck endOn sheetOn gathered owners firsts verticesOf outlineOf offersOf
-    candidatesOf candidatesFrom spaced target perimeterOf around reaches onEdge spotFrom lastSpot spotAt closing edges alongOf
-    asType asPreference pointAt nearest walked step visit chosen considered isOpen readyIn readyBy offered offer closer reachOf
+unfolding verdict-computes tourOf tourCheck roomCheck endOn sheetOn
+    gathered owners firsts verticesOf outlineOf offersOf asType asPreference pointAt
+    candidatesOf candidatesFrom spaced target perimeterOf around reaches onEdge spotFrom lastSpot spotAt closing edges
+    alongOf distanceOf distanceSqOf squares sqrtOf rootFinite halves wholeRoot digits
+    homesOf homeLeg distancesOf rowOf legAt legOf listed chained each lengthOf walk legs
+    nearest walked step visit chosen considered isOpen readyIn readyBy offered offer closer reachOf
     searched repeated pass turn alternative swap judged shorter tried atLimit row reversal flip turned rev slice
-    contours keepsPairs keptIn lastRank every each lengthOf walk legs homesOf homeLeg distancesOf rowOf legAt legOf listed chained
-    distanceOf distanceSqOf squares sqrtOf rootFinite halves wholeRoot digits add sub mul div rem neg lt le eq ofInt sum
+    contours keepsPairs keptIn lastRank every add sub mul div rem neg lt le eq ofInt sum
 tour-computes = tt

@@ -29,8 +29,8 @@ use Rattle.witnesses.specs.Examples.{limited, Answered, AnsweredOnGrid, 
 
 -- what is computed here is computed through these
 list-computes : Unit {0}
-unfolding tour-computes gridPoints listOf tourLines refusalLine headLine stopLines stopLine placeLine nameWords wayWord outcomeLines
-    decimalOf decimalIn hexOf
+unfolding tour-computes gridPoints listOf tourLines refusalLine headLine stopLines stopLine placeLine nameWords
+    wayWord outcomeLines decimalOf decimalIn hexOf
 list-computes = tt
 
 -- ---- answered with a tour, on the grid
