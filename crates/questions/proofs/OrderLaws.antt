@@ -27,7 +27,7 @@ use Rattle.instance.specs.declared.Instance.{Instance}
 use Rattle.instance.specs.Room.{instanceOf}
 use Rattle.tour.proofs.RunLaws.{entries-few, table-front, table-long, lent-whole, lent-within}
 use Rattle.improve.specs.Search.{lengthIn}
-use Rattle.tour.specs.Search.{countOn, ownersOn, homesOn, tableOn, sheetOn}
+use Rattle.tour.specs.Search.{countOn, ownersOn, homesOn, tableOn, chartOn}
 use Rattle.questions.specs.Order.{stopAt, metBefore, badStop, firstBadStop, orderCheck, measuredUnless, evaluated}
 
 -- ---- one stop
@@ -74,7 +74,7 @@ module _ (s order : List ℕ) (n : ℕ) (en : n ≡ contoursOf s) where
     unfolding orderCheck firstRefusal
     bad-position p e = rw (← found-is, e, ← en, eq-eqb (length order) n h)
 
-    pub good-order : (x : Float) → f ≡ Absent → x ≡ lengthIn (sheetOn s) order → measured.Is x ≡ measuredUnless (orderCheck s order) s order
+    pub good-order : (x : Float) → f ≡ Absent → x ≡ lengthIn (chartOn s) order → measured.Is x ≡ measuredUnless (orderCheck s order) s order
     unfolding orderCheck firstRefusal
     good-order x e g = rw (g, ← found-is, e, ← en, eq-eqb (length order) n h)
 
@@ -91,8 +91,8 @@ module _ (s order : List ℕ) (a : Check) (is : a ≡ checkOf s) where
 
 -- ---- its length
 
-pub length-is : (s order : List ℕ) (homes table : List Float) (t : ℕ) (x : Float) → homes ≡ homesOn s → table ≡ tableOn s → t ≡ countOn s → x ≡ lengthOf homes table t order → x ≡ lengthIn (sheetOn s) order
-unfolding sheetOn
+pub length-is : (s order : List ℕ) (homes table : List Float) (t : ℕ) (x : Float) → homes ≡ homesOn s → table ≡ tableOn s → t ≡ countOn s → x ≡ lengthOf homes table t order → x ≡ lengthIn (chartOn s) order
+unfolding chartOn
 length-is s order homes table t x h d c e = e ∙ rw (h, d, c)
 
 -- the library's own table, with nothing in it

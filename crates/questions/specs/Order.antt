@@ -14,12 +14,12 @@ use Rattle.cost.specs.declared.Measured.the-variants as measured
 use Rattle.fields.specs.Layout.{contoursOf}
 use Rattle.card.specs.Stages.{isAt}
 use Rattle.card.specs.Verdict.{checkOf}
-use Rattle.improve.specs.Search.{contourOf, lengthIn}
-use Rattle.tour.specs.Search.{countOn, ownersOn, sheetOn}
+use Rattle.improve.specs.Search.{ownerOf, lengthIn}
+use Rattle.tour.specs.Search.{countOn, ownersOn, chartOn}
 
 -- the contour of the stop at position p
 abbrev pub stopAt : List ℕ → List ℕ → ℕ → ℕ
-stopAt owner order p = contourOf owner (getD order p 0)
+stopAt owner order p = ownerOf owner (getD order p 0)
 
 -- its contour was met at an earlier position
 abbrev pub metBefore : List ℕ → List ℕ → ℕ → Bool
@@ -42,7 +42,7 @@ orderCheck s order =
 
 -- the length, unless the check refuses
 abbrev pub measuredUnless : Check → List ℕ → List ℕ → Measured
-measuredUnless Fine s order = measured.Is (lengthIn (sheetOn s) order)
+measuredUnless Fine s order = measured.Is (lengthIn (chartOn s) order)
 measuredUnless (Refused r) s order = measured.Refused r
 
 -- the card's own refusals come first

@@ -8,7 +8,7 @@ ghost use Rattle.candidates.specs.Generate.{blank};
 ghost use Rattle.instance.specs.Room.{instanceOf};
 ghost use Rattle.improve.specs.Search.{lengthIn};
 ghost use Prim.Native.Nat.{_+_};
-ghost use Rattle.tour.specs.Search.{candidatesOn, countOn, firstsOn, sheetOn};
+ghost use Rattle.tour.specs.Search.{candidatesOn, countOn, firstsOn, chartOn};
 ghost use Rattle.questions.specs.Order.{stopAt, metBefore, badStop, firstBadStop, orderCheck, measuredUnless, evaluated};
 ghost use Rattle.questions.specs.Nearest.{stopsOf, nearestOn, nearestOf};
 ghost use Rattle.questions.specs.Index.{pickedUnless, pickedOf, localCheck, countUnless, globalOf};
@@ -96,7 +96,7 @@ fn first_bad_stop(owner: &[u8], t: usize, order: &[u8]) -> Found
 fn length_of(card: &[u8], all: Instance, order: &[u8]) -> f64
     requires { ⌜ checkOf (now card) ≡ Fine ⌝ }
     requires { ⌜ all ≡ instanceOf (now card) ⌝ }
-    ensures { λ r. ⌜ r ≡ lengthIn (sheetOn (now (card .entry))) (now (order .entry)) ⌝ }
+    ensures { λ r. ⌜ r ≡ lengthIn (chartOn (now (card .entry))) (now (order .entry)) ⌝ }
 {
     let homes = tour::homes_of(all, fields::home(card));
     let t = all.count;

@@ -23,7 +23,7 @@ use Rattle.solve.specs.Solve.{placed, Solved}
 use Rattle.tour.specs.declared.Toured.the-variants as answer
 use Rattle.tour.specs.declared.Located.{Located}
 use Rattle.tour.specs.declared.Located.the-variants as located
-use Rattle.tour.specs.Search.{countOn, tableOn, sheetOn, endOn, tourOn}
+use Rattle.tour.specs.Search.{countOn, tableOn, chartOn, endOn, tourOn}
 use Rattle.tour.specs.Tour.{Left, left, roomCheck, tourCheck, toured, touredUnless, tourOf}
 use Rattle.tour.specs.Questions.{numberCheck, placeOn, locatedUnless, locatedOf}
 
@@ -54,7 +54,7 @@ room-back tour room after n e k =
     ∙ append-assoc tour (drop (length tour) front) (drop n room)
     ∙ ap (λ (x : List ℕ). tour ++ x) (sym (drop-append-le (length tour) front (drop n room) inside) ∙ ap (drop (length tour)) (take-append-drop n room))
 
-pub toured-is : (s room part : List ℕ) (table after : List Float) (o : Outcome) (n d : ℕ) → Solved (sheetOn s) (endOn s) (take n room) o part
+pub toured-is : (s room part : List ℕ) (table after : List Float) (o : Outcome) (n d : ℕ) → Solved (chartOn s) (endOn s) (take n room) o part
     → length part ≡ length (take n room) → after ≡ tableOn s → d ≡ countOn s * countOn s
     → left (answer.Done o) (part ++ drop n room) (after ++ drop d table) ≡ toured s room table
 toured-is s room part table after o n d w k e f =

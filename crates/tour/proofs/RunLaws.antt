@@ -29,11 +29,11 @@ use Rattle.instance.specs.declared.Instance.{Instance}
 use Rattle.instance.specs.Room.{instanceOf}
 use Rattle.instance.proofs.GatherLaws.{owners-length, firsts-length}
 use Rattle.instance.proofs.FineLaws.{few-candidates, count-is, contours-is, items-lent, owner-lent, first-lent}
-use Rattle.improve.specs.Code.{sheetOf}
-use Rattle.improve.specs.Search.{Sheet}
+use Rattle.improve.specs.Code.{chartOf}
+use Rattle.improve.specs.Search.{Chart}
 use Rattle.solve.specs.Solve.{endIn, Solved}
 use Rattle.solve.specs.declared.Outcome.{Outcome}
-use Rattle.tour.specs.Search.{homeOn, candidatesOn, countOn, ownersOn, firstsOn, pairsOn, homesOn, tableOn, sheetOn, endOn}
+use Rattle.tour.specs.Search.{homeOn, candidatesOn, countOn, ownersOn, firstsOn, pairsOn, homesOn, tableOn, chartOn, endOn}
 use Rattle.tour.specs.Tour.{noDistances}
 
 -- ---- a part that is lent, from what it holds
@@ -157,12 +157,12 @@ module _ (s : List ℕ) (fine : checkOf s ≡ Fine) (named : Named) (m : ℕ) (e
 -- ---- the search on all of that
 
 module _ (s : List ℕ) (homes table : List Float) (t : ℕ) (owner first pairs : List ℕ) (h : homes ≡ homesOn s) (d : table ≡ tableOn s) (c : t ≡ countOn s) (o : owner ≡ ownersOn s) (f : first ≡ firstsOn s) (p : pairs ≡ pairsOn s) where
-  sheet-is : sheetOf homes table t owner first pairs ≡ sheetOn s
-  unfolding sheetOn
-  sheet-is = rw (h, d, c, o, f, p)
+  chart-is : chartOf homes table t owner first pairs ≡ chartOn s
+  unfolding chartOn
+  chart-is = rw (h, d, c, o, f, p)
 
   pub solved-on : (n most limit : ℕ) (room after : List ℕ) (r : Outcome) → n ≡ contoursOf s → most ≡ passesOf s → limit ≡ moveLimitOf s
-      → Solved (sheetOf homes table t owner first pairs) (endIn (sheetOf homes table t owner first pairs) n most limit) room r after → Solved (sheetOn s) (endOn s) room r after
+      → Solved (chartOf homes table t owner first pairs) (endIn (chartOf homes table t owner first pairs) n most limit) room r after → Solved (chartOn s) (endOn s) room r after
   unfolding endOn
   solved-on n most limit room after r en em el w =
-      subst (λ (sheet : Sheet). Solved sheet (endIn sheet (contoursOf s) (passesOf s) (moveLimitOf s)) room r after) sheet-is (rw (en, em, el) at w)
+      subst (λ (chart : Chart). Solved chart (endIn chart (contoursOf s) (passesOf s) (moveLimitOf s)) room r after) chart-is (rw (en, em, el) at w)

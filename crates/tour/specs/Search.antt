@@ -9,8 +9,8 @@ use Rattle.fields.specs.Layout.{contoursOf, pairsOf, passesOf, moveLimitOf, hom
 use Rattle.fields.specs.Values.{pointAt}
 use Rattle.card.specs.Names.{seatsOf}
 use Rattle.table.specs.Distances.{distancesOf, homesOf}
-use Rattle.improve.specs.Search.{Sheet, State}
-use Rattle.improve.specs.Code.{sheetOf}
+use Rattle.improve.specs.Search.{Chart, State}
+use Rattle.improve.specs.Code.{chartOf}
 use Rattle.solve.specs.declared.Outcome.{Outcome}
 use Rattle.solve.specs.Solve.{startIn, endIn, outcomeIn}
 use Rattle.instance.specs.Gather.{gathered, owners, firsts}
@@ -45,21 +45,21 @@ abbrev pub tableOn : List ℕ → List Float
 tableOn s = distancesOf (candidatesOn s) (ownersOn s)
 
 -- all of that together
-unfoldable pub sheetOn : List ℕ → Sheet
-sheetOn s = sheetOf (homesOn s) (tableOn s) (countOn s) (ownersOn s) (firstsOn s) (pairsOn s)
+unfoldable pub chartOn : List ℕ → Chart
+chartOn s = chartOf (homesOn s) (tableOn s) (countOn s) (ownersOn s) (firstsOn s) (pairsOn s)
 
 -- the start that respects the pairs
 abbrev pub startOn : List ℕ → List ℕ
-startOn s = startIn (sheetOn s) (contoursOf s)
+startOn s = startIn (chartOn s) (contoursOf s)
 
 -- where the search from it ends
 unfoldable pub endOn : List ℕ → State
-unfolding sheetOn
-endOn s = endIn (sheetOn s) (contoursOf s) (passesOf s) (moveLimitOf s)
+unfolding chartOn
+endOn s = endIn (chartOn s) (contoursOf s) (passesOf s) (moveLimitOf s)
 
 -- the tour, and what is told of it
 abbrev pub tourOn : List ℕ → List ℕ
 tourOn s = endOn s .tour
 
 abbrev pub outcomeOn : List ℕ → Outcome
-outcomeOn s = outcomeIn (sheetOn s) (endOn s)
+outcomeOn s = outcomeIn (chartOn s) (endOn s)

@@ -12,7 +12,7 @@ ghost use Rattle.card.specs.Verdict.{checkOf};
 ghost use Rattle.instance.specs.Room.{instanceOf};
 ghost use Rattle.solve.specs.Solve.{Solved};
 ghost use Rattle.table.specs.Distances.{homed};
-ghost use Rattle.tour.specs.Search.{countOn, tableOn, sheetOn, endOn};
+ghost use Rattle.tour.specs.Search.{countOn, tableOn, chartOn, endOn};
 ghost use Rattle.tour.specs.Tour.{left, noDistances, roomCheck, toured, touredUnless, tourOf};
 ghost use Rattle.tour.specs.Questions.{placeOn, locatedUnless, locatedOf};
 ghost use Rattle.tour.specs.Hosts.{hosted, hostTour, pointed, hostPlace};
@@ -65,7 +65,7 @@ fn run(card: &[u8], all: Instance, room: &mut [u8], table: &mut [f64]) -> Outcom
     requires { ⌜ all ≡ instanceOf (now card) ⌝ }
     requires { do ⌜ (← ⟦room.len()⟧) ≡ contoursOf (now card) ⌝ }
     requires { do ⌜ (← ⟦table.len()⟧) ≡ countOn (now card) * countOn (now card) ⌝ }
-    ensures { λ r. ⌜ Solved (sheetOn (now (card .entry))) (endOn (now (card .entry))) (now (room .entry)) r (now (room .exit)) ⌝ }
+    ensures { λ r. ⌜ Solved (chartOn (now (card .entry))) (endOn (now (card .entry))) (now (room .entry)) r (now (room .exit)) ⌝ }
     ensures { λ r. ⌜ now (table .exit) ≡ tableOn (now (card .entry)) ⌝ }
 {
     let homes = homes_of(all, fields::home(card));
