@@ -39,7 +39,7 @@ unsafe extern "C" {
 
 /// A card as the search reads it, taken from the original's instance: distances from home and between the t candidates,
 /// the contour of each candidate, each contour's first candidate with the count of all at the end, and the pairs by position.
-pub struct Sheet {
+pub struct Chart {
     pub home: Vec<f64>,
     pub table: Vec<f64>,
     pub t: u8,
@@ -48,13 +48,13 @@ pub struct Sheet {
     pub pairs: Vec<u8>,
 }
 
-impl Sheet {
-    pub fn of(card: &Card, problem: &Problem) -> Sheet {
+impl Chart {
+    pub fn of(card: &Card, problem: &Problem) -> Chart {
         let instance = &problem.instance;
         let t = instance.total_candidates;
         let place = |id: u32| card.position(id) as u8;
         let first = instance.cluster_offsets.iter().map(|&k| k as u8).chain([t as u8]);
-        Sheet {
+        Chart {
             home: instance.home_distances.clone(),
             table: instance.distances.concat(),
             t: t as u8,
@@ -73,7 +73,7 @@ impl Sheet {
 
     /// Improves a tour in place; the trials made.
     pub fn improve(&self, tour: &mut [u8], passes: u32, limit: u32) -> u64 {
-        let Sheet { home, table, t, owner, first, pairs } = self;
+        let Chart { home, table, t, owner, first, pairs } = self;
         unsafe {
             probe_improve(
                 home.as_ptr(),
@@ -105,18 +105,18 @@ fn one(r: &Random) -> Result<u64, String> {
     let problem = Problem::of(&card);
     limit_near(r, &mut card, || problem.search(0).moves as u32);
     let what = || format!("{card:?}");
-    let sheet = Sheet::of(&card, &problem);
+    let chart = Chart::of(&card, &problem);
     let start = problem.start();
-    let ours = sheet.evaluate(&bytes(&start)).to_bits();
+    let ours = chart.evaluate(&bytes(&start)).to_bits();
     same(what, ours, evaluate_solution(&problem.instance, &start).to_bits())?;
     let found = problem.search(card.limit);
     let mut tour = bytes(&start);
-    let moves = sheet.improve(&mut tour, u32::from(card.passes), card.limit);
+    let moves = chart.improve(&mut tour, u32::from(card.passes), card.limit);
     same(what, (&tour, moves), (&bytes(&found.tour), found.moves))?;
     if card.limit == 0 {
         same(what, &tour, &bytes(&problem.unlimited()))?;
     }
-    same(what, sheet.evaluate(&tour).to_bits(), found.length)
+    same(what, chart.evaluate(&tour).to_bits(), found.length)
 }
 
 pub fn compare(wanted: Wanted) -> bool {

@@ -4,7 +4,7 @@ use crate::answer::Problem;
 use crate::generate::good;
 use crate::random::Random;
 use crate::run::{Wanted, cases, same};
-use crate::search::{Sheet, bytes};
+use crate::search::{Chart, bytes};
 use original::gtsp::solve_nn;
 
 unsafe extern "C" {
@@ -42,8 +42,8 @@ fn written(n: usize, start: impl FnOnce(*mut u8) -> usize) -> (usize, Vec<u8>) {
 }
 
 /// The start that respects the pairs.
-pub fn constrained(s: &Sheet, n: usize) -> (usize, Vec<u8>) {
-    let Sheet { home, table, t, first, pairs, .. } = s;
+pub fn constrained(s: &Chart, n: usize) -> (usize, Vec<u8>) {
+    let Chart { home, table, t, first, pairs, .. } = s;
     written(n, |tour| unsafe {
         probe_start(
             home.as_ptr(),
@@ -62,7 +62,7 @@ pub fn constrained(s: &Sheet, n: usize) -> (usize, Vec<u8>) {
 }
 
 /// The start that does not.
-fn free(s: &Sheet, n: usize) -> (usize, Vec<u8>) {
+fn free(s: &Chart, n: usize) -> (usize, Vec<u8>) {
     let (home, table, first) = (&s.home, &s.table, &s.first);
     written(n, |tour| unsafe {
         probe_solve_nn(home.as_ptr(), home.len(), table.as_ptr(), table.len(), s.t, first.as_ptr(), first.len(), tour, n)
@@ -73,10 +73,10 @@ fn one(r: &Random) -> Result<u64, String> {
     let card = good(r);
     let n = card.contours.len();
     let problem = Problem::of(&card);
-    let sheet = Sheet::of(&card, &problem);
+    let chart = Chart::of(&card, &problem);
     let what = || format!("{card:?}");
-    same(what, constrained(&sheet, n), (n, bytes(&problem.start())))?;
-    same(what, free(&sheet, n), (n, bytes(&solve_nn(&problem.instance))))?;
+    same(what, constrained(&chart, n), (n, bytes(&problem.start())))?;
+    same(what, free(&chart, n), (n, bytes(&solve_nn(&problem.instance))))?;
     Ok(2)
 }
 

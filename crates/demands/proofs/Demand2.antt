@@ -23,7 +23,7 @@ use Rattle.card_laws.proofs.Facts.{accepted}
 use Rattle.card_laws.proofs.Verdicts.{exactly}
 use Rattle.table.specs.Distances.{absent}
 use Rattle.table.proofs.DistanceLaws.{homes-at, same-contour, other-contour}
-use Rattle.improve.specs.Search.{Sheet, State, lengthIn, swap, alternative, turn, flip, reversal, row, pass, repeated, judged, atLimit, tried, begun, worthwhile, searched}
+use Rattle.improve.specs.Search.{Chart, State, lengthIn, swap, alternative, turn, flip, reversal, row, pass, repeated, judged, atLimit, tried, begun, worthwhile, searched}
 use Rattle.improve.proofs.Keeps.{Carries, search-carries, Keeps, search-keeps}
 use Rattle.improve.proofs.TourLaws.{moves-at-most}
 use Rattle.improve.specs.After.{After, here, swapped, flipped}
@@ -34,7 +34,7 @@ use Rattle.instance.proofs.FineLaws.{outline-whole}
 use Rattle.instance.proofs.OwnerLaws.{first-at, gathered-grows, owner-at}
 use Rattle.solve.specs.declared.Outcome.{Outcome}
 use Rattle.tour.specs.declared.Toured.the-variants.{Done}
-use Rattle.instance.specs.Search.{homeOn, candidatesOn, countOn, ownersOn, sheetOn}
+use Rattle.instance.specs.Search.{homeOn, candidatesOn, countOn, ownersOn, chartOn}
 use Rattle.tour.specs.Search.{startOn, endOn, tourOn, outcomeOn}
 use Rattle.tour.specs.Tour.{Left, tourOf}
 use Rattle.demands.specs.Demand2.{ownOn, Numbered, Apart, Trials, begunOn, searchOn, passesOn, Begins, Order, Cut, Claim}
@@ -122,26 +122,28 @@ begins M trial v = record {
   over = λ c. rw c;
 }
 
-no-other : (sheet : Sheet) (M n k : ℕ) (v : State) → (k ≡ 0) ⊎ ((v .better ≡ false) ⊎ (v .cut ≡ true)) → repeated sheet M n k v ≡ v
+no-other : (chart : Chart) (M n k : ℕ) (v : State) → (k ≡ 0) ⊎ ((v .better ≡ false) ⊎ (v .cut ≡ true))
+    → repeated chart M n k v ≡ v
 unfolding repeated
-no-other sheet M n k v (inl e) = rw e
-no-other sheet M n k v (inr (inl e)) = repeat-quiet sheet M n k v e
-no-other sheet M n k v (inr (inr e)) = repeat-cut sheet M n k v e
+no-other chart M n k v (inl e) = rw e
+no-other chart M n k v (inr (inl e)) = repeat-quiet chart M n k v e
+no-other chart M n k v (inr (inr e)) = repeat-cut chart M n k v e
 
-whole : (s : List ℕ) → checkOf s ≡ Fine → (M most : ℕ) → 3 ≤ contoursOf s → searched (sheetOn s) most M (startOn s) ≡ passesOn s M most (begunOn s)
+whole : (s : List ℕ) → checkOf s ≡ Fine → (M most : ℕ) → 3 ≤ contoursOf s
+    → searched (chartOn s) most M (startOn s) ≡ passesOn s M most (begunOn s)
 unfolding searched repeated
 whole s fine M zero h = refl
 whole s fine M (suc k) h = rw (start-long s fine, lt-ltb 0 (suc k) (omega arith), le-leb 3 (contoursOf s) h, le-leb (contoursOf s) CONTOURS (accepted s fine .few-contours))
 
 order : (s : List ℕ) → checkOf s ≡ Fine → (M : ℕ) → Order s M
-unfolding sheetOn turn alternative row reversal pass repeated
+unfolding chartOn turn alternative row reversal pass repeated
 order s fine M = record {
   begins = begins M;
   turns = λ p v. refl;
   rows = λ i v. refl;
   passes = λ v. refl;
   another = λ k v b c. rw (b, c);
-  no-other = no-other (sheetOn s) M (contoursOf s);
+  no-other = no-other (chartOn s) M (contoursOf s);
   search = whole s fine M (passesOf s);
 }
 
@@ -150,9 +152,9 @@ order s fine M = record {
 module _ (s : List ℕ) where
   never-cut : searchOn s 0 .cut ≡ false
   unfolding swap flip judged
-  never-cut = search-keeps (sheetOn s) (passesOf s) 0 (startOn s) (λ v. v .cut ≡ false) keeps refl
+  never-cut = search-keeps (chartOn s) (passesOf s) 0 (startOn s) (λ v. v .cut ≡ false) keeps refl
     where
-      keeps : Keeps (sheetOn s) 0 (length (startOn s)) (λ v. v .cut ≡ false)
+      keeps : Keeps (chartOn s) 0 (length (startOn s)) (λ v. v .cut ≡ false)
       keeps = record {
         stops = λ v l q. absurd (true≢false (sym l ∙ not-at-limit 0 (v .moves) (inl refl)));
         begins = λ v q. q;
@@ -160,28 +162,35 @@ module _ (s : List ℕ) where
         flips = λ i j v h g m q. q;
       }
 
-  cut-short : (M : ℕ) → 0 < M → M < searchOn s 0 .moves → (searchOn s M .moves ≡ M) × ((k : ℕ) × After (sheetOn s) (length (startOn s)) (searchOn s M) (suc k) (searchOn s 0))
-  cut-short M h l = go (search-twin (sheetOn s) (passesOf s) M 0 (startOn s) (looser-none M))
+  cut-short : (M : ℕ) → 0 < M → M < searchOn s 0 .moves
+      → (searchOn s M .moves ≡ M)
+      × ((k : ℕ) × After (chartOn s) (length (startOn s)) (searchOn s M) (suc k) (searchOn s 0))
+  cut-short M h l = go (search-twin (chartOn s) (passesOf s) M 0 (startOn s) (looser-none M))
     where
       most : searchOn s M .moves ≤ M
-      most = moves-at-most (sheetOn s) (passesOf s) M (startOn s) h
+      most = moves-at-most (chartOn s) (passesOf s) M (startOn s) h
 
-      go : Twin (sheetOn s) (length (startOn s)) (searchOn s M) (searchOn s 0) → (searchOn s M .moves ≡ M) × ((k : ℕ) × After (sheetOn s) (length (startOn s)) (searchOn s M) (suc k) (searchOn s 0))
+      go : Twin (chartOn s) (length (startOn s)) (searchOn s M) (searchOn s 0)
+          → (searchOn s M .moves ≡ M)
+          × ((k : ℕ) × After (chartOn s) (length (startOn s)) (searchOn s M) (suc k) (searchOn s 0))
       go (inl e) = let f : searchOn s M .moves ≡ searchOn s 0 .moves = ap (λ (v : State). v .moves) e in absurd (omega (arith, most))
-      go (inr w) = let least = cut-at-limit (sheetOn s) (passesOf s) M (startOn s) (w .0) in (omega (arith, most), w .1)
+      go (inr w) = let least = cut-at-limit (chartOn s) (passesOf s) M (startOn s) (w .0) in (omega (arith, most), w .1)
 
   -- with one trial more allowed, one more is made: the two cannot be the same, since they count differently
-  one-further : (M : ℕ) → 0 < M → M < searchOn s 0 .moves → After (sheetOn s) (length (startOn s)) (searchOn s M) 1 (searchOn s (suc M))
-  one-further M h l = go (one-more (sheetOn s) (passesOf s) M (startOn s) h)
+  one-further : (M : ℕ) → 0 < M → M < searchOn s 0 .moves
+      → After (chartOn s) (length (startOn s)) (searchOn s M) 1 (searchOn s (suc M))
+  one-further M h l = go (one-more (chartOn s) (passesOf s) M (startOn s) h)
     where
       next : (suc M < searchOn s 0 .moves) ⊎ (searchOn s 0 .moves ≤ suc M) → searchOn s (suc M) .moves ≡ suc M
       next (inl g) = cut-short (suc M) (omega arith) g .0
       next (inr g) =
-          let e : searchOn s (suc M) .moves ≡ searchOn s 0 .moves = ap (λ (v : State). v .moves) (limit-idle (sheetOn s) (passesOf s) (suc M) (startOn s) g) in
+          let e : searchOn s (suc M) .moves ≡ searchOn s 0 .moves =
+          ap (λ (v : State). v .moves) (limit-idle (chartOn s) (passesOf s) (suc M) (startOn s) g) in
           omega arith
 
-      go : (searchOn s M ≡ searchOn s (suc M)) ⊎ ((searchOn s M .cut ≡ true) × After (sheetOn s) (length (startOn s)) (searchOn s M) 1 (searchOn s (suc M)))
-          → After (sheetOn s) (length (startOn s)) (searchOn s M) 1 (searchOn s (suc M))
+      go : (searchOn s M ≡ searchOn s (suc M))
+          ⊎ ((searchOn s M .cut ≡ true) × After (chartOn s) (length (startOn s)) (searchOn s M) 1 (searchOn s (suc M)))
+          → After (chartOn s) (length (startOn s)) (searchOn s M) 1 (searchOn s (suc M))
       go (inl e) =
           let f : searchOn s M .moves ≡ searchOn s (suc M) .moves = ap (λ (v : State). v .moves) e in
           let now = cut-short M h l .0 in
@@ -191,27 +200,40 @@ module _ (s : List ℕ) where
 
   -- every trial counted was made
   abbrev Reached : State → Type 0
-  Reached v = (k : ℕ) × After (sheetOn s) (length (startOn s)) (begunOn s) k v
+  Reached v = (k : ℕ) × After (chartOn s) (length (startOn s)) (begunOn s) k v
 
-  trial-by-trial : (M : ℕ) → Carries (sheetOn s) M (length (startOn s)) Reached (λ p held. Reached)
+  trial-by-trial : (M : ℕ) → Carries (chartOn s) M (length (startOn s)) Reached (λ p held. Reached)
   trial-by-trial M = record {
-    stops = λ v l q. (q .0, after-level (sheetOn s) (length (startOn s)) (begunOn s) (q .1) (record { tour = refl; cost = refl; moves = refl }));
-    begins = λ v q. (q .0, after-level (sheetOn s) (length (startOn s)) (begunOn s) (q .1) (record { tour = refl; cost = refl; moves = refl }));
+    stops = λ v l q. (
+      q .0,
+      after-level (chartOn s) (length (startOn s)) (begunOn s) (q .1)
+          (record { tour = refl; cost = refl; moves = refl }),
+    );
+    begins = λ v q. (
+      q .0,
+      after-level (chartOn s) (length (startOn s)) (begunOn s) (q .1)
+          (record { tour = refl; cost = refl; moves = refl }),
+    );
     flips = λ i j v h g m q. (suc (q .0), flipped i j h g (q .1) (level-refl _));
     enters = λ p v q. q;
-    rests = λ p held v l q. (q .0, after-level (sheetOn s) (length (startOn s)) (begunOn s) (q .1) (record { tour = refl; cost = refl; moves = refl }));
+    rests = λ p held v l q. (
+      q .0,
+      after-level (chartOn s) (length (startOn s)) (begunOn s) (q .1)
+          (record { tour = refl; cost = refl; moves = refl }),
+    );
     swaps = λ p held a v h o m q. (suc (q .0), swapped p held a h o (q .1) (level-refl _));
     leaves = λ p held v q. q;
   }
 
-  all-made : (M : ℕ) → After (sheetOn s) (length (startOn s)) (begunOn s) (searchOn s M .moves) (searchOn s M)
+  all-made : (M : ℕ) → After (chartOn s) (length (startOn s)) (begunOn s) (searchOn s M .moves) (searchOn s M)
   all-made M =
-      let r = search-carries (sheetOn s) (passesOf s) M (startOn s) Reached (λ p held. Reached) (trial-by-trial M) (0, here (level-refl _)) in
-      let e = after-counts (sheetOn s) (length (startOn s)) (begunOn s) (r .1) in
+      let r = search-carries (chartOn s) (passesOf s) M (startOn s) Reached (λ p held. Reached) (trial-by-trial M)
+      (0, here (level-refl _)) in
+      let e = after-counts (chartOn s) (length (startOn s)) (begunOn s) (r .1) in
       let k : r .0 ≡ searchOn s M .moves = omega arith in
-      subst (λ (z : ℕ). After (sheetOn s) (length (startOn s)) (begunOn s) z (searchOn s M)) k (r .1)
+      subst (λ (z : ℕ). After (chartOn s) (length (startOn s)) (begunOn s) z (searchOn s M)) k (r .1)
 
-  stays : (M : ℕ) → worthwhile (passesOf s) (length (startOn s)) ≡ false → searchOn s M ≡ begun (sheetOn s) (startOn s)
+  stays : (M : ℕ) → worthwhile (passesOf s) (length (startOn s)) ≡ false → searchOn s M ≡ begun (chartOn s) (startOn s)
   unfolding searched
   stays M e = rw e
 
@@ -222,11 +244,14 @@ not-worthwhile most n (inr h) = rw (lt-leb 3 n h) (and-false (ltb 0 most))
 
 limit : (s : List ℕ) → checkOf s ≡ Fine → Cut s
 limit s fine = record {
-  enough = λ M h. limit-idle (sheetOn s) (passesOf s) M (startOn s) h;
-  made = λ M. subst (λ (n : ℕ). After (sheetOn s) n (begunOn s) (searchOn s M .moves) (searchOn s M)) (start-long s fine) (all-made s M);
+  enough = λ M h. limit-idle (chartOn s) (passesOf s) M (startOn s) h;
+  made = λ M. subst (λ (n : ℕ). After (chartOn s) n (begunOn s) (searchOn s M .moves) (searchOn s M))
+      (start-long s fine) (all-made s M);
   cut = λ M h l.
-      subst (λ (n : ℕ). (searchOn s M .moves ≡ M) × ((k : ℕ) × After (sheetOn s) n (searchOn s M) (suc k) (searchOn s 0))) (start-long s fine) (cut-short s M h l);
-  one-more = λ M h l. subst (λ (n : ℕ). After (sheetOn s) n (searchOn s M) 1 (searchOn s (suc M))) (start-long s fine) (one-further s M h l);
+      subst (λ (n : ℕ). (searchOn s M .moves ≡ M)
+      × ((k : ℕ) × After (chartOn s) n (searchOn s M) (suc k) (searchOn s 0))) (start-long s fine) (cut-short s M h l);
+  one-more = λ M h l. subst (λ (n : ℕ). After (chartOn s) n (searchOn s M) 1 (searchOn s (suc M))) (start-long s fine)
+      (one-further s M h l);
   unlimited = never-cut s;
   idle = λ M w. (
       let e = stays s M (not-worthwhile (passesOf s) (length (startOn s)) (rw (start-long s fine) w)) in
@@ -236,7 +261,7 @@ limit s fine = record {
 -- ---- the answer
 
 pub claim : Claim
-unfolding endOn sheetOn
+unfolding endOn chartOn
 claim s room table told h =
     let clear = toured-if s room table told h in
     let fine = exactly s .fine-if (fine-nothing s room table clear .sound) in
@@ -258,6 +283,6 @@ claim s room table told h =
         legal-so = tour-legal s fine;
         distances = ap (λ (l : Left). l .table) all;
         moves = ap (λ (o : Outcome). o .moves) (sym e);
-        rapid = ap (λ (o : Outcome). o .length) (sym e) ∙ ap (lengthIn (sheetOn s)) (sym front);
+        rapid = ap (λ (o : Outcome). o .length) (sym e) ∙ ap (lengthIn (chartOn s)) (sym front);
       };
     }

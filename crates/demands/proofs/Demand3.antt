@@ -21,7 +21,7 @@ use Rattle.improve.specs.Search.{lengthIn}
 use Rattle.improve.proofs.LengthLaws.{never-longer}
 use Rattle.solve.specs.declared.Outcome.{Outcome}
 use Rattle.tour.specs.declared.Toured.the-variants.{Done}
-use Rattle.instance.specs.Search.{sheetOn}
+use Rattle.instance.specs.Search.{chartOn}
 use Rattle.tour.specs.Search.{startOn, endOn, tourOn, outcomeOn}
 use Rattle.tour.specs.Tour.{Left, tourOf}
 use Rattle.tour_laws.proofs.TourLaws.{start-visits, tour-long, tour-legal, tour-visits}
@@ -44,10 +44,10 @@ module _ (s : List ℕ) (fine : checkOf s ≡ Fine) (grid : OnGrid s) where
   abbrev bound : (a : ℕ) × Enough (contoursOf s) a (nearness (contoursOf s))
   bound = enough (contoursOf s) (accepted s fine .few-contours)
 
-  no-longer : T (le (lengthIn (sheetOn s) (tourOn s)) (lengthIn (sheetOn s) (startOn s)))
+  no-longer : T (le (lengthIn (chartOn s) (tourOn s)) (lengthIn (chartOn s) (startOn s)))
   unfolding endOn
   no-longer =
-      never-longer (sheetOn s) (passesOf s) (moveLimitOf s) (startOn s) (home-fits s grid)
+      never-longer (chartOn s) (passesOf s) (moveLimitOf s) (startOn s) (home-fits s grid)
       (number-of s grid (bound .0) (nearness (contoursOf s)) (bound .1) (startOn s) (start-visits s fine))
 
   not-longer : upperEnd (legsOn s (tourOn s)) * step40

@@ -21,7 +21,7 @@ use Rattle.exact.proofs.SumLaws.{length-plain}
 use Rattle.exact.proofs.RouteLaws.{computed, squares, route-legs, route-near, route-length, route-excess}
 use Rattle.improve.specs.Search.{lengthIn}
 use Rattle.improve.proofs.LengthLaws.{HomeFits}
-use Rattle.instance.specs.Search.{homeOn, candidatesOn, countOn, ownersOn, homesOn, sheetOn}
+use Rattle.instance.specs.Search.{homeOn, candidatesOn, countOn, ownersOn, homesOn, chartOn}
 use Rattle.tour_laws.specs.Visits.{AllBelow, Visits}
 use Rattle.tour_laws.proofs.GatherLaws.{ends-gathered}
 use Rattle.tour_laws.proofs.RouteLaws.{evaluated}
@@ -39,14 +39,14 @@ module _ (s : List ℕ) (grid : OnGrid s) where
   few-stops : (tour : List ℕ) → Visits s tour → length (map (stopOn s) tour) ≤ contoursOf s
   few-stops tour v = let e = length-map tour (stopOn s) in omega (arith, v .long)
 
-  length-is : (tour : List ℕ) → Visits s tour → lengthIn (sheetOn s) tour ≡ computed (homeOn s) (map (stopOn s) tour)
-  unfolding sheetOn
+  length-is : (tour : List ℕ) → Visits s tour → lengthIn (chartOn s) tour ≡ computed (homeOn s) (map (stopOn s) tour)
+  unfolding chartOn
   length-is tour v =
       evaluated (candidatesOn s) (ownersOn s) (homeOn s) (ends-gathered s (contoursOf s)) tour (rides s tour v)
 
   -- every distance from home is a number that the format has
-  pub home-fits : HomeFits (sheetOn s .home)
-  unfolding sheetOn fits
+  pub home-fits : HomeFits (chartOn s .home)
+  unfolding chartOn fits
   home-fits a = go (lt-or a (countOn s))
     where
       go : (a < countOn s) ⊎ (countOn s ≤ a) → T (fits binary64 (getD (homesOn s) a nan))
@@ -61,14 +61,14 @@ module _ (s : List ℕ) (grid : OnGrid s) where
 
   module _ (a b : ℕ) (enough : Enough (contoursOf s) a b) where
     -- the computed length of a tour is near to the exact one
-    pub near-of : (tour : List ℕ) → Visits s tour → NearEnds b (lengthIn (sheetOn s) tour) (legsOn s tour)
+    pub near-of : (tour : List ℕ) → Visits s tour → NearEnds b (lengthIn (chartOn s) tour) (legsOn s tour)
     near-of tour v =
         subst (λ (x : Float). NearEnds b x (legsOn s tour)) (sym (length-is tour v))
         (route-length (contoursOf s) a b (homeOn s) (map (stopOn s) tour) enough (grid .home)
         (stops-on tour (v .among)) (few-stops tour v))
 
     -- it is a number, so that it can be compared
-    pub number-of : (tour : List ℕ) → Visits s tour → T (le (lengthIn (sheetOn s) tour) (lengthIn (sheetOn s) tour))
+    pub number-of : (tour : List ℕ) → Visits s tour → T (le (lengthIn (chartOn s) tour) (lengthIn (chartOn s) tour))
     number-of tour v =
         let stops = map (stopOn s) tour in
         let legs = route-near (homeOn s) stops (grid .home) (stops-on tour (v .among)) in
@@ -80,10 +80,10 @@ module _ (s : List ℕ) (grid : OnGrid s) where
 
     -- a tour that is computed no longer than an order is exactly no longer, but for twice the bound
     pub excess-of : (tour order : List ℕ) → Visits s tour → Visits s order
-        → T (le (lengthIn (sheetOn s) tour) (lengthIn (sheetOn s) order))
+        → T (le (lengthIn (chartOn s) tour) (lengthIn (chartOn s) order))
         → upperEnd (legsOn s tour) * step40 ≤ lowerEnd (legsOn s order) * step40 + 2 * (b * step40)
     excess-of tour order v w h =
         route-excess (contoursOf s) a b (homeOn s) (map (stopOn s) tour) (map (stopOn s) order) enough (grid .home)
         (stops-on tour (v .among)) (few-stops tour v) (stops-on order (w .among)) (few-stops order w)
         (subst (λ (x : Float). T (le x (computed (homeOn s) (map (stopOn s) order)))) (length-is tour v)
-        (subst (λ (y : Float). T (le (lengthIn (sheetOn s) tour) y)) (length-is order w) h))
+        (subst (λ (y : Float). T (le (lengthIn (chartOn s) tour) y)) (length-is order w) h))

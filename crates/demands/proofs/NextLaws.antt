@@ -26,7 +26,7 @@ use Rattle.start.proofs.ChoiceLaws.{chosen-fair}
 use Rattle.instance.proofs.OwnerLaws.{gathered-grows, first-at}
 use Rattle.solve.specs.Solve.{groundIn}
 use Rattle.card.specs.Names.{pairsOn}
-use Rattle.instance.specs.Search.{homeOn, candidatesOn, countOn, ownersOn, firstsOn, homesOn, tableOn, sheetOn}
+use Rattle.instance.specs.Search.{homeOn, candidatesOn, countOn, ownersOn, firstsOn, homesOn, tableOn, chartOn}
 use Rattle.tour.specs.Search.{startOn}
 use Rattle.demands.specs.Demand2.{wayOn, reachOn, Ready, Takes, Starts}
 use Rattle.tour_laws.specs.Visits.{AllBelow}
@@ -63,7 +63,7 @@ step-grows g n i w =
 
 module _ (s : List ℕ) (fine : checkOf s ≡ Fine) where
   abbrev g : Ground
-  g = groundIn (sheetOn s)
+  g = groundIn (chartOn s)
 
   way-next : (p : ℕ) → wayOn s (suc p) ≡ step g (contoursOf s) p (wayOn s p)
   way-next p = each-last (step g (contoursOf s)) p 0 setOut ∙ ap (λ (i : ℕ). step g (contoursOf s) i (wayOn s p)) (zero-add p)
@@ -97,7 +97,7 @@ module _ (s : List ℕ) (fine : checkOf s ≡ Fine) where
   -- ---- the distances are real
 
   below : (p : ℕ) → AllBelow (countOn s) (wayOn s p .tour)
-  unfolding AllBelow sheetOn
+  unfolding AllBelow chartOn
   below p = each-keeps (λ w. AllBelow (countOn s) (w .tour)) (step g (contoursOf s)) p 0 (λ i l h w. step-below g (contoursOf s) (countOn s) i w (firsts-below s (contoursOf s))) setOut tt
 
   home-real : (b : ℕ) → b < countOn s → Real (getD (homesOn s) b nan)
@@ -138,7 +138,7 @@ module _ (s : List ℕ) (fine : checkOf s ≡ Fine) where
   takes : (i : ℕ) (w : Way) → AllBelow (countOn s) (w .tour)
       → let choice = chosen (reachOn s w) (firstsOn s) (pairsOn s) (w .visited) (contoursOf s) in choice .found ≡ true
       → Takes s w (step g (contoursOf s) i w) (choice .candidate)
-  unfolding step visit sheetOn
+  unfolding step visit chartOn
   takes i w h e =
       let fair = chosen-fair (reachOn s w) (firstsOn s) (pairsOn s) (w .visited) (contoursOf s) e in
       record {
@@ -152,7 +152,7 @@ module _ (s : List ℕ) (fine : checkOf s ≡ Fine) where
   -- a step that finds nothing leaves the tour as it was
   idle : (i : ℕ) (w : Way) → let choice = chosen (reachOn s w) (firstsOn s) (pairsOn s) (w .visited) (contoursOf s) in choice .found ≡ false
       → step g (contoursOf s) i w .tour ≡ w .tour
-  unfolding step visit sheetOn
+  unfolding step visit chartOn
   idle i w e = rw e
 
   steps : (p : ℕ) → p < contoursOf s → (a : ℕ) × Takes s (wayOn s p) (wayOn s (suc p)) a

@@ -128,7 +128,7 @@ of-search = record {
   nn-constrained = λ g n room x y e f. pair (e .counted ∙ sym (f .counted)) (e .held ∙ sym (f .held));
   solve-nn = λ home table t first n room x y e f. pair (e .counted ∙ sym (f .counted)) (e .held ∙ sym (f .held));
   improve = λ s x y e f. pair (e .counted ∙ sym (f .counted)) (e .held ∙ sym (f .held));
-  solve-constrained = λ sheet s room x y e f. pair (e .told ∙ sym (f .told)) (e .held ∙ sym (f .held));
+  solve-constrained = λ chart s room x y e f. pair (e .told ∙ sym (f .told)) (e .held ∙ sym (f .held));
 }
 
 of-tours : OfTours

@@ -27,7 +27,7 @@ use Rattle.solve.specs.declared.Outcome.{Outcome}
 use Rattle.solve.specs.Solve.{groundIn}
 use Rattle.tour.specs.declared.Toured.the-variants.{Done}
 use Rattle.card.specs.Names.{pairsOn}
-use Rattle.instance.specs.Search.{homeOn, candidatesOn, countOn, ownersOn, firstsOn, homesOn, tableOn, sheetOn}
+use Rattle.instance.specs.Search.{homeOn, candidatesOn, countOn, ownersOn, firstsOn, homesOn, tableOn, chartOn}
 use Rattle.tour.specs.Search.{startOn}
 use Rattle.tour.specs.Tour.{tourOf}
 
@@ -63,7 +63,7 @@ pub record Apart (s : List ℕ) (a b : ℕ) : Type 0 where
 
 -- how far the start has come after p steps: its tour, and a flag for each contour visited
 abbrev pub wayOn : List ℕ → ℕ → Way
-wayOn s p = each (step (groundIn (sheetOn s)) (contoursOf s)) p 0 setOut
+wayOn s p = each (step (groundIn (chartOn s)) (contoursOf s)) p 0 setOut
 
 -- how far candidate a is from there: from home at first, then from the last candidate
 abbrev pub reachOn : List ℕ → Way → ℕ → Float
@@ -95,14 +95,14 @@ pub record Starts (s : List ℕ) : Type 0 where
 
 -- the length of a tour of the card
 abbrev pub longOn : List ℕ → List ℕ → Float
-longOn s tour = lengthIn (sheetOn s) tour
+longOn s tour = lengthIn (chartOn s) tour
 
 -- the two trials: candidate a at position p, where `held` was held when its turn began; and the stretch from i+1 to j reversed
 abbrev pub otherOn : List ℕ → ℕ → ℕ → ℕ → State → State
-otherOn s p held a v = swap (longOn s) p held a v
+otherOn s p held a v = swap (chartOn s) p held a v
 
 abbrev pub reversalOn : List ℕ → ℕ → ℕ → State → State
-reversalOn s i j v = flip (longOn s) (legal (sheetOn s)) i j v
+reversalOn s i j v = flip (chartOn s) i j v
 
 -- a trial leaves this tour, this length to beat, and so many trials made
 pub record Leaves (after : State) (tour : List ℕ) (cost : Float) (moves : ℕ) : Type 0 where
@@ -117,33 +117,35 @@ pub record Trials (s : List ℕ) (v : State) : Type 0 where
       → Leaves (otherOn s p held a v) (set (v .tour) p a) (longOn s (set (v .tour) p a)) (suc (v .moves))
   pub other-left : (p held a : ℕ) → shorter (longOn s (set (v .tour) p a)) (v .cost) ≡ false
       → Leaves (otherOn s p held a v) (set (v .tour) p held) (v .cost) (suc (v .moves))
-  pub reversal-taken : (i j : ℕ) → shorter (longOn s (reversed i j (v .tour))) (v .cost) ≡ true → legal (sheetOn s) (reversed i j (v .tour)) ≡ true
+  pub reversal-taken : (i j : ℕ) → shorter (longOn s (reversed i j (v .tour))) (v .cost) ≡ true
+      → legal (chartOn s) (reversed i j (v .tour)) ≡ true
       → Leaves (reversalOn s i j v) (reversed i j (v .tour)) (longOn s (reversed i j (v .tour))) (suc (v .moves))
   pub reversal-longer : (i j : ℕ) → shorter (longOn s (reversed i j (v .tour))) (v .cost) ≡ false
       → Leaves (reversalOn s i j v) (v .tour) (v .cost) (suc (v .moves))
-  pub reversal-illegal : (i j : ℕ) → legal (sheetOn s) (reversed i j (v .tour)) ≡ false → Leaves (reversalOn s i j v) (v .tour) (v .cost) (suc (v .moves))
+  pub reversal-illegal : (i j : ℕ) → legal (chartOn s) (reversed i j (v .tour)) ≡ false
+      → Leaves (reversalOn s i j v) (v .tour) (v .cost) (suc (v .moves))
 
 -- ---- the order of the trials, with a limit of M; 0 is none
 
 -- the turn of position p, the reversals that begin after position i, a pass, and at most k passes
 abbrev pub turnOn : List ℕ → ℕ → ℕ → State → State
-turnOn s M p v = turn (longOn s) (ownersOn s) (firstsOn s) M p v
+turnOn s M p v = turn (chartOn s) M p v
 
 abbrev pub rowOn : List ℕ → ℕ → ℕ → State → State
-rowOn s M i v = row (longOn s) (legal (sheetOn s)) M (contoursOf s) i v
+rowOn s M i v = row (chartOn s) M (contoursOf s) i v
 
 abbrev pub passOn : List ℕ → ℕ → State → State
-passOn s M v = pass (sheetOn s) M (contoursOf s) v
+passOn s M v = pass (chartOn s) M (contoursOf s) v
 
 abbrev pub passesOn : List ℕ → ℕ → ℕ → State → State
-passesOn s M k v = repeated (sheetOn s) M (contoursOf s) k v
+passesOn s M k v = repeated (chartOn s) M (contoursOf s) k v
 
 -- the state in which a search begins, the start and its length; and the one in which it ends
 abbrev pub begunOn : List ℕ → State
-begunOn s = begun (sheetOn s) (startOn s)
+begunOn s = begun (chartOn s) (startOn s)
 
 abbrev pub searchOn : List ℕ → ℕ → State
-searchOn s M = searched (sheetOn s) (passesOf s) M (startOn s)
+searchOn s M = searched (chartOn s) (passesOf s) M (startOn s)
 
 -- a trial begins if the search has not ended and the limit allows one more; where it does not, the search ends
 pub record Begins (M : ℕ) (trial : State → State) (v : State) : Type 0 where
@@ -173,11 +175,12 @@ pub record Order (s : List ℕ) (M : ℕ) : Type 0 where
 -- many trials, a limit higher by one lets it make one trial more, and without a limit it goes on from there and is never cut. Where no pass
 -- is allowed or there are fewer than three contours, it stays at the start and makes no trial
 pub record Cut (s : List ℕ) : Type 0 where
-  pub made : (M : ℕ) → After (sheetOn s) (contoursOf s) (begunOn s) (searchOn s M .moves) (searchOn s M)
+  pub made : (M : ℕ) → After (chartOn s) (contoursOf s) (begunOn s) (searchOn s M .moves) (searchOn s M)
   pub enough : (M : ℕ) → searchOn s 0 .moves ≤ M → searchOn s M ≡ searchOn s 0
   pub cut : (M : ℕ) → 0 < M → M < searchOn s 0 .moves
-      → (searchOn s M .moves ≡ M) × ((k : ℕ) × After (sheetOn s) (contoursOf s) (searchOn s M) (suc k) (searchOn s 0))
-  pub one-more : (M : ℕ) → 0 < M → M < searchOn s 0 .moves → After (sheetOn s) (contoursOf s) (searchOn s M) 1 (searchOn s (suc M))
+      → (searchOn s M .moves ≡ M) × ((k : ℕ) × After (chartOn s) (contoursOf s) (searchOn s M) (suc k) (searchOn s 0))
+  pub one-more : (M : ℕ) → 0 < M → M < searchOn s 0 .moves
+      → After (chartOn s) (contoursOf s) (searchOn s M) 1 (searchOn s (suc M))
   pub unlimited : searchOn s 0 .cut ≡ false
   pub idle : (M : ℕ) → (passesOf s ≡ 0) ⊎ (contoursOf s < 3) → (searchOn s M .tour ≡ startOn s) × (searchOn s M .moves ≡ 0)
 

@@ -36,7 +36,7 @@ use Rattle.fields.specs.Values.{asType, asPreference, pointAt}
 use Rattle.reader.specs.declared.Width.{Width}
 use Rattle.reader.specs.declared.Reader.{Reader}
 use Rattle.reader.specs.Fields.{fieldAt}
-use Rattle.reader.specs.OnCard.{headOf, contourOf}
+use Rattle.reader.specs.OnCard.{headOf, contourRead}
 use Rattle.card.specs.Stages.{positionOf}
 use Rattle.card.specs.Names.{namedOf}
 use Rattle.card.specs.Verdict.{checkOf}
@@ -44,7 +44,7 @@ use Rattle.table.specs.Evaluate.{homeAt, distanceAt, lengthOf}
 use Rattle.table.specs.Distances.{tabled, homed}
 use Rattle.start.specs.Nearest.{Ground, nearest}
 use Rattle.start.specs.Code.{groundOf, Written}
-use Rattle.improve.specs.Search.{Sheet, State}
+use Rattle.improve.specs.Search.{Chart, State}
 use Rattle.improve.specs.Code.{Reached}
 use Rattle.instance.specs.declared.Instance.{Instance}
 use Rattle.instance.specs.Room.{instanceOf}
@@ -154,7 +154,7 @@ pub record OfReader : Type 0 where
   pub left : (r : Reader) → OneAnswer (Is (length (now (r .src)) - r .at))
   pub read-field : (s : List ℕ) (at : ℕ) (width : Width) → OneAnswer (Is (fieldAt s at width))
   pub read-head : (s : List ℕ) → OneAnswer (Is (headOf s))
-  pub read-contour : (s : List ℕ) (k : ℕ) → OneAnswer (Is (contourOf s k))
+  pub read-contour : (s : List ℕ) (k : ℕ) → OneAnswer (Is (contourRead s k))
 
 -- table, start, improve and solve; where a room is lent, an answer is a pair: what is told, and the room afterwards
 pub record OfSearch : Type 0 where
@@ -169,7 +169,8 @@ pub record OfSearch : Type 0 where
   pub solve-nn : (home table : List Float) (t : ℕ) (first : List ℕ) (n : ℕ) (room : List ℕ)
       → OneAnswer {A = ℕ × List ℕ} (λ a. Written (nearest (groundOf home table t first []) n) room (a .0) (a .1))
   pub improve : (s : State) → OneAnswer {A = ℕ × List ℕ} (λ a. Reached (a .0) (a .1) s)
-  pub solve-constrained : (sheet : Sheet) (s : State) (room : List ℕ) → OneAnswer {A = Outcome × List ℕ} (λ a. Solved sheet s room (a .0) (a .1))
+  pub solve-constrained : (chart : Chart) (s : State) (room : List ℕ)
+      → OneAnswer {A = Outcome × List ℕ} (λ a. Solved chart s room (a .0) (a .1))
 
 -- tour and questions, on a card's bytes; with the lent rooms and numbers afterwards
 pub record OfTours : Type 0 where

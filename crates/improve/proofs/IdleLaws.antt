@@ -21,3 +21,10 @@ pub halt : (step : ℕ → State → State) (end a : ℕ) (s next whole : State)
     → onwards step end a s ≡ whole → a < end → step a s ≡ next → next .cut ≡ true → next ≡ whole
 halt step end a s next whole idle so-far h e cut =
     sym (each-idle step idle (end - (a + 1)) (a + 1) next cut) ∙ begin step end (a + 1) next ∙ carry step end a s next whole so-far h e
+
+-- loops whose steps do the same
+pub each-same : (f g : ℕ → State → State) → ((a : ℕ) (s : State) → f a s ≡ g a s) → (k a : ℕ) (s : State)
+    → each f k a s ≡ each g k a s
+unfolding each
+each-same f g same zero a s = refl
+each-same f g same (suc k) a s = let q : f a s ≡ g a s = same a s in rw q (each-same f g same k (suc a) (g a s))

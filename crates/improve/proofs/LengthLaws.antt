@@ -13,7 +13,7 @@ use lib.ListN.{length, set}
 use lib.Seq.{set-set}
 use Rattle.table.specs.Evaluate.{homeAt, addLeg, lengthOf}
 use Rattle.table.specs.Walk.{legs, walk}
-use Rattle.improve.specs.Search.{Sheet, State, lengthIn, legal, margin, shorter, judged, swap, reversed, flip, searched}
+use Rattle.improve.specs.Search.{Chart, State, lengthIn, legal, margin, shorter, judged, swap, reversed, flip, searched}
 use Rattle.improve.proofs.FloatOrder.{le-trans-float, lt→le, less-off, le-self}
 use Rattle.improve.proofs.Keeps.{Keeps, search-keeps}
 
@@ -48,24 +48,26 @@ shorter-le x c h n e =
 -- ---- the search
 
 -- neither the length that counts nor the tour held is longer than L
-record NoLonger (sheet : Sheet) (L : Float) (s : State) : Type 0 where
+record NoLonger (chart : Chart) (L : Float) (s : State) : Type 0 where
   counts : T (le (s .cost) L)
-  held : T (le (lengthIn sheet (s .tour)) L)
+  held : T (le (lengthIn chart (s .tour)) L)
   fit : T (fits binary64 (s .cost))
 
-module _ (sheet : Sheet) (limit n : ℕ) (L : Float) (home : HomeFits (sheet .home)) where
+module _ (chart : Chart) (limit n : ℕ) (L : Float) (home : HomeFits (chart .home)) where
   -- a new tour is accepted, or the tour given back stands
-  judged-no-longer : (accepted : Bool) (new back : List ℕ) (s : State) → (accepted ≡ true → shorter (lengthIn sheet new) (s .cost) ≡ true) → NoLonger sheet L s
-      → T (le (lengthIn sheet back) L) → NoLonger sheet L (judged accepted new (lengthIn sheet new) back s)
+  judged-no-longer : (accepted : Bool) (new back : List ℕ) (s : State)
+      → (accepted ≡ true → shorter (lengthIn chart new) (s .cost) ≡ true) → NoLonger chart L s
+      → T (le (lengthIn chart back) L) → NoLonger chart L (judged accepted new (lengthIn chart new) back s)
   unfolding judged
   judged-no-longer true new back s e w b =
-      let less : T (le (lengthIn sheet new) L) =
-      le-trans-float (lengthIn sheet new) (s .cost) L (shorter-le (lengthIn sheet new) (s .cost) (w .fit) (le-self (s .cost) L (w .counts)) (e refl)) (w .counts) in
-      record { counts = less; held = less; fit = length-fits (sheet .home) (sheet .table) (sheet .t) new home }
+      let less : T (le (lengthIn chart new) L) =
+      le-trans-float (lengthIn chart new) (s .cost) L
+      (shorter-le (lengthIn chart new) (s .cost) (w .fit) (le-self (s .cost) L (w .counts)) (e refl)) (w .counts) in
+      record { counts = less; held = less; fit = length-fits (chart .home) (chart .table) (chart .t) new home }
   judged-no-longer false new back s e w b = record { counts = w .counts; held = b; fit = w .fit }
 
-  with-tour : (s : State) (tour : List ℕ) → NoLonger sheet L s → T (le (lengthIn sheet tour) L)
-      → NoLonger sheet L (record { tour = tour; cost = s .cost; better = s .better; moves = s .moves; cut = s .cut })
+  with-tour : (s : State) (tour : List ℕ) → NoLonger chart L s → T (le (lengthIn chart tour) L)
+      → NoLonger chart L (record { tour = tour; cost = s .cost; better = s .better; moves = s .moves; cut = s .cut })
   with-tour s tour w h = record { counts = w .counts; held = h; fit = w .fit }
 
   first-of : (a b : Bool) → (a && b) ≡ true → a ≡ true
@@ -76,7 +78,7 @@ module _ (sheet : Sheet) (limit n : ℕ) (L : Float) (home : HomeFits (sheet .ho
   back-again true tour p held a = set-set tour p a held
   back-again false tour p held a = set-set tour p held held
 
-  no-longer : Keeps sheet limit n (NoLonger sheet L)
+  no-longer : Keeps chart limit n (NoLonger chart L)
   unfolding swap flip judged
   no-longer = record {
     stops = λ s l w. record { counts = w .counts; held = w .held; fit = w .fit };
@@ -84,20 +86,24 @@ module _ (sheet : Sheet) (limit n : ℕ) (L : Float) (home : HomeFits (sheet .ho
     swaps = λ p held a s h o m w b.
         let new = set (s .tour) p a in
         let back = set (s .tour) p held in
-        let after : NoLonger sheet L (judged (shorter (lengthIn sheet new) (s .cost)) new (lengthIn sheet new) back s) =
-        judged-no-longer (shorter (lengthIn sheet new) (s .cost)) new back s (λ e. e) w (b .held) in (
+        let after : NoLonger chart L (judged (shorter (lengthIn chart new) (s .cost)) new (lengthIn chart new) back s) =
+        judged-no-longer (shorter (lengthIn chart new) (s .cost)) new back s (λ e. e) w (b .held) in (
           after,
-          with-tour (judged (shorter (lengthIn sheet new) (s .cost)) new (lengthIn sheet new) back s) _ after
-              (subst (λ (z : List ℕ). T (le (lengthIn sheet z) L)) (sym (back-again (shorter (lengthIn sheet new) (s .cost)) (s .tour) p held a)) (b .held)),
+          with-tour (judged (shorter (lengthIn chart new) (s .cost)) new (lengthIn chart new) back s) _ after
+              (subst (λ (z : List ℕ). T (le (lengthIn chart z) L))
+              (sym (back-again (shorter (lengthIn chart new) (s .cost)) (s .tour) p held a)) (b .held)),
         );
     flips = λ i j s h g m w.
-        judged-no-longer (shorter (lengthIn sheet (reversed i j (s .tour))) (s .cost) && legal sheet (reversed i j (s .tour))) (reversed i j (s .tour)) (s .tour) s
+        let new = reversed i j (s .tour) in
+        judged-no-longer (shorter (lengthIn chart new) (s .cost) && legal chart new) new (s .tour) s
         (λ e. first-of _ _ e) w (w .held);
   }
 
 -- the tour handed back evaluates to no more than the one handed in, where that evaluates to a number
-pub never-longer : (sheet : Sheet) (most limit : ℕ) (tour : List ℕ) → HomeFits (sheet .home) → T (le (lengthIn sheet tour) (lengthIn sheet tour))
-    → T (le (lengthIn sheet (searched sheet most limit tour .tour)) (lengthIn sheet tour))
-never-longer sheet most limit tour home n =
-    search-keeps sheet most limit tour (NoLonger sheet (lengthIn sheet tour)) (no-longer sheet limit (length tour) (lengthIn sheet tour) home)
-    (record { counts = n; held = n; fit = length-fits (sheet .home) (sheet .table) (sheet .t) tour home }) .held
+pub never-longer : (chart : Chart) (most limit : ℕ) (tour : List ℕ) → HomeFits (chart .home)
+    → T (le (lengthIn chart tour) (lengthIn chart tour))
+    → T (le (lengthIn chart (searched chart most limit tour .tour)) (lengthIn chart tour))
+never-longer chart most limit tour home n =
+    search-keeps chart most limit tour (NoLonger chart (lengthIn chart tour))
+    (no-longer chart limit (length tour) (lengthIn chart tour) home)
+    (record { counts = n; held = n; fit = length-fits (chart .home) (chart .table) (chart .t) tour home }) .held

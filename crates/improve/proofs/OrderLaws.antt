@@ -6,18 +6,19 @@ use native.Mathlib.Numerals.{add-one}
 use native.Mathlib.Omega.{arith}
 use lib.ListN.{length, getD, set, take}
 use lib.Seq.{take-suc, take-suc-set, take-all}
-use Rattle.improve.specs.Search.{contourOf, contours}
+use Rattle.improve.specs.Search.{ownerOf, contours}
 
 contours-append : (owner a b : List ℕ) → contours owner (a ++ b) ≡ contours owner a ++ contours owner b
 unfolding contours
 contours-append owner [] b = refl
-contours-append owner (x ∷ a) b = ap (λ (l : List ℕ). contourOf owner x ∷ l) (contours-append owner a b)
+contours-append owner (x ∷ a) b = ap (λ (l : List ℕ). ownerOf owner x ∷ l) (contours-append owner a b)
 
 pub order-none : (owner : List ℕ) → [] ≡ contours owner []
 unfolding contours
 order-none owner = refl
 
-pub order-more : (owner tour order : List ℕ) (i v : ℕ) → i < length tour → i < length order → v ≡ contourOf owner (getD tour i 0)
+pub order-more : (owner tour order : List ℕ) (i v : ℕ) → i < length tour → i < length order
+    → v ≡ ownerOf owner (getD tour i 0)
     → take i order ≡ contours owner (take i tour) → take (i + 1) (set order i v) ≡ contours owner (take (i + 1) tour)
 unfolding contours
 order-more owner tour order i v h g e so-far =

@@ -12,36 +12,36 @@ use lib.ListN.{length}
 use Rattle.closure.specs.Limits.{CONTOURS}
 use Rattle.table.proofs.EachLaws.{onwards, arrive}
 use Rattle.table.specs.Each.{each}
-use Rattle.improve.specs.Code.{going, stateOf, Reached}
-use Rattle.improve.specs.Search.{Sheet, State, lengthIn, legal, turn, reversal, row, pass, repeated, begun, worthwhile, searched}
+use Rattle.improve.specs.Code.{unpaired, going, stateOf, Reached}
+use Rattle.improve.specs.Search.{Chart, State, lengthIn, turn, reversal, row, pass, repeated, begun, worthwhile, searched}
 use Rattle.improve.specs.declared.Progress.{Progress}
 use Rattle.improve.proofs.IdleLaws.{each-idle, halt}
-use Rattle.improve.proofs.TrialLaws.{ended, row-idle, reversal-idle, goes-on}
+use Rattle.improve.proofs.TrialLaws.{ended, row-idle, reversal-idle, turns-read, goes-on}
 
 -- ---- the passes
 
 -- the first pass begins with the length of the tour handed in
-pub repeat-begin : (sheet : Sheet) (limit n most : ℕ) (tour : List ℕ) (cost : Float) → cost ≡ lengthIn sheet tour
-    → repeated sheet limit n (most - 0) (going tour cost true 0) ≡ repeated sheet limit n most (begun sheet tour)
-repeat-begin sheet limit n most tour cost e = rw (sub-zero most, e)
+pub repeat-begin : (chart : Chart) (limit n most : ℕ) (tour : List ℕ) (cost : Float) → cost ≡ lengthIn chart tour
+    → repeated chart limit n (most - 0) (going tour cost true 0) ≡ repeated chart limit n most (begun chart tour)
+repeat-begin chart limit n most tour cost e = rw (sub-zero most, e)
 
 -- a search that has ended, or whose last pass accepted nothing, is over
-pub repeat-cut : (sheet : Sheet) (limit n k : ℕ) (s : State) → s .cut ≡ true → repeated sheet limit n k s ≡ s
+pub repeat-cut : (chart : Chart) (limit n k : ℕ) (s : State) → s .cut ≡ true → repeated chart limit n k s ≡ s
 unfolding repeated
-repeat-cut sheet limit n zero s e = refl
-repeat-cut sheet limit n (suc k) s e = go (s .better)
+repeat-cut chart limit n zero s e = refl
+repeat-cut chart limit n (suc k) s e = go (s .better)
   where
-    go : (b : Bool) → cond (b && not (s .cut)) (repeated sheet limit n k (pass sheet limit n s)) s ≡ s
+    go : (b : Bool) → cond (b && not (s .cut)) (repeated chart limit n k (pass chart limit n s)) s ≡ s
     go true = rw e
     go false = refl
 
-pub repeat-quiet : (sheet : Sheet) (limit n k : ℕ) (s : State) → s .better ≡ false → repeated sheet limit n k s ≡ s
+pub repeat-quiet : (chart : Chart) (limit n k : ℕ) (s : State) → s .better ≡ false → repeated chart limit n k s ≡ s
 unfolding repeated
-repeat-quiet sheet limit n zero s e = refl
-repeat-quiet sheet limit n (suc k) s e = rw e
+repeat-quiet chart limit n zero s e = refl
+repeat-quiet chart limit n (suc k) s e = rw e
 
-module _ (sheet : Sheet) (limit n most done : ℕ) (tour : List ℕ) (cost : Float) (moves : ℕ) (whole : State)
-    (so-far : repeated sheet limit n (most - done) (going tour cost true moves) ≡ whole) where
+module _ (chart : Chart) (limit n most done : ℕ) (tour : List ℕ) (cost : Float) (moves : ℕ) (whole : State)
+    (so-far : repeated chart limit n (most - done) (going tour cost true moves) ≡ whole) where
   -- no pass is left
   pub repeat-over : most ≤ done → going tour cost true moves ≡ whole
   unfolding repeated
@@ -50,67 +50,76 @@ module _ (sheet : Sheet) (limit n most done : ℕ) (tour : List ℕ) (cost : Flo
   module _ (h : done < most) where
     -- one pass more
     repeat-more : (s : State)
-        → each (row (lengthIn sheet) (legal sheet) limit n) (n - 1) 0 (each (turn (lengthIn sheet) (sheet .owner) (sheet .first) limit) n 0 (going tour cost false moves)) ≡ s
-        → repeated sheet limit n (most - (done + 1)) s ≡ whole
+        → each (row chart limit n) (n - 1) 0 (each (turn chart limit) n 0 (going tour cost false moves)) ≡ s
+        → repeated chart limit n (most - (done + 1)) s ≡ whole
     unfolding repeated pass
     repeat-more s e =
         let left : most - done ≡ suc (most - (done + 1)) = omega arith in
-        let q : repeated sheet limit n (most - (done + 1)) (each (row (lengthIn sheet) (legal sheet) limit n) (n - 1) 0 (each (turn (lengthIn sheet) (sheet .owner) (sheet .first) limit) n 0 (going tour cost false moves))) ≡ whole =
+        let q : repeated chart limit n (most - (done + 1))
+        (each (row chart limit n) (n - 1) 0 (each (turn chart limit) n 0 (going tour cost false moves))) ≡ whole =
         rw left at so-far in
         rw (← e) q
 
-    module _ (after : List ℕ) (r : Progress) (turned : stateOf after r ≡ each (turn (lengthIn sheet) (sheet .owner) (sheet .first) limit) n 0 (going tour cost false moves)) where
+    module _ (after : List ℕ) (r : Progress) (read : stateOf after r
+        ≡ each (turn (unpaired chart) limit) n 0 (going tour cost false moves)) where
+      turned : stateOf after r ≡ each (turn chart limit) n 0 (going tour cost false moves)
+      turned = read ∙ turns-read chart limit n (going tour cost false moves)
+
       -- left among the turns
       pub cut-in-turns : r .cut ≡ true → stateOf after r ≡ whole
       cut-in-turns c =
-          let e : each (row (lengthIn sheet) (legal sheet) limit n) (n - 1) 0 (stateOf after r) ≡ stateOf after r =
-          each-idle _ (row-idle (lengthIn sheet) (legal sheet) limit n) (n - 1) 0 (stateOf after r) c in
-          sym (repeat-cut sheet limit n (most - (done + 1)) (stateOf after r) c)
-          ∙ repeat-more (stateOf after r) (ap (each (row (lengthIn sheet) (legal sheet) limit n) (n - 1) 0) (sym turned) ∙ e)
+          let e : each (row chart limit n) (n - 1) 0 (stateOf after r) ≡ stateOf after r =
+          each-idle _ (row-idle chart limit n) (n - 1) 0 (stateOf after r) c in
+          sym (repeat-cut chart limit n (most - (done + 1)) (stateOf after r) c)
+          ∙ repeat-more (stateOf after r) (ap (each (row chart limit n) (n - 1) 0) (sym turned) ∙ e)
 
       module _ (goes : r .cut ≡ false) where
         -- the turns are over and the reversals begin
-        after-turns : (s : State) → s ≡ each (row (lengthIn sheet) (legal sheet) limit n) (n - 1) 0 (going after (r .cost) (r .better) (r .moves))
-            → each (row (lengthIn sheet) (legal sheet) limit n) (n - 1) 0 (each (turn (lengthIn sheet) (sheet .owner) (sheet .first) limit) n 0 (going tour cost false moves)) ≡ s
-        after-turns s e = ap (each (row (lengthIn sheet) (legal sheet) limit n) (n - 1) 0) (goes-on after r _ turned goes) ∙ sym e
+        after-turns : (s : State) → s ≡ each (row chart limit n) (n - 1) 0
+            (going after (r .cost) (r .better) (r .moves))
+            → each (row chart limit n) (n - 1) 0 (each (turn chart limit) n 0 (going tour cost false moves)) ≡ s
+        after-turns s e = ap (each (row chart limit n) (n - 1) 0) (goes-on after r _ turned goes) ∙ sym e
 
         -- left among the reversals
         pub cut-in-rows : (held : List ℕ) (c : Float) (b : Bool) (m : ℕ) (i j : ℕ) (held' : List ℕ) (c' : Float) (b' : Bool) (m' : ℕ)
-            → onwards (row (lengthIn sheet) (legal sheet) limit n) (n - 1) i (going held c b m)
-            ≡ each (row (lengthIn sheet) (legal sheet) limit n) (n - 1) 0 (going after (r .cost) (r .better) (r .moves))
+            → onwards (row chart limit n) (n - 1) i (going held c b m)
+            ≡ each (row chart limit n) (n - 1) 0 (going after (r .cost) (r .better) (r .moves))
             → i < n - 1
-            → onwards (reversal (lengthIn sheet) (legal sheet) limit i) n j (going held' c' b' m')
-            ≡ each (reversal (lengthIn sheet) (legal sheet) limit i) (n - (i + 2)) (i + 2) (going held c b m)
+            → onwards (reversal chart limit i) n j (going held' c' b' m')
+            ≡ each (reversal chart limit i) (n - (i + 2)) (i + 2) (going held c b m)
             → j < n
-            → reversal (lengthIn sheet) (legal sheet) limit i j (going held' c' b' m') ≡ ended held' c' b' m'
+            → reversal chart limit i j (going held' c' b' m') ≡ ended held' c' b' m'
             → ended held' c' b' m' ≡ whole
         unfolding row
         cut-in-rows held c b m i j held' c' b' m' rows hi cells hj stops =
-            let one : ended held' c' b' m' ≡ row (lengthIn sheet) (legal sheet) limit n i (going held c b m) =
-            halt _ n j _ _ _ (reversal-idle (lengthIn sheet) (legal sheet) limit i) cells hj stops refl in
-            let all : ended held' c' b' m' ≡ each (row (lengthIn sheet) (legal sheet) limit n) (n - 1) 0 (going after (r .cost) (r .better) (r .moves)) =
-            halt _ (n - 1) i _ _ _ (row-idle (lengthIn sheet) (legal sheet) limit n) rows hi (sym one) refl in
-            sym (repeat-cut sheet limit n (most - (done + 1)) (ended held' c' b' m') refl) ∙ repeat-more _ (after-turns _ all)
+            let one : ended held' c' b' m' ≡ row chart limit n i (going held c b m) =
+            halt _ n j _ _ _ (reversal-idle chart limit i) cells hj stops refl in
+            let all : ended held' c' b' m' ≡ each (row chart limit n) (n - 1) 0
+            (going after (r .cost) (r .better) (r .moves)) =
+            halt _ (n - 1) i _ _ _ (row-idle chart limit n) rows hi (sym one) refl in
+            sym (repeat-cut chart limit n (most - (done + 1)) (ended held' c' b' m') refl)
+            ∙ repeat-more _ (after-turns _ all)
 
         module _ (held : List ℕ) (c : Float) (m i : ℕ) (hi : n - 1 ≤ i) where
           -- the pass is over, and accepted something
-          pub pass-again : (b : Bool) → onwards (row (lengthIn sheet) (legal sheet) limit n) (n - 1) i (going held c b m)
-              ≡ each (row (lengthIn sheet) (legal sheet) limit n) (n - 1) 0 (going after (r .cost) (r .better) (r .moves))
-              → b ≡ true → repeated sheet limit n (most - (done + 1)) (going held c true m) ≡ whole
+          pub pass-again : (b : Bool) → onwards (row chart limit n) (n - 1) i (going held c b m)
+              ≡ each (row chart limit n) (n - 1) 0 (going after (r .cost) (r .better) (r .moves))
+              → b ≡ true → repeated chart limit n (most - (done + 1)) (going held c true m) ≡ whole
           pass-again b rows e = repeat-more _ (after-turns _ (rw (← e) (arrive _ _ _ _ _ rows hi)))
 
           -- or it accepted nothing
-          pub pass-quiet : (b : Bool) → onwards (row (lengthIn sheet) (legal sheet) limit n) (n - 1) i (going held c b m)
-              ≡ each (row (lengthIn sheet) (legal sheet) limit n) (n - 1) 0 (going after (r .cost) (r .better) (r .moves))
+          pub pass-quiet : (b : Bool) → onwards (row chart limit n) (n - 1) i (going held c b m)
+              ≡ each (row chart limit n) (n - 1) 0 (going after (r .cost) (r .better) (r .moves))
               → b ≡ false → going held c b m ≡ whole
           pass-quiet b rows e =
-              sym (repeat-quiet sheet limit n (most - (done + 1)) (going held c b m) e) ∙ repeat-more _ (after-turns _ (arrive _ _ _ _ _ rows hi))
+              sym (repeat-quiet chart limit n (most - (done + 1)) (going held c b m) e)
+              ∙ repeat-more _ (after-turns _ (arrive _ _ _ _ _ rows hi))
 
 -- a row is its reversals
-pub row-is : (long : List ℕ → Float) (allowed : List ℕ → Bool) (limit n i : ℕ) (s after : State)
-    → after ≡ each (reversal long allowed limit i) (n - (i + 2)) (i + 2) s → row long allowed limit n i s ≡ after
+pub row-is : (chart : Chart) (limit n i : ℕ) (s after : State)
+    → after ≡ each (reversal chart limit i) (n - (i + 2)) (i + 2) s → row chart limit n i s ≡ after
 unfolding row
-row-is long allowed limit n i s after e = sym e
+row-is chart limit n i s after e = sym e
 
 -- the trials and the tour of the state that was reached
 pub reached : (s whole : State) → s ≡ whole → Reached (s .moves) (s .tour) whole
@@ -123,23 +132,24 @@ moves-fit done passes before turned i rows j cells n a b c d e f g h k = omega a
 
 -- ---- whether there is anything to do
 
-unworthy : (sheet : Sheet) (most limit : ℕ) (tour : List ℕ) → worthwhile most (length tour) ≡ false → Reached 0 tour (searched sheet most limit tour)
+unworthy : (chart : Chart) (most limit : ℕ) (tour : List ℕ) → worthwhile most (length tour) ≡ false
+    → Reached 0 tour (searched chart most limit tour)
 unfolding searched
-unworthy sheet most limit tour e = rw e (record { counted = refl; held = refl })
+unworthy chart most limit tour e = rw e (record { counted = refl; held = refl })
 
-module _ (sheet : Sheet) (most limit : ℕ) (tour : List ℕ) where
-  pub no-passes : most ≡ 0 → Reached 0 tour (searched sheet most limit tour)
-  no-passes e = unworthy sheet most limit tour (rw e)
+module _ (chart : Chart) (most limit : ℕ) (tour : List ℕ) where
+  pub no-passes : most ≡ 0 → Reached 0 tour (searched chart most limit tour)
+  no-passes e = unworthy chart most limit tour (rw e)
 
-  pub too-few : length tour < 3 → Reached 0 tour (searched sheet most limit tour)
-  too-few h = unworthy sheet most limit tour (go (ltb 0 most))
+  pub too-few : length tour < 3 → Reached 0 tour (searched chart most limit tour)
+  too-few h = unworthy chart most limit tour (go (ltb 0 most))
     where
       go : (b : Bool) → (b && (leb 3 (length tour) && leb (length tour) CONTOURS)) ≡ false
       go true = rw (lt-leb 3 (length tour) h)
       go false = refl
 
-  pub too-many : CONTOURS < length tour → Reached 0 tour (searched sheet most limit tour)
-  too-many h = unworthy sheet most limit tour (go (ltb 0 most) (leb 3 (length tour)))
+  pub too-many : CONTOURS < length tour → Reached 0 tour (searched chart most limit tour)
+  too-many h = unworthy chart most limit tour (go (ltb 0 most) (leb 3 (length tour)))
     where
       go : (b d : Bool) → (b && (d && leb (length tour) CONTOURS)) ≡ false
       go true true = lt-leb (length tour) CONTOURS h
@@ -148,7 +158,8 @@ module _ (sheet : Sheet) (most limit : ℕ) (tour : List ℕ) where
       go false false = refl
 
   pub worthy : (moves : ℕ) (after : List ℕ) → (most ≡ 0 → ⊥) → 3 ≤ length tour → length tour ≤ CONTOURS
-      → Reached moves after (repeated sheet limit (length tour) most (begun sheet tour)) → Reached moves after (searched sheet most limit tour)
+      → Reached moves after (repeated chart limit (length tour) most (begun chart tour))
+      → Reached moves after (searched chart most limit tour)
   unfolding searched
   worthy moves after p h g w =
       let one : ltb 0 most ≡ true = lt-ltb 0 most (omega arith) in

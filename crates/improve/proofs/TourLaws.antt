@@ -12,7 +12,7 @@ use lib.Seq.{set-set}
 use Rattle.bytes.proofs.Laws.{rev-append}
 use Rattle.bytes.specs.Bytes.{rev}
 use Rattle.keep.specs.Keep.{keepsPairs}
-use Rattle.improve.specs.Search.{Sheet, State, lengthIn, contourOf, contours, legal, shorter, judged, atLimit, swap, turned, reversed, flip, searched}
+use Rattle.improve.specs.Search.{Chart, State, lengthIn, ownerOf, contours, legal, shorter, judged, atLimit, swap, turned, reversed, flip, searched}
 use Rattle.improve.specs.After.{Offers}
 use Rattle.improve.proofs.Keeps.{Keeps, search-keeps}
 use Rattle.improve.proofs.ReversalLaws.{Parts, parts, turned-parts, length-turned}
@@ -20,21 +20,24 @@ use Rattle.improve.proofs.ReversalLaws.{Parts, parts, turned-parts, len
 -- ---- properties of the tour alone
 
 -- a property of tours that another candidate of the same contour keeps, and a legal reversal
-pub record KeepsTour (sheet : Sheet) (n : ℕ) (T : List ℕ → Type 0) : Type 0 where
-  pub swapped : (p held a : ℕ) (tour : List ℕ) → p < n → Offers (sheet .owner) (sheet .first) held a → T (set tour p held) → T (set tour p a)
-  pub flipped : (i j : ℕ) (tour : List ℕ) → i < j → j < n → legal sheet (reversed i j tour) ≡ true → T tour → T (reversed i j tour)
+pub record KeepsTour (chart : Chart) (n : ℕ) (T : List ℕ → Type 0) : Type 0 where
+  pub swapped : (p held a : ℕ) (tour : List ℕ) → p < n → Offers chart held a → T (set tour p held) → T (set tour p a)
+  pub flipped : (i j : ℕ) (tour : List ℕ) → i < j → j < n → legal chart (reversed i j tour) ≡ true → T tour
+      → T (reversed i j tour)
 
-pub tour-keeps : (sheet : Sheet) (limit n : ℕ) (T : List ℕ → Type 0) → KeepsTour sheet n T → Keeps sheet limit n (λ s. T (s .tour))
+pub tour-keeps : (chart : Chart) (limit n : ℕ) (T : List ℕ → Type 0) → KeepsTour chart n T
+    → Keeps chart limit n (λ s. T (s .tour))
 unfolding swap flip judged
-tour-keeps sheet limit n T keeps = record {
+tour-keeps chart limit n T keeps = record {
   stops = λ s l q. q;
   begins = λ s q. q;
   swaps = λ p held a s h o m q b.
       let new : T (set (s .tour) p a) = keeps .swapped p held a (s .tour) h o b in (
-        either (shorter (lengthIn sheet (set (s .tour) p a)) (s .cost)) new b,
-        again p held a s (shorter (lengthIn sheet (set (s .tour) p a)) (s .cost)) b,
+        either (shorter (lengthIn chart (set (s .tour) p a)) (s .cost)) new b,
+        again p held a s (shorter (lengthIn chart (set (s .tour) p a)) (s .cost)) b,
       );
-  flips = λ i j s h g m q. judge i j s h g q (shorter (lengthIn sheet (reversed i j (s .tour))) (s .cost)) (legal sheet (reversed i j (s .tour))) refl;
+  flips = λ i j s h g m q. judge i j s h g q (shorter (lengthIn chart (reversed i j (s .tour))) (s .cost))
+      (legal chart (reversed i j (s .tour))) refl;
 }
   where
     either : {x y : List ℕ} (b : Bool) → T x → T y → T (cond b x y)
@@ -45,7 +48,8 @@ tour-keeps sheet limit n T keeps = record {
     again p held a s true w = rw (set-set (s .tour) p a held) w
     again p held a s false w = rw (set-set (s .tour) p held held) w
 
-    judge : (i j : ℕ) (s : State) → i < j → j < n → T (s .tour) → (b l : Bool) → legal sheet (reversed i j (s .tour)) ≡ l
+    judge : (i j : ℕ) (s : State) → i < j → j < n → T (s .tour) → (b l : Bool)
+        → legal chart (reversed i j (s .tour)) ≡ l
         → T (cond (b && l) (reversed i j (s .tour)) (s .tour))
     judge i j s h g q true true e = keeps .flipped i j (s .tour) h g e q
     judge i j s h g q true false e = q
@@ -54,15 +58,17 @@ tour-keeps sheet limit n T keeps = record {
 
 -- ---- as long as it was
 
-long-enough : (sheet : Sheet) (n : ℕ) → KeepsTour sheet n (λ tour. length tour ≡ n)
-long-enough sheet n = record {
+long-enough : (chart : Chart) (n : ℕ) → KeepsTour chart n (λ tour. length tour ≡ n)
+long-enough chart n = record {
   swapped = λ p held a tour h o e. simp length-set (simp length-set at e);
   flipped = λ i j tour h g l e. length-turned (suc i) (suc j) tour (omega arith) (omega arith) ∙ e;
 }
 
-pub same-length : (sheet : Sheet) (most limit : ℕ) (tour : List ℕ) → length (searched sheet most limit tour .tour) ≡ length tour
-same-length sheet most limit tour =
-    search-keeps sheet most limit tour (λ s. length (s .tour) ≡ length tour) (tour-keeps sheet limit (length tour) _ (long-enough sheet (length tour))) refl
+pub same-length : (chart : Chart) (most limit : ℕ) (tour : List ℕ)
+    → length (searched chart most limit tour .tour) ≡ length tour
+same-length chart most limit tour =
+    search-keeps chart most limit tour (λ s. length (s .tour) ≡ length tour)
+    (tour-keeps chart limit (length tour) _ (long-enough chart (length tour))) refl
 
 -- ---- the same contours
 
@@ -77,7 +83,7 @@ Shuffled l m = (x : ℕ) → times x l ≡ times x m
 
 -- the candidates numbered from a contour's first to the next one's are that contour's
 abbrev pub Grouped : List ℕ → List ℕ → Type 0
-Grouped owner first = (k a : ℕ) → getD first k 0 ≤ a → a < getD first (suc k) 0 → contourOf owner a ≡ k
+Grouped owner first = (k a : ℕ) → getD first k 0 ≤ a → a < getD first (suc k) 0 → ownerOf owner a ≡ k
 
 -- how often a tour meets contour x
 met : List ℕ → ℕ → List ℕ → ℕ
@@ -116,55 +122,65 @@ met-turned owner x f t l h g = go (parts f t l h g)
         ap (met owner x) e ∙ m ∙ ap (met owner x) (sym (p .joined))
 
 -- another candidate of the same contour changes no contour
-contours-set : (owner l : List ℕ) (p a b : ℕ) → contourOf owner a ≡ contourOf owner b → contours owner (set l p a) ≡ contours owner (set l p b)
+contours-set : (owner l : List ℕ) (p a b : ℕ) → ownerOf owner a ≡ ownerOf owner b
+    → contours owner (set l p a) ≡ contours owner (set l p b)
 unfolding contours
 contours-set owner [] p a b e = refl
 contours-set owner (x ∷ l) zero a b e = rw e
-contours-set owner (x ∷ l) (suc p) a b e = ap (λ (m : List ℕ). contourOf owner x ∷ m) (contours-set owner l p a b e)
+contours-set owner (x ∷ l) (suc p) a b e = ap (λ (m : List ℕ). ownerOf owner x ∷ m) (contours-set owner l p a b e)
 
 -- a candidate offered for another is of the same contour
-same-contour : (owner first : List ℕ) (held a : ℕ) → Grouped owner first → Offers owner first held a → contourOf owner a ≡ contourOf owner held
-same-contour owner first held a grouped o = grouped (contourOf owner held) a (o .from) (o .to)
+same-contour : (chart : Chart) (held a : ℕ) → Grouped (chart .owner) (chart .first) → Offers chart held a
+    → ownerOf (chart .owner) a ≡ ownerOf (chart .owner) held
+same-contour chart held a grouped o = grouped (ownerOf (chart .owner) held) a (o .from) (o .to)
 
 -- a tour of n that meets the same contours as the first
 pub record Alike (owner : List ℕ) (n : ℕ) (from tour : List ℕ) : Type 0 where
   pub long : length tour ≡ n
   pub shuffled : Shuffled (contours owner tour) (contours owner from)
 
-alike : (sheet : Sheet) (n : ℕ) (from : List ℕ) → Grouped (sheet .owner) (sheet .first) → KeepsTour sheet n (Alike (sheet .owner) n from)
+alike : (chart : Chart) (n : ℕ) (from : List ℕ) → Grouped (chart .owner) (chart .first)
+    → KeepsTour chart n (Alike (chart .owner) n from)
 unfolding met
-alike sheet n from grouped = record {
+alike chart n from grouped = record {
   swapped = λ p held a tour h o w. record {
-    long = long-enough sheet n .swapped p held a tour h o (w .long);
-    shuffled = λ x. ap (times x) (contours-set (sheet .owner) tour p a held (same-contour (sheet .owner) (sheet .first) held a grouped o)) ∙ w .shuffled x;
+    long = long-enough chart n .swapped p held a tour h o (w .long);
+    shuffled = λ x. ap (times x) (contours-set (chart .owner) tour p a held (same-contour chart held a grouped o))
+        ∙ w .shuffled x;
   };
   flipped = λ i j tour h g l w. record {
-    long = long-enough sheet n .flipped i j tour h g l (w .long);
-    shuffled = λ x. met-turned (sheet .owner) x (suc i) (suc j) tour (omega arith) (omega (arith, w .long)) ∙ w .shuffled x;
+    long = long-enough chart n .flipped i j tour h g l (w .long);
+    shuffled = λ x. met-turned (chart .owner) x (suc i) (suc j) tour (omega arith) (omega (arith, w .long))
+        ∙ w .shuffled x;
   };
 }
 
 -- the search hands back a tour over the very contours of the one handed in, each as often: once, where each stood there once
-pub contours-kept : (sheet : Sheet) (most limit : ℕ) (tour : List ℕ) → Grouped (sheet .owner) (sheet .first)
-    → Shuffled (contours (sheet .owner) (searched sheet most limit tour .tour)) (contours (sheet .owner) tour)
-contours-kept sheet most limit tour grouped =
-    search-keeps sheet most limit tour (λ s. Alike (sheet .owner) (length tour) tour (s .tour))
-    (tour-keeps sheet limit (length tour) _ (alike sheet (length tour) tour grouped)) (record { long = refl; shuffled = λ x. refl }) .shuffled
+pub contours-kept : (chart : Chart) (most limit : ℕ) (tour : List ℕ) → Grouped (chart .owner) (chart .first)
+    → Shuffled (contours (chart .owner) (searched chart most limit tour .tour)) (contours (chart .owner) tour)
+contours-kept chart most limit tour grouped =
+    search-keeps chart most limit tour (λ s. Alike (chart .owner) (length tour) tour (s .tour))
+    (tour-keeps chart limit (length tour) _ (alike chart (length tour) tour grouped))
+    (record { long = refl; shuffled = λ x. refl }) .shuffled
 
 -- ---- legal
 
-lawful : (sheet : Sheet) (n : ℕ) → Grouped (sheet .owner) (sheet .first) → KeepsTour sheet n (λ tour. legal sheet tour ≡ true)
-lawful sheet n grouped = record {
+lawful : (chart : Chart) (n : ℕ) → Grouped (chart .owner) (chart .first)
+    → KeepsTour chart n (λ tour. legal chart tour ≡ true)
+lawful chart n grouped = record {
   swapped = λ p held a tour h o e.
-      ap (λ (l : List ℕ). keepsPairs l (sheet .pairs)) (contours-set (sheet .owner) tour p a held (same-contour (sheet .owner) (sheet .first) held a grouped o)) ∙ e;
+      ap (λ (l : List ℕ). keepsPairs l (chart .pairs))
+      (contours-set (chart .owner) tour p a held (same-contour chart held a grouped o)) ∙ e;
   flipped = λ i j tour h g l e. l;
 }
 
 -- from a legal tour the search comes to legal tours only
-pub legal-kept : (sheet : Sheet) (most limit : ℕ) (tour : List ℕ) → Grouped (sheet .owner) (sheet .first) → legal sheet tour ≡ true
-    → legal sheet (searched sheet most limit tour .tour) ≡ true
-legal-kept sheet most limit tour grouped e =
-    search-keeps sheet most limit tour (λ s. legal sheet (s .tour) ≡ true) (tour-keeps sheet limit (length tour) _ (lawful sheet (length tour) grouped)) e
+pub legal-kept : (chart : Chart) (most limit : ℕ) (tour : List ℕ) → Grouped (chart .owner) (chart .first)
+    → legal chart tour ≡ true
+    → legal chart (searched chart most limit tour .tour) ≡ true
+legal-kept chart most limit tour grouped e =
+    search-keeps chart most limit tour (λ s. legal chart (s .tour) ≡ true)
+    (tour-keeps chart limit (length tour) _ (lawful chart (length tour) grouped)) e
 
 -- ---- no more trials than allowed
 
@@ -172,9 +188,9 @@ room-left : (limit moves : ℕ) → 0 < limit → atLimit limit moves ≡ false 
 unfolding atLimit
 room-left limit moves h e = leb-false limit moves (rw (lt-ltb 0 limit h) at e)
 
-within : (sheet : Sheet) (limit n : ℕ) → 0 < limit → Keeps sheet limit n (λ s. s .moves ≤ limit)
+within : (chart : Chart) (limit n : ℕ) → 0 < limit → Keeps chart limit n (λ s. s .moves ≤ limit)
 unfolding swap flip judged
-within sheet limit n h = record {
+within chart limit n h = record {
   stops = λ s l q. q;
   begins = λ s q. q;
   swaps = λ p held a s g o m q b. (room-left limit (s .moves) h (m .room), room-left limit (s .moves) h (m .room));
@@ -182,6 +198,7 @@ within sheet limit n h = record {
 }
 
 -- with a limit, the search makes at most so many trials
-pub moves-at-most : (sheet : Sheet) (most limit : ℕ) (tour : List ℕ) → 0 < limit → searched sheet most limit tour .moves ≤ limit
-moves-at-most sheet most limit tour h =
-    search-keeps sheet most limit tour (λ s. s .moves ≤ limit) (within sheet limit (length tour) h) (omega arith)
+pub moves-at-most : (chart : Chart) (most limit : ℕ) (tour : List ℕ) → 0 < limit
+    → searched chart most limit tour .moves ≤ limit
+moves-at-most chart most limit tour h =
+    search-keeps chart most limit tour (λ s. s .moves ≤ limit) (within chart limit (length tour) h) (omega arith)

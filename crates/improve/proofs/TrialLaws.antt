@@ -11,11 +11,11 @@ use lib.Ieee.{Float}
 use lib.ListN.{length, getD, set, take, drop}
 use Rattle.bytes.specs.Bytes.{rev, slice}
 use Rattle.table.specs.Each.{each}
-use Rattle.improve.specs.Code.{Judged, Taken, going, stateOf}
-use Rattle.improve.specs.Search.{State, shorter, judged, atLimit, tried, contourOf, givenBack, swap, alternative, turn, turned, reversed, flip, reversal, row}
+use Rattle.improve.specs.Code.{unpaired, distances, Judged, Taken, going, stateOf}
+use Rattle.improve.specs.Search.{Chart, State, lengthIn, legal, shorter, judged, atLimit, tried, ownerOf, givenBack, swap, alternative, turn, turned, reversed, flip, reversal, row}
 use Rattle.improve.specs.declared.Progress.{Progress}
 use Rattle.improve.specs.declared.Tried.{Tried}
-use Rattle.improve.proofs.IdleLaws.{Idle, each-idle}
+use Rattle.improve.proofs.IdleLaws.{Idle, each-idle, each-same}
 use Rattle.improve.proofs.ReversalLaws.{turned-twice}
 
 -- ---- ended
@@ -24,27 +24,26 @@ tried-idle : (limit : ℕ) (trial : State → State) (s : State) → s .cut ≡ 
 unfolding tried
 tried-idle limit trial s e = rw e
 
-module _ (long : List ℕ → Float) where
-  pub alternative-idle : (limit p held : ℕ) → Idle (alternative long limit p held)
+module _ (chart : Chart) where
+  pub alternative-idle : (limit p held : ℕ) → Idle (alternative chart limit p held)
   unfolding alternative
   alternative-idle limit p held a s e = go (eqb a held)
     where
-      go : (b : Bool) → cond b s (tried limit (swap long p held a) s) ≡ s
+      go : (b : Bool) → cond b s (tried limit (swap chart p held a) s) ≡ s
       go true = refl
-      go false = tried-idle limit (swap long p held a) s e
+      go false = tried-idle limit (swap chart p held a) s e
 
-  pub turn-idle : (owner first : List ℕ) (limit : ℕ) → Idle (turn long owner first limit)
+  pub turn-idle : (limit : ℕ) → Idle (turn chart limit)
   unfolding turn
-  turn-idle owner first limit p s e = each-idle _ (alternative-idle limit p (getD (s .tour) p 0)) _ _ s e
+  turn-idle limit p s e = each-idle _ (alternative-idle limit p (getD (s .tour) p 0)) _ _ s e
 
-  module _ (allowed : List ℕ → Bool) where
-    pub reversal-idle : (limit i : ℕ) → Idle (reversal long allowed limit i)
-    unfolding reversal
-    reversal-idle limit i j s e = tried-idle limit (flip long allowed i j) s e
+  pub reversal-idle : (limit i : ℕ) → Idle (reversal chart limit i)
+  unfolding reversal
+  reversal-idle limit i j s e = tried-idle limit (flip chart i j) s e
 
-    pub row-idle : (limit n : ℕ) → Idle (row long allowed limit n)
-    unfolding row
-    row-idle limit n i s e = each-idle _ (reversal-idle limit i) _ _ s e
+  pub row-idle : (limit n : ℕ) → Idle (row chart limit n)
+  unfolding row
+  row-idle limit n i s e = each-idle _ (reversal-idle limit i) _ _ s e
 
 -- ---- at the limit
 
@@ -69,49 +68,83 @@ unfolding judged
 judged-is accepted new length back tour after cost better moves r w = rw (w .accepts, w .counts, w .holds, add-one moves)
 
 -- the candidate held when the turn began is passed over
-pub alternative-held : (long : List ℕ → Float) (limit p held a : ℕ) (s : State) → a ≡ held → alternative long limit p held a s ≡ s
+pub alternative-held : (chart : Chart) (limit p held a : ℕ) (s : State) → a ≡ held
+    → alternative chart limit p held a s ≡ s
 unfolding alternative
-alternative-held long limit p held a s e = rw (eq-eqb a held e)
+alternative-held chart limit p held a s e = rw (eq-eqb a held e)
 
-module _ (long : List ℕ → Float) (limit p held a : ℕ) (tour : List ℕ) (cost : Float) (better : Bool) (moves : ℕ) (flag : Bool)
+module _ (chart : Chart) (limit p held a : ℕ) (tour : List ℕ) (cost : Float) (better : Bool) (moves : ℕ) (flag : Bool)
     (other : a ≡ held → ⊥) (asked : flag ≡ atLimit limit moves) where
   -- at the limit, another candidate ends the search
-  pub alternative-stops : flag ≡ true → alternative long limit p held a (going tour cost better moves) ≡ ended tour cost better moves
+  pub alternative-stops : flag ≡ true → alternative chart limit p held a (going tour cost better moves)
+      ≡ ended tour cost better moves
   unfolding alternative
-  alternative-stops e = rw (ne-eqb a held other) (tried-stops limit (swap long p held a) tour cost better moves (sym asked ∙ e))
+  alternative-stops e =
+      rw (ne-eqb a held other) (tried-stops limit (swap chart p held a) tour cost better moves (sym asked ∙ e))
 
   -- before it, another candidate is tried
   pub alternative-goes : (r : Tried) (after : List ℕ) → flag ≡ false
-      → Judged (shorter (long (set tour p a)) cost) (set tour p a) (long (set tour p a)) (givenBack p held tour) cost r after
-      → alternative long limit p held a (going tour cost better moves) ≡ going after (r .cost) (better || r .accepted) (moves + 1)
+      → Judged (shorter (lengthIn chart (set tour p a)) cost) (set tour p a) (lengthIn chart (set tour p a))
+      (givenBack p held tour) cost r after
+      → alternative chart limit p held a (going tour cost better moves)
+      ≡ going after (r .cost) (better || r .accepted) (moves + 1)
   unfolding alternative swap
   alternative-goes r after e w =
       rw (ne-eqb a held other)
-      (tried-goes limit (swap long p held a) tour cost better moves (sym asked ∙ e) ∙ judged-is _ _ _ _ tour after cost better moves r w)
+      (tried-goes limit (swap chart p held a) tour cost better moves (sym asked ∙ e)
+      ∙ judged-is _ _ _ _ tour after cost better moves r w)
 
-module _ (long : List ℕ → Float) (allowed : List ℕ → Bool) (limit i j : ℕ) (tour : List ℕ) (cost : Float) (better : Bool) (moves : ℕ) (flag : Bool)
+module _ (chart : Chart) (limit i j : ℕ) (tour : List ℕ) (cost : Float) (better : Bool) (moves : ℕ) (flag : Bool)
     (asked : flag ≡ atLimit limit moves) where
   -- at the limit, a reversal ends the search
-  pub reversal-stops : flag ≡ true → reversal long allowed limit i j (going tour cost better moves) ≡ ended tour cost better moves
+  pub reversal-stops : flag ≡ true → reversal chart limit i j (going tour cost better moves)
+      ≡ ended tour cost better moves
   unfolding reversal
-  reversal-stops e = tried-stops limit (flip long allowed i j) tour cost better moves (sym asked ∙ e)
+  reversal-stops e = tried-stops limit (flip chart i j) tour cost better moves (sym asked ∙ e)
 
   -- before it, the stretch is tried the other way round
   pub reversal-goes : (r : Tried) (after : List ℕ) → flag ≡ false
-      → Judged (shorter (long (reversed i j tour)) cost && allowed (reversed i j tour)) (reversed i j tour) (long (reversed i j tour)) tour cost r after
-      → reversal long allowed limit i j (going tour cost better moves) ≡ going after (r .cost) (better || r .accepted) (moves + 1)
+      → Judged (shorter (lengthIn chart (reversed i j tour)) cost && legal chart (reversed i j tour))
+      (reversed i j tour) (lengthIn chart (reversed i j tour)) tour cost r after
+      → reversal chart limit i j (going tour cost better moves)
+      ≡ going after (r .cost) (better || r .accepted) (moves + 1)
   unfolding reversal flip
   reversal-goes r after e w =
-      tried-goes limit (flip long allowed i j) tour cost better moves (sym asked ∙ e) ∙ judged-is _ _ _ _ tour after cost better moves r w
+      tried-goes limit (flip chart i j) tour cost better moves (sym asked ∙ e)
+      ∙ judged-is _ _ _ _ tour after cost better moves r w
 
 -- ---- turns
 
+-- trials at one position ask for the distances alone
+alternative-reads : (chart : Chart) (limit p held a : ℕ) (s : State)
+    → alternative (distances chart) limit p held a s ≡ alternative chart limit p held a s
+unfolding alternative swap
+alternative-reads chart limit p held a s = refl
+
 -- a turn is told by what is read for it
-pub turn-is : (long : List ℕ → Float) (owner first : List ℕ) (limit p : ℕ) (s after : State) (k from end : ℕ)
-    → k ≡ contourOf owner (getD (s .tour) p 0) → from ≡ getD first k 0 → end ≡ getD first (k + 1) 0
-    → after ≡ each (alternative long limit p (getD (s .tour) p 0)) (end - from) from s → after ≡ turn long owner first limit p s
+pub turn-is : (chart : Chart) (limit p : ℕ) (s after : State) (k from end : ℕ)
+    → k ≡ ownerOf (chart .owner) (getD (s .tour) p 0) → from ≡ getD (chart .first) k 0
+    → end ≡ getD (chart .first) (k + 1) 0
+    → after ≡ each (alternative (distances chart) limit p (getD (s .tour) p 0)) (end - from) from s
+    → after ≡ turn chart limit p s
 unfolding turn
-turn-is long owner first limit p s after k from end e f g h = rw (← e, ← add-one k, ← f, ← g) h
+turn-is chart limit p s after k from end e f g h =
+    let held = getD (s .tour) p 0 in
+    let q : after ≡ each (alternative chart limit p held) (end - from) from s =
+    h ∙ each-same _ _ (alternative-reads chart limit p held) (end - from) from s in
+    rw (← e, ← add-one k, ← f, ← g) q
+
+-- it asks for no pair
+turn-reads : (chart : Chart) (limit p : ℕ) (s : State) → turn (unpaired chart) limit p s ≡ turn chart limit p s
+unfolding turn
+turn-reads chart limit p s =
+    let held = getD (s .tour) p 0 in
+    each-same _ _ (λ a u. sym (alternative-reads (unpaired chart) limit p held a u)
+    ∙ alternative-reads chart limit p held a u) _ _ s
+
+pub turns-read : (chart : Chart) (limit n : ℕ) (s : State)
+    → each (turn (unpaired chart) limit) n 0 s ≡ each (turn chart limit) n 0 s
+turns-read chart limit n s = each-same _ _ (turn-reads chart limit) n 0 s
 
 -- a search that has not ended goes on
 pub goes-on : (tour : List ℕ) (r : Progress) (s : State) → stateOf tour r ≡ s → r .cut ≡ false → s ≡ going tour (r .cost) (r .better) (r .moves)

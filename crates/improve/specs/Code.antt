@@ -1,16 +1,25 @@
 -- How the code's values make up the definition's. Assumes nothing.
 use mathlib.Core.Bool.{Bool, false, cond}
-use mathlib.Core.List.{List}
+use mathlib.Core.List.{List, []}
 use mathlib.Core.Path.{_≡_}
 use Prim.Native.Nat.{ℕ}
 use lib.Ieee.{Float}
-use Rattle.improve.specs.Search.{Sheet, State}
+use Rattle.improve.specs.Search.{Chart, State}
 use Rattle.improve.specs.declared.Progress.{Progress}
 use Rattle.improve.specs.declared.Tried.{Tried}
 
 -- what is read
-abbrev pub sheetOf : List Float → List Float → ℕ → List ℕ → List ℕ → List ℕ → Sheet
-sheetOf home table t owner first pairs = record { home = home; table = table; t = t; owner = owner; first = first; pairs = pairs }
+abbrev pub chartOf : List Float → List Float → ℕ → List ℕ → List ℕ → List ℕ → Chart
+chartOf home table t owner first pairs =
+    record { home = home; table = table; t = t; owner = owner; first = first; pairs = pairs }
+
+-- what the turns read of it: they ask for no pair
+abbrev pub unpaired : Chart → Chart
+unpaired chart = chartOf (chart .home) (chart .table) (chart .t) (chart .owner) (chart .first) []
+
+-- what trials at one position read of it: the distances alone
+abbrev pub distances : Chart → Chart
+distances chart = chartOf (chart .home) (chart .table) (chart .t) [] [] []
 
 -- a search that goes on
 abbrev pub going : List ℕ → Float → Bool → ℕ → State

@@ -13,7 +13,7 @@ use Rattle.table.specs.Each.{each}
 
 -- what a search reads: the distances from home and between the t candidates, the contour that each candidate belongs to,
 -- the number of each contour's first candidate with the number of all at the end, and which contours come before which
-pub record Sheet : Type 0 where
+pub record Chart : Type 0 where
   pub home : List Float
   pub table : List Float
   pub t : ℕ
@@ -33,20 +33,20 @@ pub record State : Type 0 where
 -- ---- what is asked of a trial
 
 -- how long a tour is
-abbrev pub lengthIn : Sheet → List ℕ → Float
-lengthIn sheet tour = lengthOf (sheet .home) (sheet .table) (sheet .t) tour
+abbrev pub lengthIn : Chart → List ℕ → Float
+lengthIn chart tour = lengthOf (chart .home) (chart .table) (chart .t) tour
 
--- the contour of a candidate
-abbrev pub contourOf : List ℕ → ℕ → ℕ
-contourOf owner a = getD owner a 0
+-- the contour that a candidate belongs to
+abbrev pub ownerOf : List ℕ → ℕ → ℕ
+ownerOf owner a = getD owner a 0
 
 -- the contours in the order in which a tour meets them
 unfoldable pub contours : List ℕ → List ℕ → List ℕ
-contours owner tour = map (contourOf owner) tour
+contours owner tour = map (ownerOf owner) tour
 
 -- no pair is turned round
-abbrev pub legal : Sheet → List ℕ → Bool
-legal sheet tour = keepsPairs (contours (sheet .owner) tour) (sheet .pairs)
+abbrev pub legal : Chart → List ℕ → Bool
+legal chart tour = keepsPairs (contours (chart .owner) tour) (chart .pairs)
 
 -- 1e-10
 abbrev pub margin : Float
@@ -87,23 +87,23 @@ abbrev pub givenBack : ℕ → ℕ → List ℕ → List ℕ
 givenBack p held tour = set tour p held
 
 -- candidate a at position p
-unfoldable pub swap : (List ℕ → Float) → ℕ → ℕ → ℕ → State → State
-swap long p held a s =
+unfoldable pub swap : Chart → ℕ → ℕ → ℕ → State → State
+swap chart p held a s =
     let new = set (s .tour) p a in
-    let length = long new in
+    let length = lengthIn chart new in
     judged (shorter length (s .cost)) new length (givenBack p held (s .tour)) s
 
 -- a contour's candidates are tried one by one, but for the one held when the turn began
-unfoldable pub alternative : (List ℕ → Float) → ℕ → ℕ → ℕ → ℕ → State → State
-alternative long limit p held a s = let after = tried limit (swap long p held a) s in cond (eqb a held) s after
+unfoldable pub alternative : Chart → ℕ → ℕ → ℕ → ℕ → State → State
+alternative chart limit p held a s = let after = tried limit (swap chart p held a) s in cond (eqb a held) s after
 
 -- the turn of position p: the other candidates of the contour that it holds
-unfoldable pub turn : (List ℕ → Float) → List ℕ → List ℕ → ℕ → ℕ → State → State
-turn long owner first limit p s =
+unfoldable pub turn : Chart → ℕ → ℕ → State → State
+turn chart limit p s =
     let held = getD (s .tour) p 0 in
-    let k = contourOf owner held in
-    let from = getD first k 0 in
-    each (alternative long limit p held) (getD first (suc k) 0 - from) from s
+    let k = ownerOf (chart .owner) held in
+    let from = getD (chart .first) k 0 in
+    each (alternative chart limit p held) (getD (chart .first) (suc k) 0 - from) from s
 
 -- ---- a stretch of the tour the other way round
 
@@ -115,20 +115,20 @@ turned f t l = take f l ++ (rev (slice f t l) ++ drop t l)
 abbrev pub reversed : ℕ → ℕ → List ℕ → List ℕ
 reversed i j tour = turned (suc i) (suc j) tour
 
--- the stretch from i+1 to j, if that is allowed
-unfoldable pub flip : (List ℕ → Float) → (List ℕ → Bool) → ℕ → ℕ → State → State
-flip long allowed i j s =
+-- the stretch from i+1 to j, if that is legal
+unfoldable pub flip : Chart → ℕ → ℕ → State → State
+flip chart i j s =
     let new = reversed i j (s .tour) in
-    let length = long new in
-    judged (shorter length (s .cost) && allowed new) new length (s .tour) s
+    let length = lengthIn chart new in
+    judged (shorter length (s .cost) && legal chart new) new length (s .tour) s
 
 -- that as a trial
-unfoldable pub reversal : (List ℕ → Float) → (List ℕ → Bool) → ℕ → ℕ → ℕ → State → State
-reversal long allowed limit i j s = tried limit (flip long allowed i j) s
+unfoldable pub reversal : Chart → ℕ → ℕ → ℕ → State → State
+reversal chart limit i j s = tried limit (flip chart i j) s
 
 -- every j from i+2 on, in a tour of n
-unfoldable pub row : (List ℕ → Float) → (List ℕ → Bool) → ℕ → ℕ → ℕ → State → State
-row long allowed limit n i s = each (reversal long allowed limit i) (n - (i + 2)) (i + 2) s
+unfoldable pub row : Chart → ℕ → ℕ → ℕ → State → State
+row chart limit n i s = each (reversal chart limit i) (n - (i + 2)) (i + 2) s
 
 -- ---- passes
 
@@ -137,27 +137,27 @@ abbrev pub fresh : State → State
 fresh s = record { tour = s .tour; cost = s .cost; better = false; moves = s .moves; cut = s .cut }
 
 -- a pass over a tour of n: each position's turn, then the reversals
-unfoldable pub pass : Sheet → ℕ → ℕ → State → State
-pass sheet limit n s =
-    each (row (lengthIn sheet) (legal sheet) limit n) (n - 1) 0 (each (turn (lengthIn sheet) (sheet .owner) (sheet .first) limit) n 0 (fresh s))
+unfoldable pub pass : Chart → ℕ → ℕ → State → State
+pass chart limit n s = each (row chart limit n) (n - 1) 0 (each (turn chart limit) n 0 (fresh s))
 
 -- pass after pass, while the last accepted something and the search goes on, at most k of them
-unfoldable pub repeated : Sheet → ℕ → ℕ → ℕ → State → State
-repeated sheet limit n zero s = s
-repeated sheet limit n (suc k) s = let after = repeated sheet limit n k (pass sheet limit n s) in cond (s .better && not (s .cut)) after s
+unfoldable pub repeated : Chart → ℕ → ℕ → ℕ → State → State
+repeated chart limit n zero s = s
+repeated chart limit n (suc k) s =
+    let after = repeated chart limit n k (pass chart limit n s) in cond (s .better && not (s .cut)) after s
 
 -- ---- the whole search
 
 -- a search begins with the tour handed in and its length
-abbrev pub begun : Sheet → List ℕ → State
-begun sheet tour = record { tour = tour; cost = lengthIn sheet tour; better = true; moves = 0; cut = false }
+abbrev pub begun : Chart → List ℕ → State
+begun chart tour = record { tour = tour; cost = lengthIn chart tour; better = true; moves = 0; cut = false }
 
 -- there is something to improve: a pass is allowed, and the tour has three contours or more (and no more than a card has)
 abbrev pub worthwhile : ℕ → ℕ → Bool
 worthwhile most n = ltb 0 most && (leb 3 n && leb n CONTOURS)
 
 -- at most so many passes and so many trials from a tour on
-unfoldable pub searched : Sheet → ℕ → ℕ → List ℕ → State
-searched sheet most limit tour =
-    let after = repeated sheet limit (length tour) most (begun sheet tour) in
-    cond (worthwhile most (length tour)) after (begun sheet tour)
+unfoldable pub searched : Chart → ℕ → ℕ → List ℕ → State
+searched chart most limit tour =
+    let after = repeated chart limit (length tour) most (begun chart tour) in
+    cond (worthwhile most (length tour)) after (begun chart tour)

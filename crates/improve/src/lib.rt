@@ -3,14 +3,15 @@
 use closure::CONTOURS;
 ghost use mathlib.Core.Path.{_≡_};
 ghost use mathlib.Core.Bool.{false, _&&_};
+ghost use mathlib.Core.List.{[]};
 ghost use Prim.Native.Nat.{_+_, _-_, _≤_, _<_, _^_};
 ghost use lib.ListN.{length, set};
 ghost use Rattle.table.specs.Evaluate.{lengthOf};
 ghost use Rattle.closure.specs.Limits.{CONTOURS};
 ghost use Rattle.keep.specs.Keep.{keepsPairs};
 ghost use Rattle.table.specs.Each.{each};
-ghost use Rattle.improve.specs.Search.{contourOf, contours, shorter, atLimit, givenBack, alternative, turn, reversed, begun, repeated, searched};
-ghost use Rattle.improve.specs.Code.{Judged, Taken, Reached, going, stateOf, sheetOf};
+ghost use Rattle.improve.specs.Search.{ownerOf, contours, shorter, atLimit, givenBack, alternative, turn, reversed, begun, repeated, searched};
+ghost use Rattle.improve.specs.Code.{Judged, Taken, Reached, going, stateOf, chartOf};
 
 // Where a search stands beside its tour: the length last accepted, whether this pass accepted a
 // trial, the trials so far, and whether the limit has ended the search.
@@ -94,7 +95,8 @@ fn alternatives(
     requires { do ⌜ p < (← ⟦tour.len()⟧) ⌝ }
     requires { ⌜ moves + 256 ≤ 2 ^ 64 ⌝ }
     ensures { λ r. ⌜ stateOf (now (tour .exit)) r
-        ≡ each (alternative (lengthOf (now (home .entry)) (now (table .entry)) t) limit p held) (end - from) from (going (now (tour .entry)) cost better moves) ⌝ }
+        ≡ each (alternative (chartOf (now (home .entry)) (now (table .entry)) t [] [] []) limit p held) (end - from) from
+        (going (now (tour .entry)) cost better moves) ⌝ }
     ensures { λ r. ⌜ r .moves ≤ moves + 255 ⌝ }
 {
     let mut shortest = cost;
@@ -129,8 +131,8 @@ fn alternatives(
 }
 
 // The contour that a candidate belongs to.
-fn contour_of(owner: &[u8], a: u8) -> u8
-    ensures { λ r. ⌜ r ≡ contourOf (now (owner .entry)) a ⌝ }
+fn owner_of(owner: &[u8], a: u8) -> u8
+    ensures { λ r. ⌜ r ≡ ownerOf (now (owner .entry)) a ⌝ }
 {
     table::byte_at(owner, a as usize)
 }
@@ -152,11 +154,12 @@ fn turn_at(
     requires { do ⌜ p < (← ⟦tour.len()⟧) ⌝ }
     requires { ⌜ moves + 256 ≤ 2 ^ 64 ⌝ }
     ensures { λ r. ⌜ stateOf (now (tour .exit)) r
-        ≡ turn (lengthOf (now (home .entry)) (now (table .entry)) t) (now (owner .entry)) (now (first .entry)) limit p (going (now (tour .entry)) cost better moves) ⌝ }
+        ≡ turn (chartOf (now (home .entry)) (now (table .entry)) t (now (owner .entry)) (now (first .entry)) []) limit p
+        (going (now (tour .entry)) cost better moves) ⌝ }
     ensures { λ r. ⌜ r .moves ≤ moves + 255 ⌝ }
 {
     let held = tour[p];
-    let k = contour_of(owner, held) as usize;
+    let k = owner_of(owner, held) as usize;
     let from = table::byte_at(first, k);
     let end = table::byte_at(first, k + 1);
     alternatives(
@@ -192,7 +195,8 @@ fn turns(
     ensures { λ r. do
       n ← ⟦tour.len()⟧ .entry
       ⌜ stateOf (now (tour .exit)) r
-          ≡ each (turn (lengthOf (now (home .entry)) (now (table .entry)) t) (now (owner .entry)) (now (first .entry)) limit) n 0 (going (now (tour .entry)) cost false moves) ⌝ }
+          ≡ each (turn (chartOf (now (home .entry)) (now (table .entry)) t (now (owner .entry)) (now (first .entry)) []) limit) n 0
+          (going (now (tour .entry)) cost false moves) ⌝ }
     ensures { λ r. ⌜ r .moves ≤ moves + 65280 ⌝ }
 {
     let n = tour.len();
@@ -239,7 +243,7 @@ fn is_legal(owner: &[u8], pairs: &[u8], tour: &[u8]) -> bool
     let n = tour.len();
     let mut i = 0;
     while i < n {
-        order[i] = contour_of(owner, tour[i]);
+        order[i] = owner_of(owner, tour[i]);
         i += 1;
     }
     keep::keeps_pairs(&order[..n], pairs)
@@ -327,8 +331,8 @@ fn run(
     requires { do ⌜ (← ⟦tour.len()⟧) ≤ CONTOURS ⌝ }
     ensures { λ r. do
       n ← ⟦tour.len()⟧ .entry
-      ⌜ Reached r (now (tour .exit)) (repeated (sheetOf (now (home .entry)) (now (table .entry)) t (now (owner .entry)) (now (first .entry)) (now (pairs .entry))) limit n passes
-          (begun (sheetOf (now (home .entry)) (now (table .entry)) t (now (owner .entry)) (now (first .entry)) (now (pairs .entry))) (now (tour .entry)))) ⌝ }
+      ⌜ Reached r (now (tour .exit)) (repeated (chartOf (now (home .entry)) (now (table .entry)) t (now (owner .entry)) (now (first .entry)) (now (pairs .entry))) limit n passes
+          (begun (chartOf (now (home .entry)) (now (table .entry)) t (now (owner .entry)) (now (first .entry)) (now (pairs .entry))) (now (tour .entry)))) ⌝ }
 {
     let n = tour.len();
     let mut cost = table::evaluate_solution(home, table, t, tour);
@@ -378,7 +382,7 @@ pub fn improve(
     limit: u32,
 ) -> u64
     ensures { λ r. ⌜ Reached r (now (tour .exit))
-        (searched (sheetOf (now (home .entry)) (now (table .entry)) t (now (owner .entry)) (now (first .entry)) (now (pairs .entry))) passes limit (now (tour .entry))) ⌝ }
+        (searched (chartOf (now (home .entry)) (now (table .entry)) t (now (owner .entry)) (now (first .entry)) (now (pairs .entry))) passes limit (now (tour .entry))) ⌝ }
 {
     if passes == 0 {
         return 0;

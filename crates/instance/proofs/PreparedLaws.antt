@@ -29,8 +29,8 @@ use Rattle.table.proofs.DistanceLaws.{homes-length, distances-length}
 use Rattle.instance.specs.declared.Instance.{Instance}
 use Rattle.instance.specs.declared.Prepared.{Prepared}
 use Rattle.instance.specs.Room.{instanceOf}
-use Rattle.instance.specs.Search.{homeOn, candidatesOn, countOn, ownersOn, firstsOn, sheetOn}
-use Rattle.instance.specs.Prepared.{noDistances, preparedOf, Front, HeldOn, PreparedOn, sheetIn}
+use Rattle.instance.specs.Search.{homeOn, candidatesOn, countOn, ownersOn, firstsOn, chartOn}
+use Rattle.instance.specs.Prepared.{noDistances, preparedOf, Front, HeldOn, PreparedOn, chartIn}
 use Rattle.instance.proofs.GatherLaws.{owners-length, firsts-length}
 use Rattle.instance.proofs.FineLaws.{few-candidates, count-is, contours-is, items-lent, owner-lent, first-lent}
 
@@ -128,8 +128,8 @@ prepared-on s fine p is =
     rw is record { held = held; homes = rw (held .items .front) at homes; pairs = pairs-on s fine }
 
 -- the search reads of it what it is to read of the card
-pub sheet-on : (s : List ℕ) (p : Prepared) → PreparedOn s p → sheetIn p ≡ sheetOn s
-unfolding sheetIn sheetOn
-sheet-on s p h =
+pub chart-on : (s : List ℕ) (p : Prepared) → PreparedOn s p → chartIn p ≡ chartOn s
+unfolding chartIn chartOn
+chart-on s p h =
     let a = h .held in
     rw (h .homes .front, a .items .front, a .owner .front, a .first .front, h .pairs .front, a .count)

@@ -10,8 +10,8 @@ use Rattle.fields.specs.Limits.{candidateLimit}
 use Rattle.fields.specs.Layout.{contoursOf, pairsOf}
 use Rattle.card.specs.Names.{namedOf, pairsOn}
 use Rattle.table.specs.Distances.{entryLimit, homed, distancesOf}
-use Rattle.improve.specs.Search.{Sheet}
-use Rattle.improve.specs.Code.{sheetOf}
+use Rattle.improve.specs.Search.{Chart}
+use Rattle.improve.specs.Code.{chartOf}
 use Rattle.instance.specs.declared.Instance.{Instance}
 use Rattle.instance.specs.declared.Prepared.{Prepared}
 use Rattle.instance.specs.Room.{instanceOf}
@@ -59,9 +59,9 @@ pub record Fit (p : Prepared) : Type 0 where
   pub card : List ℕ
   pub on : PreparedOn card p
 
--- the sheet that the search reads of it
-unfoldable pub sheetIn : Prepared → Sheet
-sheetIn p =
+-- the chart that the search reads of it
+unfoldable pub chartIn : Prepared → Chart
+chartIn p =
     let t = p .all .count in
     let owner = take t (p .all .owner) in
-    sheetOf (take t (p .homes)) (distancesOf (take t (p .all .items)) owner) t owner (take (p .all .contours + 1) (p .all .first)) (take (p .seats) (p .pairs))
+    chartOf (take t (p .homes)) (distancesOf (take t (p .all .items)) owner) t owner (take (p .all .contours + 1) (p .all .first)) (take (p .seats) (p .pairs))

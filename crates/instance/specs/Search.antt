@@ -9,8 +9,8 @@ use Rattle.fields.specs.Layout.{contoursOf, homePlace}
 use Rattle.fields.specs.Values.{pointAt}
 use Rattle.card.specs.Names.{pairsOn}
 use Rattle.table.specs.Distances.{distancesOf, homesOf}
-use Rattle.improve.specs.Search.{Sheet}
-use Rattle.improve.specs.Code.{sheetOf}
+use Rattle.improve.specs.Search.{Chart}
+use Rattle.improve.specs.Code.{chartOf}
 use Rattle.instance.specs.Gather.{gathered, owners, firsts}
 
 -- where the beam is at first
@@ -39,5 +39,5 @@ abbrev pub tableOn : List ℕ → List Float
 tableOn s = distancesOf (candidatesOn s) (ownersOn s)
 
 -- all of that together
-unfoldable pub sheetOn : List ℕ → Sheet
-sheetOn s = sheetOf (homesOn s) (tableOn s) (countOn s) (ownersOn s) (firstsOn s) (pairsOn s)
+unfoldable pub chartOn : List ℕ → Chart
+chartOn s = chartOf (homesOn s) (tableOn s) (countOn s) (ownersOn s) (firstsOn s) (pairsOn s)

@@ -22,7 +22,7 @@ use Rattle.table.specs.Distances.{homed, tabled}
 use Rattle.start.specs.Nearest.{nearest}
 use Rattle.start.specs.Code.{groundOf, Written}
 use Rattle.improve.specs.Search.{searched}
-use Rattle.improve.specs.Code.{Reached, sheetOf}
+use Rattle.improve.specs.Code.{Reached, chartOf}
 use Rattle.instance.specs.Room.{instanceOf}
 use Rattle.probe.specs.Told.{rootCode, rootOr, lengthCode, lengthOr, closestCode, nearestOr, countCode, countOr, verdictCode, fineOr, askedOf, nthOf, placeOf, wayOf}
 
@@ -70,7 +70,7 @@ pub record OfCards : Type 0 where
   pub probe-evaluate : (home table : List Float) (t : ℕ) (tour : List ℕ) → OneAnswer (Is (lengthOf home table t tour))
   pub probe-improve :
       (home table : List Float) (t : ℕ) (owner first pairs tour : List ℕ) (passes limit : ℕ) →
-      OneAnswer {A = ℕ × List ℕ} (λ a. Reached (a .0) (a .1) (searched (sheetOf home table t owner first pairs) passes limit tour))
+      OneAnswer {A = ℕ × List ℕ} (λ a. Reached (a .0) (a .1) (searched (chartOf home table t owner first pairs) passes limit tour))
   pub probe-start :
       (home table : List Float) (t : ℕ) (first pairs tour : List ℕ) →
       OneAnswer {A = ℕ × List ℕ} (λ a. Written (nearest (groundOf home table t first pairs) (length tour)) tour (a .0) (a .1))

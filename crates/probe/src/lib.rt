@@ -22,7 +22,7 @@ ghost use mathlib.Core.List.{[]};
 ghost use Rattle.start.specs.Nearest.{nearest};
 ghost use Rattle.start.specs.Code.{groundOf, Written};
 ghost use Rattle.improve.specs.Search.{searched};
-ghost use Rattle.improve.specs.Code.{Reached, sheetOf};
+ghost use Rattle.improve.specs.Code.{Reached, chartOf};
 use answer::Check;
 use answer::ContourType;
 use answer::Count;
@@ -447,7 +447,7 @@ pub extern "C" fn probe_improve(
     limit: u32,
 ) -> u64
     ensures { λ r. ⌜ Reached r (now (tour .exit))
-        (searched (sheetOf (now (home .entry)) (now (table .entry)) t (now (owner .entry)) (now (first .entry)) (now (pairs .entry))) passes limit (now (tour .entry))) ⌝ }
+        (searched (chartOf (now (home .entry)) (now (table .entry)) t (now (owner .entry)) (now (first .entry)) (now (pairs .entry))) passes limit (now (tour .entry))) ⌝ }
 {
     improve::improve(home, table, t, owner, first, pairs, tour, passes, limit)
 }

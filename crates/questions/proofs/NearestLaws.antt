@@ -17,9 +17,9 @@ use Rattle.start.specs.Code.{groundOf, Written}
 use Rattle.answer.specs.Room.{placed}
 use Rattle.answer.proofs.RoomLaws.{room-back}
 use Rattle.instance.specs.declared.Prepared.{Prepared}
-use Rattle.instance.specs.Search.{sheetOn}
-use Rattle.instance.specs.Prepared.{PreparedOn, sheetIn}
-use Rattle.instance.proofs.PreparedLaws.{sheet-on}
+use Rattle.instance.specs.Search.{chartOn}
+use Rattle.instance.specs.Prepared.{PreparedOn, chartIn}
+use Rattle.instance.proofs.PreparedLaws.{chart-on}
 use Rattle.questions.specs.declared.Stops.{Stops}
 use Rattle.questions.specs.Nearest.{nearestIn, nearestOn, noStops, stopsOf, nearestOf}
 
@@ -32,11 +32,11 @@ pub nearest-is : (p : Prepared) (table : List Float) → let t = p .all .count i
     table ≡ distancesOf (take t (p .all .items)) (take t (p .all .owner)) → n ≤ CONTOURS → (part : List ℕ) (count : ℕ)
     → Written (nearest (groundOf (take t (p .homes)) table t (take (n + 1) (p .all .first)) []) (length (take n noStops))) (take n noStops) count part
     → length part ≡ length (take n noStops)
-    → record { check = Fine; entries = part ++ drop n noStops; count = count } ≡ stopsOf (nearestIn (sheetIn p) n)
-unfolding sheetIn
+    → record { check = Fine; entries = part ++ drop n noStops; count = count } ≡ stopsOf (nearestIn (chartIn p) n)
+unfolding chartIn
 nearest-is p table d few part count w k =
     let n = p .all .contours in
-    let start = nearestIn (sheetIn p) n in
+    let start = nearestIn (chartIn p) n in
     let t = p .all .count in
     let same : nearest (groundOf (take t (p .homes)) table t (take (n + 1) (p .all .first)) []) (length (take n noStops)) ≡ start =
     rw (d, ← stops-lent n few) in
@@ -50,6 +50,6 @@ module _ (s : List ℕ) (a : Check) (is : a ≡ checkOf s) where
   unfolding nearestOf
   stops-refused r e = rw (← is, e)
 
-  pub stops-fine : (l : Stops) (p : Prepared) → a ≡ Fine → PreparedOn s p → l ≡ stopsOf (nearestIn (sheetIn p) (p .all .contours)) → l ≡ nearestOf s
+  pub stops-fine : (l : Stops) (p : Prepared) → a ≡ Fine → PreparedOn s p → l ≡ stopsOf (nearestIn (chartIn p) (p .all .contours)) → l ≡ nearestOf s
   unfolding nearestOf nearestOn
-  stops-fine l p e h f = f ∙ rw (sheet-on s p h, h .held .contours, ← is, e)
+  stops-fine l p e h f = f ∙ rw (chart-on s p h, h .held .contours, ← is, e)

@@ -25,9 +25,9 @@ use Rattle.table.specs.Evaluate.{lengthOf}
 use Rattle.table.specs.Distances.{entryLimit, tabled, distancesOf}
 use Rattle.improve.specs.Search.{lengthIn}
 use Rattle.instance.specs.declared.Prepared.{Prepared}
-use Rattle.instance.specs.Search.{countOn, ownersOn, sheetOn}
-use Rattle.instance.specs.Prepared.{Front, PreparedOn, Fit, sheetIn}
-use Rattle.instance.proofs.PreparedLaws.{table-front, sheet-on}
+use Rattle.instance.specs.Search.{countOn, ownersOn, chartOn}
+use Rattle.instance.specs.Prepared.{Front, PreparedOn, Fit, chartIn}
+use Rattle.instance.proofs.PreparedLaws.{table-front, chart-on}
 use Rattle.questions.specs.Order.{stopAt, metBefore, badStop, firstBadStop, orderCheck, measuredUnless, measuredIn, evaluated}
 
 -- ---- one stop
@@ -92,19 +92,19 @@ entries-front p f after e =
 
 pub length-is : (p : Prepared) (order : List ℕ) (table : List Float) (x : Float) → let t = p .all .count in
     table ≡ distancesOf (take t (p .all .items)) (take t (p .all .owner))
-    → x ≡ lengthOf (take t (p .homes)) table t order → x ≡ lengthIn (sheetIn p) order
-unfolding sheetIn
+    → x ≡ lengthOf (take t (p .homes)) table t order → x ≡ lengthIn (chartIn p) order
+unfolding chartIn
 length-is p order table x d e = e ∙ rw d
 
 -- ---- the answer
 
 module _ (p : Prepared) (order : List ℕ) (a : Check) (is : a ≡ orderCheck (p .all .contours) (take (p .all .count) (p .all .owner)) (p .all .count) order) where
-  pub no-order : (r : Refusal) → a ≡ Refused r → measured.Refused r ≡ measuredIn (sheetIn p) (p .all .contours) order
-  unfolding sheetIn
+  pub no-order : (r : Refusal) → a ≡ Refused r → measured.Refused r ≡ measuredIn (chartIn p) (p .all .contours) order
+  unfolding chartIn
   no-order r e = rw (← is, e)
 
-  pub an-order : (x : Float) → a ≡ Fine → x ≡ lengthIn (sheetIn p) order → measured.Is x ≡ measuredIn (sheetIn p) (p .all .contours) order
-  unfolding sheetIn
+  pub an-order : (x : Float) → a ≡ Fine → x ≡ lengthIn (chartIn p) order → measured.Is x ≡ measuredIn (chartIn p) (p .all .contours) order
+  unfolding chartIn
   an-order x e g = rw (g, ← is, e)
 
 module _ (s order : List ℕ) (a : Check) (is : a ≡ checkOf s) where
@@ -112,9 +112,9 @@ module _ (s order : List ℕ) (a : Check) (is : a ≡ checkOf s) where
   unfolding evaluated firstRefusal
   order-refused r e = rw (← is, e)
 
-  pub order-fine : (m : Measured) (p : Prepared) → a ≡ Fine → PreparedOn s p → m ≡ measuredIn (sheetIn p) (p .all .contours) order → m ≡ evaluated s order
-  unfolding evaluated firstRefusal sheetOn
+  pub order-fine : (m : Measured) (p : Prepared) → a ≡ Fine → PreparedOn s p → m ≡ measuredIn (chartIn p) (p .all .contours) order → m ≡ evaluated s order
+  unfolding evaluated firstRefusal chartOn
   order-fine m p e h f =
       let known = orderCheck (contoursOf s) (ownersOn s) (countOn s) order in
       let same : known ≡ firstRefusal (checkOf s ∷ known ∷ []) = rw (← is, e) (last-stage known known refl) in
-      (f ∙ rw (sheet-on s p h, h .held .contours)) ∙ ap (λ (c : Check). measuredUnless c (lengthIn (sheetOn s) order)) same
+      (f ∙ rw (chart-on s p h, h .held .contours)) ∙ ap (λ (c : Check). measuredUnless c (lengthIn (chartOn s) order)) same

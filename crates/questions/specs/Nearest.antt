@@ -10,16 +10,16 @@ use Rattle.card.specs.Verdict.{checkOf}
 use Rattle.start.specs.Nearest.{nearest}
 use Rattle.start.specs.Code.{groundOf}
 use Rattle.answer.specs.Room.{placed}
-use Rattle.improve.specs.Search.{Sheet}
-use Rattle.instance.specs.Search.{sheetOn}
+use Rattle.improve.specs.Search.{Chart}
+use Rattle.instance.specs.Search.{chartOn}
 use Rattle.questions.specs.declared.Stops.{Stops}
 
 -- the start over n contours where none waits for another
-abbrev pub nearestIn : Sheet → ℕ → List ℕ
-nearestIn sheet n = nearest (groundOf (sheet .home) (sheet .table) (sheet .t) (sheet .first) []) n
+abbrev pub nearestIn : Chart → ℕ → List ℕ
+nearestIn chart n = nearest (groundOf (chart .home) (chart .table) (chart .t) (chart .first) []) n
 
 unfoldable pub nearestOn : List ℕ → List ℕ
-nearestOn s = nearestIn (sheetOn s) (contoursOf s)
+nearestOn s = nearestIn (chartOn s) (contoursOf s)
 
 -- a room for a stop a contour
 abbrev pub noStops : List ℕ

@@ -16,12 +16,12 @@ use Rattle.cost.specs.declared.Measured.the-variants as measured
 use Rattle.fields.specs.Layout.{contoursOf}
 use Rattle.card.specs.Stages.{isAt}
 use Rattle.card.specs.Verdict.{checkOf}
-use Rattle.improve.specs.Search.{Sheet, contourOf, lengthIn}
-use Rattle.instance.specs.Search.{countOn, ownersOn, sheetOn}
+use Rattle.improve.specs.Search.{Chart, ownerOf, lengthIn}
+use Rattle.instance.specs.Search.{countOn, ownersOn, chartOn}
 
 -- the contour of the stop at position p
 abbrev pub stopAt : List ℕ → List ℕ → ℕ → ℕ
-stopAt owner order p = contourOf owner (getD order p 0)
+stopAt owner order p = ownerOf owner (getD order p 0)
 
 -- its contour was met at an earlier position
 abbrev pub metBefore : List ℕ → List ℕ → ℕ → Bool
@@ -48,11 +48,11 @@ measuredUnless Fine x = measured.Is x
 measuredUnless (Refused r) x = measured.Refused r
 
 -- an order on what the search reads, over n contours
-abbrev pub measuredIn : Sheet → ℕ → List ℕ → Measured
-measuredIn sheet n order = measuredUnless (orderCheck n (sheet .owner) (sheet .t) order) (lengthIn sheet order)
+abbrev pub measuredIn : Chart → ℕ → List ℕ → Measured
+measuredIn chart n order = measuredUnless (orderCheck n (chart .owner) (chart .t) order) (lengthIn chart order)
 
 -- `evaluate`: the card's own refusals come first
 unfoldable pub evaluated : List ℕ → List ℕ → Measured
 unfolding firstRefusal orderCheck
 evaluated s order =
-    measuredUnless (firstRefusal (checkOf s ∷ orderCheck (contoursOf s) (ownersOn s) (countOn s) order ∷ [])) (lengthIn (sheetOn s) order)
+    measuredUnless (firstRefusal (checkOf s ∷ orderCheck (contoursOf s) (ownersOn s) (countOn s) order ∷ [])) (lengthIn (chartOn s) order)

@@ -7,7 +7,7 @@ ghost use Rattle.answer.specs.Count.{countUnless};
 ghost use Rattle.answer.specs.Lowest.{refuseIf};
 ghost use Rattle.candidates.specs.Generate.{blank};
 ghost use Rattle.instance.specs.Search.{candidatesOn, countOn, firstsOn};
-ghost use Rattle.instance.specs.Prepared.{Fit, sheetIn};
+ghost use Rattle.instance.specs.Prepared.{Fit, chartIn};
 ghost use Rattle.improve.specs.Search.{lengthIn};
 ghost use Prim.Native.Nat.{_+_, _-_};
 ghost use Rattle.questions.specs.Order.{stopAt, metBefore, badStop, firstBadStop, orderCheck, measuredIn, evaluated};
@@ -128,7 +128,7 @@ pub fn order_check(n: usize, owner: &[u8], t: usize, order: &[u8]) -> Check
 // How long an order is on a card that was prepared.
 fn length_of(p: Prepared, order: &[u8]) -> f64
     requires { ⌜ Fit p ⌝ }
-    ensures { λ r. ⌜ r ≡ lengthIn (sheetIn p) (now (order .entry)) ⌝ }
+    ensures { λ r. ⌜ r ≡ lengthIn (chartIn p) (now (order .entry)) ⌝ }
 {
     let all = p.all;
     let homes = p.homes;
@@ -144,7 +144,7 @@ fn length_of(p: Prepared, order: &[u8]) -> f64
 // The same, if it is an order.
 fn measured(p: Prepared, order: &[u8]) -> Measured
     requires { ⌜ Fit p ⌝ }
-    ensures { λ r. ⌜ r ≡ measuredIn (sheetIn p) (p .all .contours) (now (order .entry)) ⌝ }
+    ensures { λ r. ⌜ r ≡ measuredIn (chartIn p) (p .all .contours) (now (order .entry)) ⌝ }
 {
     let all = p.all;
     let t = all.count;
@@ -170,7 +170,7 @@ pub fn evaluate(card: &[u8], order: &[u8]) -> Measured
 // That start on a card that was prepared.
 fn unbound(p: Prepared) -> Stops
     requires { ⌜ Fit p ⌝ }
-    ensures { λ r. ⌜ r ≡ stopsOf (nearestIn (sheetIn p) (p .all .contours)) ⌝ }
+    ensures { λ r. ⌜ r ≡ stopsOf (nearestIn (chartIn p) (p .all .contours)) ⌝ }
 {
     let all = p.all;
     let homes = p.homes;

@@ -16,7 +16,7 @@ use Rattle.reader.specs.declared.ContourHead.{ContourHead}
 use Rattle.reader.specs.declared.Contour.{Contour}
 use Rattle.reader.specs.Fields.{fieldAt}
 use Rattle.reader.specs.Walk.{walk, eights}
-use Rattle.reader.specs.OnCard.{headOf, contourHead, coordinatesFrom, filled, contourOf}
+use Rattle.reader.specs.OnCard.{headOf, contourHead, coordinatesFrom, filled, contourRead}
 use Rattle.reader.proofs.WalkLaws.{cut-value, read-at, read-on}
 
 -- ---- the head
@@ -100,8 +100,8 @@ module _ (s : List ℕ) (k place count : ℕ) (head : ContourHead) (coordinates 
         kind = head .kind;
         filler = head .filler;
         coordinates = coordinates;
-      }) (contourOf s k)
-  unfolding contourOf contourHead
+      }) (contourRead s k)
+  unfolding contourRead contourHead
   contour-is cut e n f =
       let p = payload (k + 1) in
       let id : head .id ≡ idOf s k = ap (λ (h : ContourHead). h .id) e ∙ ap (u32At s) cut ∙ cut-value s p Four ∙ ap (u32At s) (sym (add-zero p)) in

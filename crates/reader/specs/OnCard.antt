@@ -14,6 +14,7 @@ use Rattle.reader.specs.Walk.{eights}
 
 -- ---- the head
 
+-- the head as it is read
 unfoldable pub headOf : List ℕ → Head
 headOf s = record {
   job = jobOf s;
@@ -57,9 +58,10 @@ coordinatesFrom s k j (suc v) = u64At s (vertexPlace k j) ∷ u64At s (vertexPla
 unfoldable pub filled : List ℕ → List ℕ
 filled l = l ++ replicate (2 * vertexLimit - length l) 0
 
-unfoldable pub contourOf : List ℕ → ℕ → Contour
+-- contour k as it is read
+unfoldable pub contourRead : List ℕ → ℕ → Contour
 unfolding coordinatesFrom filled
-contourOf s k = record {
+contourRead s k = record {
   id = idOf s k;
   tag = tagOf s k;
   vertices = vertexCountOf s k;

@@ -8,7 +8,7 @@ ghost use Rattle.fields.specs.Limits.{vertexLimit};
 ghost use Rattle.fields.specs.Layout.{payload};
 ghost use Rattle.reader.specs.Fields.{fieldAt};
 ghost use Rattle.reader.specs.Walk.{walk, eights};
-ghost use Rattle.reader.specs.OnCard.{filled, headOf, contourHead, contourOf};
+ghost use Rattle.reader.specs.OnCard.{filled, headOf, contourHead, contourRead};
 use block::BLOCK;
 use fields::PAYLOAD_AT;
 use fields::VERTICES;
@@ -256,7 +256,7 @@ fn coordinates(card: &[u8], at: usize, count: usize) -> [u64; COORDINATES]
 
 // Contour k, with its first vertices if it names more than a contour may have.
 pub fn read_contour(card: &[u8], k: usize) -> Contour
-    ensures { λ r. ⌜ r ≡ contourOf (now (card .entry)) k ⌝ }
+    ensures { λ r. ⌜ r ≡ contourRead (now (card .entry)) k ⌝ }
 {
     let head = contour_head(card, contour_at(card, k));
     Contour {

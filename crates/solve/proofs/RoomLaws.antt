@@ -7,7 +7,7 @@ use lib.ListN.{length, take, drop, length-append}
 use lib.Seq.{take-at, drop-at}
 use lib.Ieee.{Float}
 use Rattle.start.specs.Code.{Written}
-use Rattle.improve.specs.Search.{Sheet, lengthIn, searched}
+use Rattle.improve.specs.Search.{Chart, lengthIn, searched}
 use Rattle.improve.specs.Code.{Reached}
 use Rattle.solve.specs.Solve.{startIn, endIn, Solved}
 
@@ -44,17 +44,20 @@ module _ (tour room after : List ℕ) (made : ℕ) (w : Written tour room made a
     pub last-whole : made ≡ length (take made (last ++ drop made after))
     last-whole = sym as-long ∙ sym (ap length last-lent)
 
-module _ (sheet : Sheet) (n most limit : ℕ) (room after : List ℕ) (made : ℕ) (w : Written (startIn sheet n) room made after) (last : List ℕ) (k : length last ≡ length (take made after)) where
-  pub solved : (moves : ℕ) (long : Float) → Reached moves last (searched sheet most limit (take made after))
-      → long ≡ lengthIn sheet (take made (last ++ drop made after))
-      → Solved sheet (endIn sheet n most limit) room (record { moves = moves; length = long }) (last ++ drop made after)
+module _ (chart : Chart) (n most limit : ℕ) (room after : List ℕ) (made : ℕ)
+    (w : Written (startIn chart n) room made after) (last : List ℕ) (k : length last ≡ length (take made after)) where
+  pub solved : (moves : ℕ) (long : Float) → Reached moves last (searched chart most limit (take made after))
+      → long ≡ lengthIn chart (take made (last ++ drop made after))
+      → Solved chart (endIn chart n most limit) room (record { moves = moves; length = long }) (last ++ drop made after)
   solved moves long r e =
-      let f : take made after ≡ startIn sheet n = front (startIn sheet n) room after made w in
-      let held : last ≡ endIn sheet n most limit .tour = rw f at (r .held) in
-      let count : moves ≡ endIn sheet n most limit .moves = rw f at (r .counted) in
-      let size : length (startIn sheet n) ≡ length (endIn sheet n most limit .tour) = ap length (sym f) ∙ sym k ∙ ap length held in
+      let f : take made after ≡ startIn chart n = front (startIn chart n) room after made w in
+      let held : last ≡ endIn chart n most limit .tour = rw f at (r .held) in
+      let count : moves ≡ endIn chart n most limit .moves = rw f at (r .counted) in
+      let size : length (startIn chart n) ≡ length (endIn chart n most limit .tour) =
+      ap length (sym f) ∙ sym k ∙ ap length held in
       record {
-        told = rw (e, last-lent (startIn sheet n) room after made w last k, count, held);
+        told = rw (e, last-lent (startIn chart n) room after made w last k, count, held);
         held = ap (λ (l : List ℕ). l ++ drop made after) held
-            ∙ ap (λ (l : List ℕ). endIn sheet n most limit .tour ++ l) (back (startIn sheet n) room after made w ∙ ap (λ (i : ℕ). drop i room) size);
+            ∙ ap (λ (l : List ℕ). endIn chart n most limit .tour ++ l)
+            (back (startIn chart n) room after made w ∙ ap (λ (i : ℕ). drop i room) size);
       }

@@ -4,26 +4,26 @@ use mathlib.Core.List.{List}
 use Prim.Native.Nat.{ℕ}
 use Rattle.answer.specs.Room.{placed}
 use Rattle.start.specs.Nearest.{Ground, nearest}
-use Rattle.improve.specs.Search.{Sheet, State, lengthIn, searched}
+use Rattle.improve.specs.Search.{Chart, State, lengthIn, searched}
 use Rattle.solve.specs.declared.Outcome.{Outcome}
 
 -- what the start reads of it
-abbrev pub groundIn : Sheet → Ground
-groundIn sheet = record { home = sheet .home; table = sheet .table; t = sheet .t; first = sheet .first; pairs = sheet .pairs }
+abbrev pub groundIn : Chart → Ground
+groundIn chart = record { home = chart .home; table = chart .table; t = chart .t; first = chart .first; pairs = chart .pairs }
 
 -- the start over n contours
-abbrev pub startIn : Sheet → ℕ → List ℕ
-startIn sheet n = nearest (groundIn sheet) n
+abbrev pub startIn : Chart → ℕ → List ℕ
+startIn chart n = nearest (groundIn chart) n
 
 -- where the search from that start ends, after at most so many passes and so many trials
-abbrev pub endIn : Sheet → ℕ → ℕ → ℕ → State
-endIn sheet n most limit = searched sheet most limit (startIn sheet n)
+abbrev pub endIn : Chart → ℕ → ℕ → ℕ → State
+endIn chart n most limit = searched chart most limit (startIn chart n)
 
 -- what is told of it: the trials, and the length evaluated from the tour held
-abbrev pub outcomeIn : Sheet → State → Outcome
-outcomeIn sheet s = record { moves = s .moves; length = lengthIn sheet (s .tour) }
+abbrev pub outcomeIn : Chart → State → Outcome
+outcomeIn chart s = record { moves = s .moves; length = lengthIn chart (s .tour) }
 
 -- a search that ended in s told this outcome and left this room
-pub record Solved (sheet : Sheet) (s : State) (room : List ℕ) (r : Outcome) (after : List ℕ) : Type 0 where
-  pub told : r ≡ outcomeIn sheet s
+pub record Solved (chart : Chart) (s : State) (room : List ℕ) (r : Outcome) (after : List ℕ) : Type 0 where
+  pub told : r ≡ outcomeIn chart s
   pub held : after ≡ placed (s .tour) room

@@ -1,5 +1,5 @@
 // The whole search: the nearest-neighbour start that respects the pairs, then its improvement, and the length of the tour held.
-ghost use Rattle.improve.specs.Code.{sheetOf};
+ghost use Rattle.improve.specs.Code.{chartOf};
 ghost use Rattle.solve.specs.Solve.{endIn, Solved};
 
 // What is told of a tour: how many trials it took, and how long it is.
@@ -22,8 +22,8 @@ pub fn solve_constrained(
 ) -> Outcome
     ensures { λ r. do
       n ← ⟦tour.len()⟧ .entry
-      ⌜ Solved (sheetOf (now (home .entry)) (now (table .entry)) t (now (owner .entry)) (now (first .entry)) (now (pairs .entry)))
-          (endIn (sheetOf (now (home .entry)) (now (table .entry)) t (now (owner .entry)) (now (first .entry)) (now (pairs .entry))) n passes limit)
+      ⌜ Solved (chartOf (now (home .entry)) (now (table .entry)) t (now (owner .entry)) (now (first .entry)) (now (pairs .entry)))
+          (endIn (chartOf (now (home .entry)) (now (table .entry)) t (now (owner .entry)) (now (first .entry)) (now (pairs .entry))) n passes limit)
           (now (tour .entry)) r (now (tour .exit)) ⌝ }
 {
     let made = start::nn_constrained(home, table, t, first, pairs, tour);

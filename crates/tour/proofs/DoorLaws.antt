@@ -17,7 +17,7 @@ use Rattle.solve.specs.declared.Outcome.{Outcome}
 use Rattle.solve.specs.Solve.{Solved}
 use Rattle.answer.proofs.RoomLaws.{room-back}
 use Rattle.tour.specs.declared.Toured.the-variants as answer
-use Rattle.instance.specs.Search.{countOn, tableOn, sheetOn}
+use Rattle.instance.specs.Search.{countOn, tableOn, chartOn}
 use Rattle.tour.specs.Search.{endOn, tourOn}
 use Rattle.tour.specs.Tour.{Left, left, roomCheck, tourCheck, toured, touredUnless, tourOf}
 
@@ -38,7 +38,7 @@ module _ (s : List ℕ) (entries distances n t : ℕ) (en : n ≡ contoursOf s) 
 
 -- ---- parts that were lent
 
-pub toured-is : (s room part : List ℕ) (table after : List Float) (o : Outcome) (n d : ℕ) → Solved (sheetOn s) (endOn s) (take n room) o part
+pub toured-is : (s room part : List ℕ) (table after : List Float) (o : Outcome) (n d : ℕ) → Solved (chartOn s) (endOn s) (take n room) o part
     → length part ≡ length (take n room) → after ≡ tableOn s → d ≡ countOn s * countOn s
     → left (answer.Done o) (part ++ drop n room) (after ++ drop d table) ≡ toured s room table
 toured-is s room part table after o n d w k e f =

@@ -6,12 +6,12 @@ use lib.ListN.{length, take}
 use lib.Ieee.{Float}
 use Rattle.fields.specs.Layout.{contoursOf, passesOf, moveLimitOf}
 use Rattle.table.specs.Distances.{tabled, distancesOf}
-use Rattle.improve.specs.Code.{sheetOf}
-use Rattle.improve.specs.Search.{Sheet}
+use Rattle.improve.specs.Code.{chartOf}
+use Rattle.improve.specs.Search.{Chart}
 use Rattle.instance.specs.declared.Prepared.{Prepared}
-use Rattle.instance.specs.Search.{countOn, tableOn, sheetOn}
-use Rattle.instance.specs.Prepared.{PreparedOn, sheetIn}
-use Rattle.instance.proofs.PreparedLaws.{table-fills, sheet-on}
+use Rattle.instance.specs.Search.{countOn, tableOn, chartOn}
+use Rattle.instance.specs.Prepared.{PreparedOn, chartIn}
+use Rattle.instance.proofs.PreparedLaws.{table-fills, chart-on}
 use Rattle.solve.specs.declared.Outcome.{Outcome}
 use Rattle.solve.specs.Solve.{endIn, Solved}
 use Rattle.tour.specs.Search.{endOn}
@@ -27,17 +27,17 @@ module _ (s : List ℕ) (p : Prepared) (h : PreparedOn s p) (room table : List F
   pub table-on : table ≡ tableOn s
   table-on = filled ∙ rw (h .held .items .front, h .held .owner .front)
 
-  abbrev lent : Sheet
+  abbrev lent : Chart
   lent =
       let t = p .all .count in
-      sheetOf (take t (p .homes)) table t (take t (p .all .owner)) (take (p .all .contours + 1) (p .all .first)) (take (p .seats) (p .pairs))
+      chartOf (take t (p .homes)) table t (take t (p .all .owner)) (take (p .all .contours + 1) (p .all .first)) (take (p .seats) (p .pairs))
 
-  lent-is : lent ≡ sheetOn s
-  unfolding sheetIn
-  lent-is = rw filled (sheet-on s p h)
+  lent-is : lent ≡ chartOn s
+  unfolding chartIn
+  lent-is = rw filled (chart-on s p h)
 
   pub solved-on : (n most limit : ℕ) (tour after : List ℕ) (r : Outcome) → n ≡ contoursOf s → most ≡ passesOf s → limit ≡ moveLimitOf s
-      → Solved lent (endIn lent n most limit) tour r after → Solved (sheetOn s) (endOn s) tour r after
+      → Solved lent (endIn lent n most limit) tour r after → Solved (chartOn s) (endOn s) tour r after
   unfolding endOn
   solved-on n most limit tour after r en em el w =
-      subst (λ (sheet : Sheet). Solved sheet (endIn sheet (contoursOf s) (passesOf s) (moveLimitOf s)) tour r after) lent-is (rw (en, em, el) at w)
+      subst (λ (chart : Chart). Solved chart (endIn chart (contoursOf s) (passesOf s) (moveLimitOf s)) tour r after) lent-is (rw (en, em, el) at w)

@@ -5,7 +5,7 @@ ghost use lib.Ieee.{toBits, binary64};
 ghost use Rattle.answer.specs.declared.Check.the-variants.{Fine};
 ghost use Rattle.fields.specs.Layout.{contoursOf};
 ghost use Rattle.card.specs.Verdict.{checkOf};
-ghost use Rattle.instance.specs.Search.{countOn, tableOn, sheetOn};
+ghost use Rattle.instance.specs.Search.{countOn, tableOn, chartOn};
 ghost use Rattle.instance.specs.Prepared.{PreparedOn};
 ghost use Rattle.solve.specs.Solve.{Solved};
 ghost use Rattle.tour.specs.Search.{endOn};
@@ -27,7 +27,7 @@ fn run(card: &[u8], p: Prepared, room: &mut [u8], table: &mut [f64]) -> Outcome
     requires { ⌜ PreparedOn (now card) p ⌝ }
     requires { do ⌜ (← ⟦room.len()⟧) ≡ contoursOf (now card) ⌝ }
     requires { do ⌜ (← ⟦table.len()⟧) ≡ countOn (now card) * countOn (now card) ⌝ }
-    ensures { λ r. ⌜ Solved (sheetOn (now (card .entry))) (endOn (now (card .entry))) (now (room .entry)) r (now (room .exit)) ⌝ }
+    ensures { λ r. ⌜ Solved (chartOn (now (card .entry))) (endOn (now (card .entry))) (now (room .entry)) r (now (room .exit)) ⌝ }
     ensures { λ r. ⌜ now (table .exit) ≡ tableOn (now (card .entry)) ⌝ }
 {
     let all = p.all;

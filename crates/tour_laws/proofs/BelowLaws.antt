@@ -14,7 +14,7 @@ use Rattle.table.specs.Each.{each}
 use Rattle.table.proofs.EachLaws.{each-keeps}
 use Rattle.start.specs.Nearest.{Ground, Way, reachOf, lastOf, chosen, visit, step, setOut, walked, nearest}
 use Rattle.start.proofs.ChoiceLaws.{chosen-fair}
-use Rattle.improve.specs.Search.{Sheet, contourOf, turned, searched}
+use Rattle.improve.specs.Search.{Chart, ownerOf, turned, searched}
 use Rattle.improve.proofs.Keeps.{search-keeps}
 use Rattle.improve.proofs.ReversalLaws.{Parts, parts, turned-parts, length-turned}
 use Rattle.improve.proofs.TourLaws.{KeepsTour, tour-keeps}
@@ -71,11 +71,14 @@ turned-below t f u l h g w = go (parts f u l h g)
         let rest : AllBelow t (b ++ c) = below-back t a (b ++ c) all in
         subst (AllBelow t) (sym e) (below-both t a (rev b ++ c) (below-front t a (b ++ c) all) (below-both t (rev b) c (below-rev t b (below-front t b c rest)) (below-back t b c rest)))
 
-held-kept : (sheet : Sheet) (t n : ℕ) → ((k : ℕ) → getD (sheet .first) k 0 ≤ t) → KeepsTour sheet n (Held t n)
-held-kept sheet t n bound = record {
+held-kept : (chart : Chart) (t n : ℕ) → ((k : ℕ) → getD (chart .first) k 0 ≤ t) → KeepsTour chart n (Held t n)
+held-kept chart t n bound = record {
   swapped = λ p held a tour h o w. record {
     long = simp length-set (simp length-set at (w .long));
-    below = subst (AllBelow t) (set-set tour p held a) (below-set t (set tour p held) p a (w .below) (let m = bound (suc (contourOf (sheet .owner) held)) in omega (arith, o .to)));
+    below =
+        subst (AllBelow t) (set-set tour p held a)
+        (below-set t (set tour p held) p a (w .below)
+        (let m = bound (suc (ownerOf (chart .owner) held)) in omega (arith, o .to)));
   };
   flipped = λ i j tour h g l w. record {
     long = length-turned (suc i) (suc j) tour (omega arith) (omega (arith, w .long)) ∙ w .long;
@@ -84,10 +87,12 @@ held-kept sheet t n bound = record {
 }
 
 -- a search over candidates below t keeps a tour among them
-pub below-kept : (sheet : Sheet) (most limit t : ℕ) (tour : List ℕ) → ((k : ℕ) → getD (sheet .first) k 0 ≤ t) → AllBelow t tour
-    → AllBelow t (searched sheet most limit tour .tour)
-below-kept sheet most limit t tour bound h =
-    search-keeps sheet most limit tour (λ s. Held t (length tour) (s .tour)) (tour-keeps sheet limit (length tour) _ (held-kept sheet t (length tour) bound))
+pub below-kept : (chart : Chart) (most limit t : ℕ) (tour : List ℕ) → ((k : ℕ) → getD (chart .first) k 0 ≤ t)
+    → AllBelow t tour
+    → AllBelow t (searched chart most limit tour .tour)
+below-kept chart most limit t tour bound h =
+    search-keeps chart most limit tour (λ s. Held t (length tour) (s .tour))
+    (tour-keeps chart limit (length tour) _ (held-kept chart t (length tour) bound))
     (record { long = refl; below = h }) .below
 
 -- ---- the start

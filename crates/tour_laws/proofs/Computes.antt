@@ -19,14 +19,14 @@ use Rattle.table.specs.Distances.{legOf, legAt, listed, chained, rowOf, distanc
 use Rattle.start.specs.Nearest.{reachOf, closer, offer, offered, isOpen, considered, chosen, visit, step, walked, nearest}
 use Rattle.improve.specs.Search.{contours, shorter, judged, atLimit, tried, swap, alternative, turn, turned, flip, reversal, row, pass, repeated, searched}
 use Rattle.instance.specs.Gather.{verticesOf, outlineOf, offersOf, gathered, owners, firsts}
-use Rattle.instance.specs.Search.{sheetOn}
+use Rattle.instance.specs.Search.{chartOn}
 use Rattle.tour.specs.Search.{endOn}
 use Rattle.tour.specs.Tour.{tourCheck, roomCheck, tourOf}
 
 -- to unfold this name is to unfold all of these, and what the verdict is computed through. A definition that the tour
 -- comes to need is added here only
 unfoldable pub tour-computes : Unit {0}
-unfolding verdict-computes tourOf tourCheck roomCheck endOn sheetOn
+unfolding verdict-computes tourOf tourCheck roomCheck endOn chartOn
     gathered owners firsts verticesOf outlineOf offersOf asType asPreference pointAt
     candidatesOf candidatesFrom spaced target perimeterOf around reaches onEdge spotFrom lastSpot spotAt closing edges
     alongOf distanceOf distanceSqOf squares sqrtOf rootFinite halves wholeRoot digits

@@ -21,14 +21,14 @@ use Rattle.card_laws.proofs.Verdicts.{exactly}
 use Rattle.table.proofs.DistanceLaws.{homes-at}
 use Rattle.start.proofs.ChoiceLaws.{InContour}
 use Rattle.start.proofs.StartLaws.{Within, start-finishes, start-legal}
-use Rattle.improve.specs.Search.{contourOf, contours, legal}
+use Rattle.improve.specs.Search.{ownerOf, contours, legal}
 use Rattle.improve.proofs.TourLaws.{same-length, contours-kept, legal-kept}
 use Rattle.instance.specs.Gather.{gathered, offersOf}
 use Rattle.instance.proofs.FineLaws.{some-offers}
 use Rattle.instance.proofs.OwnerLaws.{first-at, grouped}
 use Rattle.solve.specs.Solve.{groundIn}
 use Rattle.card.specs.Names.{pairsOn}
-use Rattle.instance.specs.Search.{homeOn, candidatesOn, countOn, ownersOn, firstsOn, sheetOn}
+use Rattle.instance.specs.Search.{homeOn, candidatesOn, countOn, ownersOn, firstsOn, chartOn}
 use Rattle.tour.specs.Search.{startOn, endOn, tourOn}
 use Rattle.tour_laws.specs.Visits.{AllBelow, Visits}
 use Rattle.tour_laws.proofs.BelowLaws.{below-at, below-kept, start-below}
@@ -45,7 +45,7 @@ contour-at owner (a ∷ tour) (suc p) h = contour-at owner tour p (omega arith)
 
 contours-long : (owner tour : List ℕ) → length (contours owner tour) ≡ length tour
 unfolding contours
-contours-long owner tour = length-map tour (contourOf owner)
+contours-long owner tour = length-map tour (ownerOf owner)
 
 -- a tour that visits each contour once never goes on to another candidate of the same contour
 pub rides : (s tour : List ℕ) → Visits s tour → Rides (candidatesOn s) (ownersOn s) tour
@@ -67,8 +67,8 @@ module _ (s : List ℕ) (fine : checkOf s ≡ Fine) where
   among : (k a : ℕ) → InContour (firstsOn s) k a → a < countOn s
   among k a m = let l = firsts-below s (contoursOf s) (suc k) in omega (arith, m .to)
 
-  near : Within (groundIn (sheetOn s)) (contoursOf s)
-  unfolding sheetOn gathered
+  near : Within (groundIn (chartOn s)) (contoursOf s)
+  unfolding chartOn gathered
   near = record {
     some = λ k h.
         let more = length-append (gathered s k) (offersOf s k) in
@@ -90,16 +90,20 @@ module _ (s : List ℕ) (fine : checkOf s ≡ Fine) where
 
   -- the start comes to every contour
   pub start-long : length (startOn s) ≡ contoursOf s
-  unfolding sheetOn
-  start-long = start-finishes (groundIn (sheetOn s)) (contoursOf s) near (accepted s fine .acyclic) (links s fine .all-contours) (accepted s fine .few-contours)
+  unfolding chartOn
+  start-long =
+      start-finishes (groundIn (chartOn s)) (contoursOf s) near (accepted s fine .acyclic)
+      (links s fine .all-contours) (accepted s fine .few-contours)
 
   start-order : Legal (contoursOf s) (pairsOn s) (contours (ownersOn s) (startOn s))
-  unfolding sheetOn contours
-  start-order = start-legal (groundIn (sheetOn s)) (contoursOf s) near (accepted s fine .acyclic) (links s fine .all-contours) (accepted s fine .few-contours) (ownersOn s) (grouped s (contoursOf s))
+  unfolding chartOn contours
+  start-order =
+      start-legal (groundIn (chartOn s)) (contoursOf s) near (accepted s fine .acyclic) (links s fine .all-contours)
+      (accepted s fine .few-contours) (ownersOn s) (grouped s (contoursOf s))
 
   start-among : AllBelow (countOn s) (startOn s)
-  unfolding sheetOn
-  start-among = start-below (groundIn (sheetOn s)) (contoursOf s) (countOn s) (firsts-below s (contoursOf s))
+  unfolding chartOn
+  start-among = start-below (groundIn (chartOn s)) (contoursOf s) (countOn s) (firsts-below s (contoursOf s))
 
   -- the start visits each contour once
   pub start-visits : Visits s (startOn s)
@@ -110,23 +114,24 @@ module _ (s : List ℕ) (fine : checkOf s ≡ Fine) where
   -- as many entries as the card has contours
   pub tour-long : length (tourOn s) ≡ contoursOf s
   unfolding endOn
-  tour-long = same-length (sheetOn s) (passesOf s) (moveLimitOf s) (startOn s) ∙ start-long
+  tour-long = same-length (chartOn s) (passesOf s) (moveLimitOf s) (startOn s) ∙ start-long
 
   tour-each : EachOnce (contoursOf s) (contours (ownersOn s) (tourOn s))
-  unfolding endOn sheetOn
+  unfolding endOn chartOn
   tour-each =
       shuffled-once (contoursOf s) (contours (ownersOn s) (startOn s)) (contours (ownersOn s) (tourOn s)) (start-order .each)
-      (contours-long (ownersOn s) (tourOn s) ∙ tour-long) (contours-kept (sheetOn s) (passesOf s) (moveLimitOf s) (startOn s) (grouped s (contoursOf s)))
+      (contours-long (ownersOn s) (tourOn s) ∙ tour-long)
+      (contours-kept (chartOn s) (passesOf s) (moveLimitOf s) (startOn s) (grouped s (contoursOf s)))
 
-  tour-keeps : legal (sheetOn s) (tourOn s) ≡ true
-  unfolding endOn sheetOn
+  tour-keeps : legal (chartOn s) (tourOn s) ≡ true
+  unfolding endOn chartOn
   tour-keeps =
-      legal-kept (sheetOn s) (passesOf s) (moveLimitOf s) (startOn s) (grouped s (contoursOf s))
+      legal-kept (chartOn s) (passesOf s) (moveLimitOf s) (startOn s) (grouped s (contoursOf s))
       (legal-keeps (contoursOf s) (contours (ownersOn s) (startOn s)) (start-order .each) (pairsOn s) start-order)
 
   -- of each pair the first before the second
   pub tour-legal : LegalOrder s (contours (ownersOn s) (tourOn s))
-  unfolding sheetOn
+  unfolding chartOn
   tour-legal =
       let sound = exactly s .fine-only fine in
       by-ids s (sound .0 .0 .0 .1) (sound .0 .0 .1) (contours (ownersOn s) (tourOn s))
@@ -134,8 +139,10 @@ module _ (s : List ℕ) (fine : checkOf s ≡ Fine) where
 
   -- all of them candidates of the card
   pub tour-among : AllBelow (countOn s) (tourOn s)
-  unfolding endOn sheetOn
-  tour-among = below-kept (sheetOn s) (passesOf s) (moveLimitOf s) (countOn s) (startOn s) (firsts-below s (contoursOf s)) start-among
+  unfolding endOn chartOn
+  tour-among =
+      below-kept (chartOn s) (passesOf s) (moveLimitOf s) (countOn s) (startOn s)
+      (firsts-below s (contoursOf s)) start-among
 
   -- and so does the tour
   pub tour-visits : Visits s (tourOn s)

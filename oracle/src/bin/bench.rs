@@ -94,11 +94,11 @@ fn search() {
     classes(
         "search",
         |card| {
-            let sheet = search::Sheet::of(card, &Problem::of(card));
+            let chart = search::Chart::of(card, &Problem::of(card));
             let (n, passes) = (card.contours.len(), u32::from(card.passes));
             move || {
-                let (_, mut tour) = start::constrained(&sheet, n);
-                black_box(sheet.improve(&mut tour, passes, 0));
+                let (_, mut tour) = start::constrained(&chart, n);
+                black_box(chart.improve(&mut tour, passes, 0));
                 black_box(tour);
             }
         },

@@ -1,4 +1,5 @@
 -- `improve::alternatives` meets its contract. The invariant: the candidates still to come make of this state what all of them make of the first; the count has grown by no more than the candidates passed. Assumes nothing.
+use mathlib.Core.List.{[]}
 use mathlib.Core.Path.{_≡_, refl, sym, _∙_}
 use Prim.Native.Nat.{_+_, _-_, _≤_, _<_}
 use native.Mathlib.Omega.{arith}
@@ -6,8 +7,7 @@ use borrow.Author.Needs.{needs}
 use lib.ListN.{length}
 use Rattle.table.proofs.EachLaws.{onwards, begin, carry, arrive}
 use Rattle.table.specs.Each.{each}
-use Rattle.table.specs.Evaluate.{lengthOf}
-use Rattle.improve.specs.Code.{going}
+use Rattle.improve.specs.Code.{going, chartOf}
 use Rattle.improve.specs.Search.{alternative}
 use Rattle.improve.proofs.IdleLaws.{halt}
 use Rattle.improve.proofs.TrialLaws.{alternative-idle, alternative-held, alternative-stops, alternative-goes}
@@ -16,8 +16,8 @@ use Rattle.improve.proofs.alternatives.Tie as tie
 
 abbrev Inv-loop : tie.InvT-loop
 Inv-loop home table t tour₀ p held from end limit cost better moves shortest₀ found₀ count₀ a₀ tour shortest found count a =
-    (onwards (alternative (lengthOf home table t) limit p held) end a (going tour shortest found count)
-    ≡ each (alternative (lengthOf home table t) limit p held) (end - from) from (going tour₀ cost better moves))
+    (onwards (alternative (chartOf home table t [] [] []) limit p held) end a (going tour shortest found count)
+    ≡ each (alternative (chartOf home table t [] [] []) limit p held) (end - from) from (going tour₀ cost better moves))
     × (length tour ≡ length tour₀)
     × (from ≤ a)
     × (a < 256)

@@ -22,11 +22,11 @@ abbrev μ-loop : tie.MeasureT-loop
 loop-holds : tie.Need-loop-holds Inv-loop μ-loop
 loop-holds c = (omega arith, refl, order-none _)
 
-shared-slice-read-contour-of : tie.Need-shared-slice-read-contour-of Inv-loop μ-loop
-shared-slice-read-contour-of c = search needs
+shared-slice-read-owner-of : tie.Need-shared-slice-read-owner-of Inv-loop μ-loop
+shared-slice-read-owner-of c = search needs
 
-contour-of-requires : tie.Need-contour-of-requires Inv-loop μ-loop
-contour-of-requires c κs = search needs
+owner-of-requires : tie.Need-owner-of-requires Inv-loop μ-loop
+owner-of-requires c κs = search needs
 
 array-write-order : tie.Need-array-write-order Inv-loop μ-loop
 array-write-order c = omega arith
@@ -39,8 +39,12 @@ loop-less c = omega arith
 
 loop-again : tie.Need-loop-again Inv-loop μ-loop
 loop-again c =
-    let l = c .before .before .before .loop in
-    (omega arith, simp length-set (l .inv .1), order-more _ _ _ _ _ (c .before .before .loop-test .taken) (omega arith) (c .contour-of .ensures) (l .inv .2))
+    let l = c .before .before .before .loop in (
+      omega arith,
+      simp length-set (l .inv .1),
+      order-more _ _ _ _ _ (c .before .before .loop-test .taken)
+          (omega arith) (c .owner-of .ensures) (l .inv .2),
+    )
 
 array-share-prefix-order : tie.Need-array-share-prefix-order Inv-loop μ-loop
 array-share-prefix-order c = omega arith
@@ -61,8 +65,8 @@ is-legal-spec =
     Inv-loop
     μ-loop
     loop-holds
-    shared-slice-read-contour-of
-    contour-of-requires
+    shared-slice-read-owner-of
+    owner-of-requires
     array-write-order
     add-i
     loop-less

@@ -8,8 +8,8 @@ use borrow.Author.Tests.{not-true, not-false}
 use lib.ListN.{length}
 use Rattle.table.proofs.EachLaws.{onwards, begin, begin-zero, carry, arrive}
 use Rattle.table.specs.Each.{each}
-use Rattle.improve.specs.Code.{going, sheetOf}
-use Rattle.improve.specs.Search.{lengthIn, legal, reversal, row, repeated, begun}
+use Rattle.improve.specs.Code.{going, chartOf}
+use Rattle.improve.specs.Search.{reversal, row, repeated, begun}
 use Rattle.improve.proofs.PassLaws.{moves-fit, repeat-begin, repeat-over, cut-in-turns, cut-in-rows, pass-again, pass-quiet, row-is, reached}
 use Rattle.improve.proofs.TrialLaws.{reversal-stops, reversal-goes}
 use Rattle.improve.proofs.run.Statement.{statement}
@@ -17,9 +17,9 @@ use Rattle.improve.proofs.run.Tie as tie
 
 abbrev Inv-loop2 : tie.InvT-loop2
 Inv-loop2 home table t owner first pairs tour₀ passes limit n cost₀ moves₀ pass better₀ i j₀ tour cost moves better j =
-    let sheet = sheetOf home table t owner first pairs in
-    (onwards (reversal (lengthIn sheet) (legal sheet) limit i) n j (going tour cost better moves)
-    ≡ each (reversal (lengthIn sheet) (legal sheet) limit i) (n - (i + 2)) (i + 2) (going tour₀ cost₀ better₀ moves₀))
+    let chart = chartOf home table t owner first pairs in
+    (onwards (reversal chart limit i) n j (going tour cost better moves)
+    ≡ each (reversal chart limit i) (n - (i + 2)) (i + 2) (going tour₀ cost₀ better₀ moves₀))
     × (length tour ≡ length tour₀)
     × (i + 2 ≤ j)
     × (j ≤ n)
@@ -30,9 +30,9 @@ abbrev μ-loop2 : tie.MeasureT-loop2
 
 abbrev Inv-loop : tie.InvT-loop
 Inv-loop home table t owner first pairs tour₀ passes limit n cost₀ moves₀ pass better₀ i₀ tour cost moves better i =
-    let sheet = sheetOf home table t owner first pairs in
-    (onwards (row (lengthIn sheet) (legal sheet) limit n) (n - 1) i (going tour cost better moves)
-    ≡ each (row (lengthIn sheet) (legal sheet) limit n) (n - 1) 0 (going tour₀ cost₀ better₀ moves₀))
+    let chart = chartOf home table t owner first pairs in
+    (onwards (row chart limit n) (n - 1) i (going tour cost better moves)
+    ≡ each (row chart limit n) (n - 1) 0 (going tour₀ cost₀ better₀ moves₀))
     × (length tour ≡ length tour₀)
     × (i ≤ n)
     × (moves ≤ moves₀ + 256 * i)
@@ -42,8 +42,9 @@ abbrev μ-loop : tie.MeasureT-loop
 
 abbrev Inv-search : tie.InvT-search
 Inv-search home table t owner first pairs tour₀ passes limit n cost₀ moves₀ pass₀ tour cost moves pass =
-    let sheet = sheetOf home table t owner first pairs in
-    (repeated sheet limit n (passes - pass) (going tour cost true moves) ≡ repeated sheet limit n passes (begun sheet tour₀))
+    let chart = chartOf home table t owner first pairs in
+    (repeated chart limit n (passes - pass) (going tour cost true moves)
+    ≡ repeated chart limit n passes (begun chart tour₀))
     × (length tour ≡ length tour₀)
     × (pass ≤ passes)
     × (moves ≤ 131072 * pass)
@@ -101,7 +102,8 @@ loop2-again : tie.Need-loop2-again Inv-loop2 μ-loop2 Inv-loop μ-loop Inv-searc
 loop2-again c =
     let l = c .before .before .before .before .before .before .before .before .loop2 in (
       carry _ _ _ _ _ _ (l .inv .0) (c .before .before .before .before .before .before .before .loop2-test .taken)
-          (reversal-goes _ _ _ _ _ _ _ _ _ _ (c .before .before .before .before .before .before .at-limit .ensures) _ _ (c .before .before .before .before .before .if2 .left) (c .before .before .before .try-reversal .ensures)),
+          (reversal-goes _ _ _ _ _ _ _ _ _ (c .before .before .before .before .before .before .at-limit .ensures) _ _
+          (c .before .before .before .before .before .if2 .left) (c .before .before .before .try-reversal .ensures)),
       c .before .before .before .try-reversal .kept .1 .1 .1 .1 .1 .0 ∙ l .inv .1,
       omega arith,
       omega arith,
@@ -118,7 +120,8 @@ loop-again : tie.Need-loop-again Inv-loop2 μ-loop2 Inv-loop μ-loop Inv-search 
 loop-again c =
     let l = c .before .before .before .loop in
     let k = c .before .loop2 in (
-      carry _ _ _ _ _ _ (l .inv .0) (omega arith) (row-is _ _ _ _ _ _ _ (arrive _ _ _ _ _ (k .inv .0) (c .loop2-test .left))),
+      carry _ _ _ _ _ _ (l .inv .0) (omega arith)
+          (row-is _ _ _ _ _ _ (arrive _ _ _ _ _ (k .inv .0) (c .loop2-test .left))),
       k .inv .1 ∙ l .inv .1,
       omega arith,
       omega arith,
@@ -156,7 +159,7 @@ returns-3 : tie.Need-returns-3 Inv-loop2 μ-loop2 Inv-loop μ-loop Inv-search μ
 returns-3 c =
     reached _ _ (cut-in-rows _ _ _ _ _ _ _ _ _ (c .before .before .before .before .before .before .before .before .before .before .before .before .search .inv .0) (c .before .before .before .before .before .before .before .before .before .before .before .search-test .taken) _ _ (rw (c .before .before .before .before .before .before .before .before .before .before .before .before .search .inv .1) at (c .before .before .before .before .before .before .before .before .before .turns .ensures .0)) (c .before .before .before .before .before .before .if1 .left) _ _ _ _ _ _ _ _ _ _
     (c .before .before .before .before .before .loop .inv .0) (omega arith) (c .before .before .before .loop2 .inv .0) (c .before .before .loop2-test .taken)
-    (reversal-stops _ _ _ _ _ _ _ _ _ _ (c .before .at-limit .ensures) (c .if2 .taken)))
+    (reversal-stops _ _ _ _ _ _ _ _ _ (c .before .at-limit .ensures) (c .if2 .taken)))
 
 same-length-4 : tie.Need-same-length-4 Inv-loop2 μ-loop2 Inv-loop μ-loop Inv-search μ-search
 same-length-4 c = c .before .before .loop .inv .1 ∙ c .before .before .before .before .before .before .turns .kept .1 .1 .1 .1 .1 .0 ∙ c .before .before .before .before .before .before .before .before .before .search .inv .1

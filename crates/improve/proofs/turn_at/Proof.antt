@@ -7,8 +7,8 @@ use Rattle.improve.proofs.turn_at.Tie as tie
 slice-read-held : tie.Need-slice-read-held
 slice-read-held c = search needs
 
-contour-of-requires : tie.Need-contour-of-requires
-contour-of-requires c κs = search needs
+owner-of-requires : tie.Need-owner-of-requires
+owner-of-requires c κs = search needs
 
 cast-k : tie.Need-cast-k
 cast-k c = search needs
@@ -29,14 +29,20 @@ same-length : tie.Need-same-length
 same-length c = search needs
 
 returns : tie.Need-returns
-returns c = (turn-is _ _ _ _ _ _ _ _ _ _ (c .before .before .before .before .before .before .contour-of .ensures) (c .before .before .before .before .before .byte-at .ensures) (c .before .before .before .before .byte-at2 .ensures) (c .before .before .alternatives .ensures .0), c .before .before .alternatives .ensures .1)
+returns c = (
+  turn-is _ _ _ _ _ _ _ _ (c .before .before .before .before .before .before .owner-of .ensures)
+      (c .before .before .before .before .before .byte-at .ensures)
+      (c .before .before .before .before .byte-at2 .ensures)
+      (c .before .before .alternatives .ensures .0),
+  c .before .before .alternatives .ensures .1,
+)
 
 pub turn-at-spec : {M : Type 1} → statement M
 turn-at-spec =
     tie.close
     (tie.spec
     slice-read-held
-    contour-of-requires
+    owner-of-requires
     cast-k
     byte-at-requires
     add-byte-at

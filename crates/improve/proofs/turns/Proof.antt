@@ -1,13 +1,13 @@
 -- `improve::turns` meets its contract. The invariant: the turns still to come make of this state what all of them make of the first. Assumes nothing.
 use mathlib.Core.Bool.{false}
+use mathlib.Core.List.{[]}
 use mathlib.Core.Path.{_≡_, refl, sym, _∙_}
 use Prim.Native.Nat.{_+_, _*_, _-_, _≤_}
 use native.Mathlib.Omega.{arith}
 use lib.ListN.{length}
 use Rattle.table.proofs.EachLaws.{begin-zero, onwards, carry, arrive}
 use Rattle.table.specs.Each.{each}
-use Rattle.table.specs.Evaluate.{lengthOf}
-use Rattle.improve.specs.Code.{going}
+use Rattle.improve.specs.Code.{going, chartOf}
 use Rattle.improve.specs.Search.{turn}
 use Rattle.improve.proofs.IdleLaws.{halt}
 use Rattle.improve.proofs.TrialLaws.{goes-on, turn-idle}
@@ -16,8 +16,8 @@ use Rattle.improve.proofs.turns.Tie as tie
 
 abbrev Inv-loop : tie.InvT-loop
 Inv-loop home table t owner first tour₀ limit cost moves n current₀ found₀ count₀ p₀ tour current found count p =
-    (onwards (turn (lengthOf home table t) owner first limit) n p (going tour current found count)
-    ≡ each (turn (lengthOf home table t) owner first limit) n 0 (going tour₀ cost false moves))
+    (onwards (turn (chartOf home table t owner first []) limit) n p (going tour current found count)
+    ≡ each (turn (chartOf home table t owner first []) limit) n 0 (going tour₀ cost false moves))
     × (length tour ≡ length tour₀)
     × (p ≤ n)
     × (count ≤ moves + 255 * p)
@@ -36,8 +36,11 @@ same-length c = c .before .before .before .turn-at .kept .1 .1 .1 .1 .1 .0 ∙ c
 
 returns : tie.Need-returns Inv-loop μ-loop
 returns c =
-    let l = c .before .before .before .before .before .before .loop in
-    (halt _ _ _ _ _ _ (turn-idle _ _ _ _) (l .inv .0) (c .before .before .before .before .before .loop-test .taken) (sym (c .before .before .before .turn-at .ensures .0)) (c .if1 .taken), omega arith)
+    let l = c .before .before .before .before .before .before .loop in (
+      halt _ _ _ _ _ _ (turn-idle _ _) (l .inv .0) (c .before .before .before .before .before .loop-test .taken)
+          (sym (c .before .before .before .turn-at .ensures .0)) (c .if1 .taken),
+      omega arith,
+    )
 
 add-p : tie.Need-add-p Inv-loop μ-loop
 add-p c = omega arith

@@ -1,4 +1,4 @@
--- `questions::length_of` meets its contract: each part that is lent is what the sheet holds. Assumes nothing.
+-- `questions::length_of` meets its contract: each part that is lent is what the chart holds. Assumes nothing.
 use denote.Ref.{now}
 use Rattle.questions.proofs.OrderLaws.{entries-front, length-is}
 use borrow.Author.Needs.{needs}

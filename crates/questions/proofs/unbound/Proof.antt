@@ -1,4 +1,4 @@
--- `questions::unbound` meets its contract: each part that is lent is what the sheet holds. Assumes nothing.
+-- `questions::unbound` meets its contract: each part that is lent is what the chart holds. Assumes nothing.
 use Rattle.questions.proofs.OrderLaws.{entries-front}
 use Rattle.questions.proofs.NearestLaws.{stops-lent, nearest-is}
 use borrow.Author.Needs.{needs}
