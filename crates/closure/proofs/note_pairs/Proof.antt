@@ -16,59 +16,23 @@ abbrev μ-loop : tie.MeasureT-loop
 loop-holds : tie.Need-loop-holds Inv-loop μ-loop
 loop-holds c = noted-none _ _ _ (c .before .pre .1)
 
-add-loop : tie.Need-add-loop Inv-loop μ-loop
-add-loop c = search needs
-
-shared-slice-read-wide : tie.Need-shared-slice-read-wide Inv-loop μ-loop
-shared-slice-read-wide c = search needs
-
-wide-requires : tie.Need-wide-requires Inv-loop μ-loop
-wide-requires c κs = search needs
-
-add-wide : tie.Need-add-wide Inv-loop μ-loop
-add-wide c = search needs
-
-shared-slice-read-wide-2 : tie.Need-shared-slice-read-wide-2 Inv-loop μ-loop
-shared-slice-read-wide-2 c = search needs
-
-wide-requires-2 : tie.Need-wide-requires-2 Inv-loop μ-loop
-wide-requires-2 c κs = search needs
-
-add-at : tie.Need-add-at Inv-loop μ-loop
-add-at c = search needs
-
-mul-flags : tie.Need-mul-flags Inv-loop μ-loop
-mul-flags c = search needs
-
-add-flags : tie.Need-add-flags Inv-loop μ-loop
-add-flags c = search needs
-
-element-write-flags : tie.Need-element-write-flags Inv-loop μ-loop
-element-write-flags c = search needs
-
-loop-less : tie.Need-loop-less Inv-loop μ-loop
-loop-less c = search needs
-
 loop-again : tie.Need-loop-again Inv-loop μ-loop
 loop-again c =
     let h = c .before .before .before .before .before .before in
-    noted-set _ _ _ _ _ (h .loop-test .taken) (h .before .loop .inv) _ _ (c .before .before .before .before .wide .ensures) (c .before .before .wide2 .ensures) (search needs) (search needs) (search needs)
-
-loop-less-2 : tie.Need-loop-less-2 Inv-loop μ-loop
-loop-less-2 c = search needs
+    noted-set _ _ _ _ _ (h .loop-test .taken) (h .before .loop .inv) _ _ (c .before .before .before .before .wide .ensures)
+    (c .before .before .wide2 .ensures) (search needs) (search needs) (search needs)
 
 loop-again-2 : tie.Need-loop-again-2 Inv-loop μ-loop
 loop-again-2 c =
     let h = c .before .before .before .before .before .before in
-    noted-skip _ _ _ _ _ (h .loop-test .taken) (h .before .loop .inv) (λ p q. omega (arith, c .before .before .wide2 .ensures, c .if2 .left))
-
-loop-less-3 : tie.Need-loop-less-3 Inv-loop μ-loop
-loop-less-3 c = search needs
+    noted-skip _ _ _ _ _ (h .loop-test .taken) (h .before .loop .inv)
+    (λ p q. omega (arith, c .before .before .wide2 .ensures, c .if2 .left))
 
 loop-again-3 : tie.Need-loop-again-3 Inv-loop μ-loop
 loop-again-3 c =
     let h = c .before .before .before .before .before in
-    noted-skip _ _ _ _ _ (h .loop-test .taken) (h .before .loop .inv) (λ p q. omega (arith, c .before .before .before .wide .ensures, c .if1 .left))
+    noted-skip _ _ _ _ _ (h .loop-test .taken) (h .before .loop .inv)
+    (λ p q. omega (arith, c .before .before .before .wide .ensures, c .if1 .left))
 
 returns : tie.Need-returns Inv-loop μ-loop
 returns c = noted-all _ _ _ _ _ (c .loop-test .left) (c .before .loop .inv)
@@ -80,20 +44,11 @@ note-pairs-spec =
     Inv-loop
     μ-loop
     loop-holds
-    add-loop
-    shared-slice-read-wide
-    wide-requires
-    add-wide
-    shared-slice-read-wide-2
-    wide-requires-2
-    add-at
-    mul-flags
-    add-flags
-    element-write-flags
-    loop-less
+    (search needs) (search needs) (search needs) (search needs) (search needs) (search needs) (search needs)
+    (search needs) (search needs) (search needs) (search needs)
     loop-again
-    loop-less-2
+    (search needs)
     loop-again-2
-    loop-less-3
+    (search needs)
     loop-again-3
     returns)

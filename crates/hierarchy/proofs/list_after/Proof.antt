@@ -18,47 +18,15 @@ abbrev μ-loop : tie.MeasureT-loop
 loop-holds : tie.Need-loop-holds Inv-loop μ-loop
 loop-holds c = pick-none _ _ _ _
 
-add-loop : tie.Need-add-loop Inv-loop μ-loop
-add-loop c = search needs
-
-mul-b : tie.Need-mul-b Inv-loop μ-loop
-mul-b c = search needs
-
-shared-slice-read-b : tie.Need-shared-slice-read-b Inv-loop μ-loop
-shared-slice-read-b c = search needs
-
-add-a : tie.Need-add-a Inv-loop μ-loop
-add-a c = search needs
-
-mul-a : tie.Need-mul-a Inv-loop μ-loop
-mul-a c = search needs
-
-shared-slice-read-a : tie.Need-shared-slice-read-a Inv-loop μ-loop
-shared-slice-read-a c = search needs
-
-add-at : tie.Need-add-at Inv-loop μ-loop
-add-at c = search needs
-
-mul-ids : tie.Need-mul-ids Inv-loop μ-loop
-mul-ids c = search needs
-
-array-write-ids : tie.Need-array-write-ids Inv-loop μ-loop
-array-write-ids c = search needs
-
-add-count : tie.Need-add-count Inv-loop μ-loop
-add-count c = search needs
-
-loop-less : tie.Need-loop-less Inv-loop μ-loop
-loop-less c = search needs
-
 loop-again : tie.Need-loop-again Inv-loop μ-loop
-loop-again c = let h = c .before .before .before in pick-yes _ _ _ _ _ _ _ (h .loop-test .taken) (h .before .loop .inv) (search needs) (eq-eqb _ _ (c .if1 .taken))
-
-loop-less-2 : tie.Need-loop-less-2 Inv-loop μ-loop
-loop-less-2 c = search needs
+loop-again c =
+    let h = c .before .before .before in
+    pick-yes _ _ _ _ _ _ _ (h .loop-test .taken) (h .before .loop .inv) (search needs) (eq-eqb _ _ (c .if1 .taken))
 
 loop-again-2 : tie.Need-loop-again-2 Inv-loop μ-loop
-loop-again-2 c = let h = c .before .before .before in pick-no _ _ _ _ _ _ _ (h .loop-test .taken) (h .before .loop .inv) (ne-eqb _ _ (c .if1 .left))
+loop-again-2 c =
+    let h = c .before .before .before in
+    pick-no _ _ _ _ _ _ _ (h .loop-test .taken) (h .before .loop .inv) (ne-eqb _ _ (c .if1 .left))
 
 returns : tie.Need-returns Inv-loop μ-loop
 returns c = ids-of _ _ _ (pick-all _ _ _ _ _ _ _ (c .loop-test .left) (c .before .loop .inv))
@@ -70,18 +38,9 @@ list-after-spec =
     Inv-loop
     μ-loop
     loop-holds
-    add-loop
-    mul-b
-    shared-slice-read-b
-    add-a
-    mul-a
-    shared-slice-read-a
-    add-at
-    mul-ids
-    array-write-ids
-    add-count
-    loop-less
+    (search needs) (search needs) (search needs) (search needs) (search needs) (search needs) (search needs)
+    (search needs) (search needs) (search needs) (search needs)
     loop-again
-    loop-less-2
+    (search needs)
     loop-again-2
     returns)
