@@ -1,6 +1,5 @@
 -- The start's choice is the nearest candidate offered, and of equally near ones the first. Assumes nothing.
 use mathlib.Core.Bool.{Bool, true, false, cond, true≢false, _&&_, _||_}
-use mathlib.Core.List.{List}
 use mathlib.Core.Logic.{_⊎_, inl, inr}
 use mathlib.Core.Path.{_≡_, refl, sym, ap, _∙_, subst}
 use Prim.Native.Nat.{ℕ, zero, suc, _+_, _-_, _*_, _≤_, _<_}
@@ -13,7 +12,7 @@ use lib.ListN.{getD}
 use Rattle.closure.proofs.PairLaws.{lt-or, same-or}
 use Rattle.improve.proofs.FloatOrder.{le-trans-float, lt→le}
 use Rattle.table.specs.Each.{each}
-use Rattle.start.specs.Nearest.{nothingYet, closer, offer, offered, isOpen, considered, chosen}
+use Rattle.start.specs.Nearest.{Ground, Way, reachOf, nothingYet, closer, offer, offered, isOpen, considered, chosen}
 use Rattle.start.proofs.ChoiceLaws.{InContour}
 
 -- ---- floats that are finite and have no minus sign
@@ -151,20 +150,27 @@ each-on step P zero a h s p = rw (add-zero a) p
 each-on step P (suc k) a h s p = rw (add-suc a k, ← suc-add a k) (each-on step P k (suc a) (λ i l g. h i (omega arith) (omega arith)) (step a s) (h a (omega arith) (omega arith) s p))
 
 -- a candidate of an open contour below k
-pub record Open (first pairs visited : List ℕ) (k b : ℕ) : Type 0 where
+pub record Open (ground : Ground) (way : Way) (k b : ℕ) : Type 0 where
   pub contour : ℕ
   pub below : contour < k
-  pub is-open : isOpen visited pairs contour ≡ true
-  pub among : InContour first contour b
+  pub is-open : isOpen ground way contour ≡ true
+  pub among : InContour (ground .first) contour b
 
-module _ (reach : ℕ → Float) (first pairs visited : List ℕ) (n : ℕ) (rises : (k : ℕ) → k < n → getD first k 0 ≤ getD first (suc k) 0)
-    (reals : (b : ℕ) → Open first pairs visited n b → Real (reach b)) where
+-- where each contour's first candidate stands
+abbrev firstIn : Ground → ℕ → ℕ
+firstIn ground k = getD (ground .first) k 0
+
+module _ (ground : Ground) (way : Way) (n : ℕ) (rises : (k : ℕ) → k < n → firstIn ground k ≤ firstIn ground (suc k))
+    (reals : (b : ℕ) → Open ground way n b → Real (reachOf ground way b)) where
+  abbrev reach : ℕ → Float
+  reach a = reachOf ground way a
+
   -- those below contour k, and those of contour k below i
   abbrev So : ℕ → ℕ → ℕ → Type 0
-  So k i b = Open first pairs visited k b ⊎ ((getD first k 0 ≤ b) × (b < i))
+  So k i b = Open ground way k b ⊎ ((firstIn ground k ≤ b) × (b < i))
 
-  one-offered : (k i : ℕ) → k < n → isOpen visited pairs k ≡ true → InContour first k i → (best : _)
-      → let after = offer reach k i best in Best reach (So k i) i (best .distance) (best .found) (best .candidate)
+  one-offered : (k i : ℕ) → k < n → isOpen ground way k ≡ true → InContour (ground .first) k i → (best : _)
+      → let after = offer ground way k i best in Best reach (So k i) i (best .distance) (best .found) (best .candidate)
       → Best reach (So k (suc i)) (suc i) (after .distance) (after .found) (after .candidate)
   unfolding offer closer
   one-offered k i h o m best w = go (lt (reach i) (best .distance)) refl
@@ -188,47 +194,60 @@ module _ (reach : ℕ → Float) (first pairs visited : List ℕ) (n : ℕ) (ris
       go false e = fewer reach _ (So k (suc i)) (suc i) (suc i) _ _ _ less (omega arith) (passed reach (So k i) i _ _ _ w real e)
 
   contour-offered : (k : ℕ) → k < n → (best : _)
-      → let after = considered reach first pairs visited k best in Best reach (Open first pairs visited k) (getD first k 0) (best .distance) (best .found) (best .candidate)
-      → Best reach (Open first pairs visited (suc k)) (getD first (suc k) 0) (after .distance) (after .found) (after .candidate)
+      → let after = considered ground way k best in Best reach (Open ground way k) (firstIn ground k) (best .distance)
+      (best .found) (best .candidate)
+      → Best reach (Open ground way (suc k)) (firstIn ground (suc k)) (after .distance) (after .found)
+      (after .candidate)
   unfolding considered offered
-  contour-offered k h best w = go (isOpen visited pairs k) refl
+  contour-offered k h best w = go (isOpen ground way k) refl
     where
-      none : (b : ℕ) → So k (getD first k 0) b → Open first pairs visited k b
+      none : (b : ℕ) → So k (firstIn ground k) b → Open ground way k b
       none b (inl z) = z
       none b (inr (l, g)) = absurd (omega arith)
 
-      those : (b : ℕ) → Open first pairs visited (suc k) b → So k (getD first (suc k) 0) b
+      those : (b : ℕ) → Open ground way (suc k) b → So k (firstIn ground (suc k)) b
       those b o = split (same-or (o .contour) k)
         where
-          split : (o .contour ≡ k) ⊎ (o .contour ≡ k → ⊥) → So k (getD first (suc k) 0) b
-          split (inl e) = inr (subst (λ (j : ℕ). getD first j 0 ≤ b) e (o .among .from), subst (λ (j : ℕ). b < getD first (suc j) 0) e (o .among .to))
+          split : (o .contour ≡ k) ⊎ (o .contour ≡ k → ⊥) → So k (firstIn ground (suc k)) b
+          split (inl e) =
+              inr (
+                subst (λ (j : ℕ). firstIn ground j ≤ b) e (o .among .from),
+                subst
+                    (λ (j : ℕ). b < firstIn ground (suc j)) e (o .among .to),
+              )
           split (inr d) = inl (record { contour = o .contour; below = (let l = o .below in omega arith); is-open = o .is-open; among = o .among })
 
-      shut : isOpen visited pairs k ≡ false → (b : ℕ) → Open first pairs visited (suc k) b → Open first pairs visited k b
+      shut : isOpen ground way k ≡ false → (b : ℕ) → Open ground way (suc k) b → Open ground way k b
       shut e b o = split (same-or (o .contour) k)
         where
-          split : (o .contour ≡ k) ⊎ (o .contour ≡ k → ⊥) → Open first pairs visited k b
-          split (inl q) = absurd (true≢false (sym (o .is-open) ∙ ap (isOpen visited pairs) q ∙ e))
+          split : (o .contour ≡ k) ⊎ (o .contour ≡ k → ⊥) → Open ground way k b
+          split (inl q) = absurd (true≢false (sym (o .is-open) ∙ ap (isOpen ground way) q ∙ e))
           split (inr d) = record { contour = o .contour; below = (let l = o .below in omega arith); is-open = o .is-open; among = o .among }
 
-      go : (c : Bool) → isOpen visited pairs k ≡ c
-          → let after = cond c (each (offer reach k) (getD first (suc k) 0 - getD first k 0) (getD first k 0) best) best in
-          Best reach (Open first pairs visited (suc k)) (getD first (suc k) 0) (after .distance) (after .found) (after .candidate)
+      go : (c : Bool) → isOpen ground way k ≡ c
+          → let after = cond c (each (offer ground way k) (firstIn ground (suc k) - firstIn ground k)
+          (firstIn ground k) best) best in
+          Best reach (Open ground way (suc k)) (firstIn ground (suc k)) (after .distance) (after .found)
+          (after .candidate)
       go true o =
-          let count = getD first (suc k) 0 - getD first k 0 in
-          let after = each (offer reach k) count (getD first k 0) best in
-          let all = each-on (offer reach k) (λ i b. Best reach (So k i) i (b .distance) (b .found) (b .candidate)) count (getD first k 0)
+          let count = firstIn ground (suc k) - firstIn ground k in
+          let after = each (offer ground way k) count (firstIn ground k) best in
+          let all = each-on (offer ground way k)
+          (λ i b. Best reach (So k i) i (b .distance) (b .found) (b .candidate)) count (firstIn ground k)
           (λ i l g b. one-offered k i h o (record { from = l; to = omega (arith, rises k h) }) b) best
-          (fewer reach _ (So k (getD first k 0)) (getD first k 0) (getD first k 0) _ _ _ none (omega arith) w) in
-          let e : getD first k 0 + count ≡ getD first (suc k) 0 = omega (arith, rises k h) in
-          fewer reach (So k (getD first (suc k) 0)) _ (getD first (suc k) 0) (getD first (suc k) 0) _ _ _ those (omega arith)
+          (fewer reach _ (So k (firstIn ground k)) (firstIn ground k) (firstIn ground k) _ _ _ none (omega arith) w) in
+          let e : firstIn ground k + count ≡ firstIn ground (suc k) = omega (arith, rises k h) in
+          fewer reach (So k (firstIn ground (suc k))) _ (firstIn ground (suc k)) (firstIn ground (suc k)) _ _ _ those
+          (omega arith)
           (subst (λ (i : ℕ). Best reach (So k i) i (after .distance) (after .found) (after .candidate)) e all)
-      go false e = fewer reach _ _ (getD first k 0) (getD first (suc k) 0) _ _ _ (shut e) (rises k h) w
+      go false e = fewer reach _ _ (firstIn ground k) (firstIn ground (suc k)) _ _ _ (shut e) (rises k h) w
 
-  all-offered : let best = chosen reach first pairs visited n in Best reach (Open first pairs visited n) (getD first n 0) (best .distance) (best .found) (best .candidate)
+  all-offered : let best = chosen ground way n in Best reach (Open ground way n) (firstIn ground n) (best .distance)
+      (best .found) (best .candidate)
   unfolding chosen ofBits ofFields odd
   all-offered =
-      let all = each-on (considered reach first pairs visited) (λ k b. Best reach (Open first pairs visited k) (getD first k 0) (b .distance) (b .found) (b .candidate)) n 0
+      let all = each-on (considered ground way)
+      (λ k b. Best reach (Open ground way k) (firstIn ground k) (b .distance) (b .found) (b .candidate)) n 0
       (λ k l g b. contour-offered k (omega arith) b) nothingYet
       (record {
         real = refl;
@@ -238,12 +257,15 @@ module _ (reach : ℕ → Float) (first pairs visited : List ℕ) (n : ℕ) (ris
         before = λ e. absurd (true≢false (sym e));
         first = λ e. absurd (true≢false (sym e));
       }) in
-      let best = each (considered reach first pairs visited) n 0 nothingYet in
-      subst (λ (k : ℕ). Best reach (Open first pairs visited k) (getD first k 0) (best .distance) (best .found) (best .candidate)) (zero-add n) all
+      let best = each (considered ground way) n 0 nothingYet in
+      subst (λ (k : ℕ). Best reach (Open ground way k) (firstIn ground k) (best .distance) (best .found)
+      (best .candidate)) (zero-add n) all
 
   -- nothing that is offered is nearer than the choice, and nothing offered before it is as near
-  pub chosen-least : let best = chosen reach first pairs visited n in best .found ≡ true → (b : ℕ) → Open first pairs visited n b → T (le (reach (best .candidate)) (reach b))
+  pub chosen-least : let best = chosen ground way n in best .found ≡ true → (b : ℕ) → Open ground way n b
+      → T (le (reach (best .candidate)) (reach b))
   chosen-least e b o = subst (λ (x : Float). T (le x (reach b))) (all-offered .own e) (all-offered .least b o)
 
-  pub chosen-first : let best = chosen reach first pairs visited n in best .found ≡ true → (b : ℕ) → Open first pairs visited n b → b < best .candidate → lt (reach (best .candidate)) (reach b) ≡ true
+  pub chosen-first : let best = chosen ground way n in best .found ≡ true → (b : ℕ) → Open ground way n b
+      → b < best .candidate → lt (reach (best .candidate)) (reach b) ≡ true
   chosen-first e b o l = subst (λ (x : Float). lt x (reach b) ≡ true) (all-offered .own e) (all-offered .first e b o l)

@@ -24,11 +24,9 @@ use Rattle.table.proofs.EachLaws.{each-keeps}
 use Rattle.start.specs.Nearest.{Ground, Way, reachOf, lastOf, chosen, visit, step, setOut, walked, nearest}
 use Rattle.start.proofs.ChoiceLaws.{chosen-fair}
 use Rattle.instance.proofs.OwnerLaws.{gathered-grows, first-at}
-use Rattle.solve.specs.Solve.{groundIn}
-use Rattle.card.specs.Names.{pairsOn}
-use Rattle.instance.specs.Search.{homeOn, candidatesOn, countOn, ownersOn, firstsOn, homesOn, tableOn, chartOn}
+use Rattle.instance.specs.Search.{homeOn, candidatesOn, countOn, ownersOn, homesOn, tableOn, chartOn}
 use Rattle.tour.specs.Search.{startOn}
-use Rattle.demands.specs.Demand2.{wayOn, reachOn, Ready, Takes, Starts}
+use Rattle.demands.specs.Demand2.{groundOn, wayOn, reachOn, Ready, Takes, Starts}
 use Rattle.tour_laws.specs.Visits.{AllBelow}
 use Rattle.tour_laws.proofs.BelowLaws.{below-at, step-below}
 use Rattle.demands.proofs.ChosenLaws.{Real, Open, chosen-least, chosen-first}
@@ -54,7 +52,7 @@ real-between a b na nb = plus-real 165 (distanceOf a b) (distance-plus 160 a b (
 step-grows : (g : Ground) (n i : ℕ) (w : Way) → length (step g n i w .tour) ≤ suc (length (w .tour))
 unfolding step visit
 step-grows g n i w =
-    let choice = chosen (reachOf (g .home) (g .table) (g .t) (length (w .tour)) (lastOf (w .tour))) (g .first) (g .pairs) (w .visited) n in
+    let choice = chosen g w n in
     go (choice .found) (choice .contour) (choice .candidate)
   where
     go : (b : Bool) (k a : ℕ) → length (cond b (record { tour = w .tour ++ (a ∷ []); visited = set (w .visited) k 1 }) w .tour) ≤ suc (length (w .tour))
@@ -63,7 +61,7 @@ step-grows g n i w =
 
 module _ (s : List ℕ) (fine : checkOf s ≡ Fine) where
   abbrev g : Ground
-  g = groundIn (chartOn s)
+  g = groundOn s
 
   way-next : (p : ℕ) → wayOn s (suc p) ≡ step g (contoursOf s) p (wayOn s p)
   way-next p = each-last (step g (contoursOf s)) p 0 setOut ∙ ap (λ (i : ℕ). step g (contoursOf s) i (wayOn s p)) (zero-add p)
@@ -114,7 +112,7 @@ module _ (s : List ℕ) (fine : checkOf s ≡ Fine) where
           (real-between (stopOf (candidatesOn s) a) (stopOf (candidatesOn s) b) (candidate-near s fine a ha) (candidate-near s fine b hb))
 
   reach-real : (w : Way) → AllBelow (countOn s) (w .tour) → (b : ℕ) → b < countOn s → Real (reachOn s w b)
-  unfolding reachOf
+  unfolding reachOf chartOn
   reach-real w h b l = go (eqb (length (w .tour)) 0) refl
     where
       go : (c : Bool) → eqb (length (w .tour)) 0 ≡ c → Real (cond c (getD (homesOn s) b nan) (getD (tableOn s) (lastOf (w .tour) * countOn s + b) nan))
@@ -123,34 +121,39 @@ module _ (s : List ℕ) (fine : checkOf s ≡ Fine) where
           let some = eqb-false (length (w .tour)) 0 e in
           table-real (lastOf (w .tour)) b (below-at (countOn s) (w .tour) (length (w .tour) - 1) h (omega arith)) l
 
-  rises : (k : ℕ) → k < contoursOf s → getD (firstsOn s) k 0 ≤ getD (firstsOn s) (suc k) 0
-  rises k h = rw (first-at s (contoursOf s) k (omega arith), first-at s (contoursOf s) (suc k) (omega arith)) (gathered-grows s (suc k) k (omega arith))
+  rises : (k : ℕ) → k < contoursOf s → getD (g .first) k 0 ≤ getD (g .first) (suc k) 0
+  unfolding chartOn
+  rises k h =
+      rw (first-at s (contoursOf s) k (omega arith), first-at s (contoursOf s) (suc k) (omega arith))
+      (gathered-grows s (suc k) k (omega arith))
 
   -- ---- a step
 
-  opened : (w : Way) (b : ℕ) → Ready s w b → Open (firstsOn s) (pairsOn s) (w .visited) (contoursOf s) b
+  opened : (w : Way) (b : ℕ) → Ready s w b → Open g w (contoursOf s) b
+  unfolding chartOn
   opened w b r = record { contour = r .contour; below = r .is-contour; is-open = r .is-open; among = record { from = r .from; to = r .to } }
 
-  reals : (w : Way) → AllBelow (countOn s) (w .tour) → (b : ℕ) → Open (firstsOn s) (pairsOn s) (w .visited) (contoursOf s) b → Real (reachOn s w b)
+  reals : (w : Way) → AllBelow (countOn s) (w .tour) → (b : ℕ) → Open g w (contoursOf s) b → Real (reachOn s w b)
+  unfolding chartOn
   reals w h b o = reach-real w h b (let l = firsts-below s (contoursOf s) (suc (o .contour)) in omega (arith, o .among .to))
 
   -- what a step takes, if it finds something
   takes : (i : ℕ) (w : Way) → AllBelow (countOn s) (w .tour)
-      → let choice = chosen (reachOn s w) (firstsOn s) (pairsOn s) (w .visited) (contoursOf s) in choice .found ≡ true
+      → let choice = chosen g w (contoursOf s) in choice .found ≡ true
       → Takes s w (step g (contoursOf s) i w) (choice .candidate)
   unfolding step visit chartOn
   takes i w h e =
-      let fair = chosen-fair (reachOn s w) (firstsOn s) (pairsOn s) (w .visited) (contoursOf s) e in
+      let fair = chosen-fair g w (contoursOf s) e in
       record {
         ready = record { contour = _; is-contour = fair .within; is-open = fair .«open»; from = fair .candidate .from; to = fair .candidate .to };
-        least = λ b r. chosen-least (reachOn s w) (firstsOn s) (pairsOn s) (w .visited) (contoursOf s) rises (reals w h) e b (opened w b r);
-        first = λ b r l. chosen-first (reachOn s w) (firstsOn s) (pairsOn s) (w .visited) (contoursOf s) rises (reals w h) e b (opened w b r) l;
+        least = λ b r. chosen-least g w (contoursOf s) rises (reals w h) e b (opened w b r);
+        first = λ b r l. chosen-first g w (contoursOf s) rises (reals w h) e b (opened w b r) l;
         put = rw e;
         marked = rw e;
       }
 
   -- a step that finds nothing leaves the tour as it was
-  idle : (i : ℕ) (w : Way) → let choice = chosen (reachOn s w) (firstsOn s) (pairsOn s) (w .visited) (contoursOf s) in choice .found ≡ false
+  idle : (i : ℕ) (w : Way) → let choice = chosen g w (contoursOf s) in choice .found ≡ false
       → step g (contoursOf s) i w .tour ≡ w .tour
   unfolding step visit chartOn
   idle i w e = rw e
@@ -158,9 +161,10 @@ module _ (s : List ℕ) (fine : checkOf s ≡ Fine) where
   steps : (p : ℕ) → p < contoursOf s → (a : ℕ) × Takes s (wayOn s p) (wayOn s (suc p)) a
   steps p h = go _ refl
     where
-      go : (b : Bool) → chosen (reachOn s (wayOn s p)) (firstsOn s) (pairsOn s) (wayOn s p .visited) (contoursOf s) .found ≡ b → (a : ℕ) × Takes s (wayOn s p) (wayOn s (suc p)) a
+      go : (b : Bool) → chosen g (wayOn s p) (contoursOf s) .found ≡ b
+          → (a : ℕ) × Takes s (wayOn s p) (wayOn s (suc p)) a
       go true e =
-          let a = chosen (reachOn s (wayOn s p)) (firstsOn s) (pairsOn s) (wayOn s p .visited) (contoursOf s) .candidate in
+          let a = chosen g (wayOn s p) (contoursOf s) .candidate in
           (a, subst (λ (v : Way). Takes s (wayOn s p) v a) (sym (way-next p)) (takes p (wayOn s p) (below p) e))
       go false e =
           let same : length (wayOn s (suc p) .tour) ≡ length (wayOn s p .tour) = ap (λ (v : Way). length (v .tour)) (way-next p) ∙ ap length (idle p (wayOn s p) e) in

@@ -20,13 +20,12 @@ use Rattle.card_laws.specs.Orders.{LegalOrder}
 use Rattle.table.specs.Evaluate.{homeAt, distanceAt, lengthOf}
 use Rattle.table.specs.Distances.{absent, pierced, left}
 use Rattle.table.specs.Each.{each}
-use Rattle.start.specs.Nearest.{Way, reachOf, lastOf, isOpen, step, setOut}
+use Rattle.start.specs.Nearest.{Ground, Way, reachOf, isOpen, step, setOut}
 use Rattle.improve.specs.Search.{State, contours, lengthIn, legal, shorter, stopped, tried, swap, turn, reversed, flip, row, fresh, pass, repeated, begun, searched}
 use Rattle.improve.specs.After.{After}
 use Rattle.solve.specs.declared.Outcome.{Outcome}
 use Rattle.solve.specs.Solve.{groundIn}
 use Rattle.tour.specs.declared.Toured.the-variants.{Done}
-use Rattle.card.specs.Names.{pairsOn}
 use Rattle.instance.specs.Search.{homeOn, candidatesOn, countOn, ownersOn, firstsOn, homesOn, tableOn, chartOn}
 use Rattle.tour.specs.Search.{startOn}
 use Rattle.tour.specs.Tour.{tourOf}
@@ -61,19 +60,23 @@ pub record Apart (s : List ℕ) (a b : ℕ) : Type 0 where
 
 -- ---- the start
 
+-- what the start reads: the distances, each contour's first candidate, and the pairs
+abbrev pub groundOn : List ℕ → Ground
+groundOn s = groundIn (chartOn s)
+
 -- how far the start has come after p steps: its tour, and a flag for each contour visited
 abbrev pub wayOn : List ℕ → ℕ → Way
-wayOn s p = each (step (groundIn (chartOn s)) (contoursOf s)) p 0 setOut
+wayOn s p = each (step (groundOn s) (contoursOf s)) p 0 setOut
 
 -- how far candidate a is from there: from home at first, then from the last candidate
 abbrev pub reachOn : List ℕ → Way → ℕ → Float
-reachOn s w a = reachOf (homesOn s) (tableOn s) (countOn s) (length (w .tour)) (lastOf (w .tour)) a
+reachOn s w a = reachOf (groundOn s) w a
 
 -- candidate b is one of an open contour: one not visited whose predecessors all are
 pub record Ready (s : List ℕ) (w : Way) (b : ℕ) : Type 0 where
   pub contour : ℕ
   pub is-contour : contour < contoursOf s
-  pub is-open : isOpen (w .visited) (pairsOn s) contour ≡ true
+  pub is-open : isOpen (groundOn s) w contour ≡ true
   pub from : getD (firstsOn s) contour 0 ≤ b
   pub to : b < getD (firstsOn s) (suc contour) 0
 

@@ -22,7 +22,7 @@ use Rattle.keep.specs.Legal.{Legal}
 use Rattle.table.specs.Each.{each}
 use Rattle.table.specs.Evaluate.{homeAt, distanceAt}
 use Rattle.points.specs.Numbers.{huge}
-use Rattle.start.specs.Nearest.{Ground, Way, reachOf, lastOf, isOpen, chosen, visit, step, flagCount, setOut, walked, nearest}
+use Rattle.start.specs.Nearest.{Ground, Way, reachOf, isOpen, chosen, visit, step, flagCount, setOut, walked, nearest}
 use Rattle.start.specs.declared.Choice.{Choice}
 use Rattle.start.proofs.ChoiceLaws.{InContour, Fair, chosen-fair, chosen-found}
 use Rattle.start.proofs.FreeLaws.{left, left-all, some-left, one-less}
@@ -73,30 +73,32 @@ ready-visited n visited pairs b k r l =
     not-zero (getD visited b 0) (or-else (not (eqb k k)) (not (eqb (getD visited b 0) 0)) e (ap not (eq-eqb k k refl)))
 
 -- an open contour: not visited, and ready
-open-unvisited : (visited pairs : List ℕ) (k : ℕ) → isOpen visited pairs k ≡ true → getD visited k 0 ≡ 0
+open-unvisited : (g : Ground) (w : Way) (k : ℕ) → isOpen g w k ≡ true → getD (w .visited) k 0 ≡ 0
 unfolding isOpen
-open-unvisited visited pairs k e = eqb-true (getD visited k 0) 0 (and-first (eqb (getD visited k 0) 0) (readyIn visited pairs k) e)
+open-unvisited g w k e =
+    eqb-true (getD (w .visited) k 0) 0 (and-first (eqb (getD (w .visited) k 0) 0) (readyIn (w .visited) (g .pairs) k) e)
 
-open-ready : (visited pairs : List ℕ) (k : ℕ) → isOpen visited pairs k ≡ true → readyIn visited pairs k ≡ true
+open-ready : (g : Ground) (w : Way) (k : ℕ) → isOpen g w k ≡ true → readyIn (w .visited) (g .pairs) k ≡ true
 unfolding isOpen
-open-ready visited pairs k e = go (eqb (getD visited k 0) 0) e
+open-ready g w k e = go (eqb (getD (w .visited) k 0) 0) e
   where
-    go : (b : Bool) → (b && readyIn visited pairs k) ≡ true → readyIn visited pairs k ≡ true
+    go : (b : Bool) → (b && readyIn (w .visited) (g .pairs) k) ≡ true → readyIn (w .visited) (g .pairs) k ≡ true
     go true h = h
     go false h = absurd (true≢false (sym h))
 
-ready-open : (visited pairs : List ℕ) (k : ℕ) → getD visited k 0 ≡ 0 → readyIn visited pairs k ≡ true → isOpen visited pairs k ≡ true
+ready-open : (g : Ground) (w : Way) (k : ℕ) → getD (w .visited) k 0 ≡ 0 → readyIn (w .visited) (g .pairs) k ≡ true
+    → isOpen g w k ≡ true
 unfolding isOpen
-ready-open visited pairs k e r = rw (eq-eqb (getD visited k 0) 0 e, r)
+ready-open g w k e r = rw (eq-eqb (getD (w .visited) k 0) 0 e, r)
 
 -- ---- one contour more
 
 module _ (g : Ground) (n i : ℕ) (w : Way) (c : Come g n i w) (small : n ≤ flagCount) (k a : ℕ) (h : k < n)
-    (o : isOpen (w .visited) (g .pairs) k ≡ true) (m : InContour (g .first) k a) where
+    (o : isOpen g w k ≡ true) (m : InContour (g .first) k a) where
   not-yet : (q : ℕ) → q < i → getD (c .order) q 0 ≡ k → ⊥
   not-yet q l e =
       let one : getD (w .visited) k 0 ≡ 1 = ap (λ (x : ℕ). getD (w .visited) x 0) (sym e) ∙ c .marked q l in
-      let none : getD (w .visited) k 0 ≡ 0 = open-unvisited (w .visited) (g .pairs) k o in
+      let none : getD (w .visited) k 0 ≡ 0 = open-unvisited g w k o in
       let z : _≡_ {A = ℕ} 0 1 = sym none ∙ one in
       omega arith
 
@@ -118,7 +120,7 @@ module _ (g : Ground) (n i : ℕ) (w : Way) (c : Come g n i w) (small : n ≤ fl
     size = length-append (c .order) (k ∷ []) ∙ omega (arith, c .size);
     long = length-append (w .tour) (a ∷ []) ∙ omega (arith, c .long);
     flags = length-set (w .visited) k 1 ∙ c .flags;
-    rest = omega (arith, one-less n k (w .visited) h room (open-unvisited (w .visited) (g .pairs) k o), c .rest);
+    rest = omega (arith, one-less n k (w .visited) h room (open-unvisited g w k o), c .rest);
     within = λ q l. ⊎-elim (λ (e : q ≡ i). rw (e, new) h) (λ (s : q < i). rw (old q s) (c .within q s)) (split q l);
     marked = λ q l. ⊎-elim
         (λ (e : q ≡ i). rw (e, new) (getD-set-same (w .visited) k 1 0 room))
@@ -140,7 +142,7 @@ module _ (g : Ground) (n i : ℕ) (w : Way) (c : Come g n i w) (small : n ≤ fl
     after = λ q b l t. ⊎-elim
         (λ (e : q ≡ i).
         let link : linked n (g .pairs) b k ≡ true = ap (linked n (g .pairs) b) (sym (ap (λ (z : ℕ). getD (c .order ++ (k ∷ [])) z 0) e ∙ new)) ∙ t in
-        let f = c .met b (ready-visited n (w .visited) (g .pairs) b k (open-ready (w .visited) (g .pairs) k o) link) in
+        let f = c .met b (ready-visited n (w .visited) (g .pairs) b k (open-ready g w k o) link) in
         (f .0, omega (arith, f .1), old (f .0) (f .1) ∙ f .2))
         (λ (s : q < i).
         let f = c .after q b s (ap (linked n (g .pairs) b) (sym (old q s)) ∙ t) in
@@ -155,7 +157,7 @@ suc-sub-one i = omega arith
 module _ (g : Ground) (n : ℕ) (near : Within g n) (free : Acyclic n (g .pairs)) (low : every (both n) (paired (g .pairs)) ≡ true) (small : n ≤ flagCount) where
   -- the first candidate of a contour not yet visited is within reach
   in-reach : (i : ℕ) (w : Way) → Come g n i w → (k a : ℕ) → k < n → getD (w .visited) k 0 ≡ 0 → InContour (g .first) k a
-      → lt (reachOf (g .home) (g .table) (g .t) (length (w .tour)) (lastOf (w .tour)) a) huge ≡ true
+      → lt (reachOf g w a) huge ≡ true
   unfolding reachOf
   in-reach zero w c k a h e m = rw (c .long) (near .home k a h m)
   in-reach (suc i) w c k a h e m =
@@ -176,18 +178,18 @@ module _ (g : Ground) (n : ℕ) (near : Within g n) (free : Acyclic n (g .pairs)
       one = some-left n (w .visited) (omega (arith, c .rest))
 
       choice : Choice
-      choice = chosen (reachOf (g .home) (g .table) (g .t) (length (w .tour)) (lastOf (w .tour))) (g .first) (g .pairs) (w .visited) n
+      choice = chosen g w n
 
-      taken : choice .found ≡ true → Fair (g .first) (g .pairs) (w .visited) n choice → Come g n (suc i) (visit choice w)
+      taken : choice .found ≡ true → Fair g w n choice → Come g n (suc i) (visit choice w)
       taken e f = rw e (come-more g n i w c small (choice .contour) (choice .candidate) (f .within) (f .«open») (f .candidate))
 
       go : (m : ℕ) × ReadyNext n (w .visited) (g .pairs) m → Come g n (suc i) (visit choice w)
       go (m, r) =
           let first : InContour (g .first) m (getD (g .first) m 0) = record { from = omega arith; to = near .some m (r .within) } in
           let e : choice .found ≡ true =
-          chosen-found _ (g .first) (g .pairs) (w .visited) n m (getD (g .first) m 0) (r .within) (ready-open (w .visited) (g .pairs) m (r .unvisited) (r .ready)) first
+          chosen-found g w n m (getD (g .first) m 0) (r .within) (ready-open g w m (r .unvisited) (r .ready)) first
           (in-reach i w c m (getD (g .first) m 0) (r .within) (r .unvisited) first) in
-          taken e (chosen-fair _ (g .first) (g .pairs) (w .visited) n e)
+          taken e (chosen-fair g w n e)
 
   come-all : (k a i : ℕ) (w : Way) → i + k ≤ n → Come g n i w → Come g n (i + k) (each (step g n) k a w)
   unfolding each

@@ -14,20 +14,28 @@ use Rattle.closure.specs.Limits.{CONTOURS}
 use Rattle.keep.specs.Keep.{readyIn}
 use Rattle.table.specs.Each.{each}
 use Rattle.table.specs.Evaluate.{homeAt, distanceAt}
-use Rattle.start.specs.Code.{Written}
+use Rattle.start.specs.Code.{groundOf, Tells, Written}
 use Rattle.start.specs.Nearest.{reachOf, closer, offer, offered, isOpen, considered, chosen, nothingYet, Ground, Way, lastOf, visit, step, setOut, walked, nearest}
 use Rattle.start.specs.declared.Choice.{Choice}
 
 -- ---- how far
 
-pub reach-home : (home table : List Float) (t made last a : ℕ) (d : Float) → made ≡ 0 → d ≡ homeAt home a → d ≡ reachOf home table t made last a
-unfolding reachOf
-reach-home home table t made last a d e h = rw (eq-eqb made 0 e) h
+module _ (home table : List Float) (t made last : ℕ) (g : Ground) (w : Way) (tells : Tells home table t made last g w)
+    (a : ℕ) (d : Float) where
+  pub reach-home : made ≡ 0 → d ≡ homeAt home a → d ≡ reachOf g w a
+  unfolding reachOf
+  reach-home e h = rw (eq-eqb (length (w .tour)) 0 (sym (tells .made-is) ∙ e), ← tells .home-is) h
 
-pub reach-on : (home table : List Float) (t made last a : ℕ) (d : Float) → (made ≡ 0 → ⊥) → d ≡ distanceAt table t last a
-    → d ≡ reachOf home table t made last a
-unfolding reachOf
-reach-on home table t made last a d e h = rw (ne-eqb made 0 e) h
+  pub reach-on : (made ≡ 0 → ⊥) → d ≡ distanceAt table t last a → d ≡ reachOf g w a
+  unfolding reachOf
+  reach-on e h =
+      rw (
+        ne-eqb (length (w .tour)) 0 (λ z. e (tells .made-is
+            ∙ z)),
+        ← tells .table-is,
+        ← tells .count-is,
+        ← tells .last-is,
+      ) h
 
 -- ---- which is nearer
 
@@ -40,39 +48,47 @@ pub closer-no : (d : Float) (k a : ℕ) (best : Choice) → lt d (best .distance
 unfolding closer
 closer-no d k a best e = rw e
 
-pub offer-is : (reach : ℕ → Float) (k a : ℕ) (best after : Choice) (d : Float) → d ≡ reach a → after ≡ closer d k a best → offer reach k a best ≡ after
+pub offer-is : (g : Ground) (w : Way) (k a : ℕ) (best after : Choice) (d : Float) → d ≡ reachOf g w a
+    → after ≡ closer d k a best
+    → offer g w k a best ≡ after
 unfolding offer
-offer-is reach k a best after d e h = rw (← e) (sym h)
+offer-is g w k a best after d e h = rw (← e) (sym h)
 
-pub offered-is : (reach : ℕ → Float) (first : List ℕ) (k from end : ℕ) (best after : Choice) → from ≡ getD first k 0 → end ≡ getD first (k + 1) 0
-    → after ≡ each (offer reach k) (end - from) from best → after ≡ offered reach first k best
+pub offered-is : (first : List ℕ) (g : Ground) (w : Way) (k from end : ℕ) (best after : Choice) → first ≡ g .first
+    → from ≡ getD first k 0 → end ≡ getD first (k + 1) 0
+    → after ≡ each (offer g w k) (end - from) from best → after ≡ offered g w k best
 unfolding offered
-offered-is reach first k from end best after e f h = rw (← add-one k, ← e, ← f) h
+offered-is first g w k from end best after q e f h =
+    let begin : from ≡ getD (g .first) k 0 = e ∙ ap (λ (l : List ℕ). getD l k 0) q in
+    let stop : end ≡ getD (g .first) (k + 1) 0 = f ∙ ap (λ (l : List ℕ). getD l (k + 1) 0) q in
+    rw (← add-one k, ← begin, ← stop) h
 
 -- ---- which contours
 
-pub open-not : (visited pairs : List ℕ) (k flag : ℕ) → flag ≡ getD visited k 0 → (flag ≡ 0 → ⊥) → false ≡ isOpen visited pairs k
-unfolding isOpen
-open-not visited pairs k flag e h = rw (← e, ne-eqb flag 0 h)
+module _ (visited pairs : List ℕ) (g : Ground) (w : Way) (v : visited ≡ w .visited) (p : pairs ≡ g .pairs)
+    (k flag : ℕ) (e : flag ≡ getD visited k 0) where
+  pub open-not : (flag ≡ 0 → ⊥) → false ≡ isOpen g w k
+  unfolding isOpen
+  open-not h = rw (← v, ← e, ne-eqb flag 0 h)
 
-pub open-ready : (visited pairs : List ℕ) (k flag : ℕ) (ready : Bool) → flag ≡ getD visited k 0 → flag ≡ 0 → ready ≡ readyIn visited pairs k → ready ≡ isOpen visited pairs k
-unfolding isOpen
-open-ready visited pairs k flag ready e h r = rw (← e, eq-eqb flag 0 h) r
+  pub open-ready : (ready : Bool) → flag ≡ 0 → ready ≡ readyIn visited pairs k → ready ≡ isOpen g w k
+  unfolding isOpen
+  open-ready ready h r = rw (← v, ← p, ← e, eq-eqb flag 0 h) r
 
-module _ (reach : ℕ → Float) (first pairs visited : List ℕ) (k : ℕ) (best : Choice) (yea : Bool) (asked : yea ≡ isOpen visited pairs k) where
-  pub passed-over : yea ≡ false → considered reach first pairs visited k best ≡ best
+module _ (g : Ground) (w : Way) (k : ℕ) (best : Choice) (yea : Bool) (asked : yea ≡ isOpen g w k) where
+  pub passed-over : yea ≡ false → considered g w k best ≡ best
   unfolding considered
   passed-over e = rw (sym asked ∙ e)
 
-  pub looked-at : (after : Choice) → yea ≡ true → after ≡ offered reach first k best → considered reach first pairs visited k best ≡ after
+  pub looked-at : (after : Choice) → yea ≡ true → after ≡ offered g w k best → considered g w k best ≡ after
   unfolding considered
   looked-at after e h = rw (sym asked ∙ e) (sym h)
 
 -- the choice is told contour by contour
-pub chosen-is : (reach : ℕ → Float) (first pairs visited : List ℕ) (n : ℕ) (best : Choice) → best ≡ each (considered reach first pairs visited) n 0 nothingYet
-    → best ≡ chosen reach first pairs visited n
+pub chosen-is : (g : Ground) (w : Way) (n : ℕ) (best : Choice) → best ≡ each (considered g w) n 0 nothingYet
+    → best ≡ chosen g w n
 unfolding chosen
-chosen-is reach first pairs visited n best e = e
+chosen-is g w n best e = e
 
 -- ---- the way
 
@@ -80,11 +96,19 @@ chosen-is reach first pairs visited n best e = e
 abbrev pub wayOf : List ℕ → List ℕ → ℕ → Way
 wayOf tour visited made = record { tour = take made tour; visited = visited }
 
-module _ (g : Ground) (n i : ℕ) (tour visited : List ℕ) (made last : ℕ) (choice : Choice) (h : made < length tour) (l : last ≡ lastOf (take made tour))
-    (chose : choice ≡ chosen (reachOf (g .home) (g .table) (g .t) made last) (g .first) (g .pairs) visited n) where
+-- what the code keeps beside it tells where it has come to
+pub way-told : (home table : List Float) (t : ℕ) (first pairs tour visited : List ℕ) (made last : ℕ) → made < length tour
+    → last ≡ lastOf (take made tour)
+    → Tells home table t made last (groundOf home table t first pairs) (wayOf tour visited made)
+way-told home table t first pairs tour visited made last h l =
+    let e : length (take made tour) ≡ made = length-take-le made tour (omega arith) in
+    record { home-is = refl; table-is = refl; count-is = refl; made-is = sym e; last-is = l }
+
+module _ (g : Ground) (n i : ℕ) (tour visited : List ℕ) (made : ℕ) (choice : Choice) (h : made < length tour)
+    (chose : choice ≡ chosen g (wayOf tour visited made) n) where
   step-visits : step g n i (wayOf tour visited made) ≡ visit choice (wayOf tour visited made)
   unfolding step
-  step-visits = rw (← l, length-take-le made tour (omega arith), ← chose)
+  step-visits = rw (← chose)
 
   -- nothing is found, and nothing changes
   pub step-waits : choice .found ≡ false → step g n i (wayOf tour visited made) ≡ wayOf tour visited made

@@ -21,44 +21,6 @@ pub record Ground : Type 0 where
   pub first : List ℕ
   pub pairs : List ℕ
 
--- ---- one step
-
--- how far a candidate is from where the tour has come to: from home while it is empty, else from its last candidate
-unfoldable pub reachOf : List Float → List Float → ℕ → ℕ → ℕ → ℕ → Float
-reachOf home table t made last a = cond (eqb made 0) (homeAt home a) (distanceAt table t last a)
-
--- nothing is chosen yet, and only what is nearer than the largest number will be
-abbrev pub nothingYet : Choice
-nothingYet = record { distance = huge; contour = 0; candidate = 0; found = false }
-
--- candidate a of contour k, if it is strictly nearer than the choice so far
-unfoldable pub closer : Float → ℕ → ℕ → Choice → Choice
-closer d k a best = cond (lt d (best .distance)) (record { distance = d; contour = k; candidate = a; found = true }) best
-
--- candidate a of contour k, so far away as it is
-unfoldable pub offer : (ℕ → Float) → ℕ → ℕ → Choice → Choice
-offer reach k a best = closer (reach a) k a best
-
--- the candidates of contour k, one after the other
-unfoldable pub offered : (ℕ → Float) → List ℕ → ℕ → Choice → Choice
-offered reach first k best =
-    let from = getD first k 0 in
-    each (offer reach k) (getD first (suc k) 0 - from) from best
-
--- a contour that is not visited, and before which nothing is left to visit
-unfoldable pub isOpen : List ℕ → List ℕ → ℕ → Bool
-isOpen visited pairs k = eqb (getD visited k 0) 0 && readyIn visited pairs k
-
--- contour k is considered where it is open
-unfoldable pub considered : (ℕ → Float) → List ℕ → List ℕ → List ℕ → ℕ → Choice → Choice
-considered reach first pairs visited k best = let after = offered reach first k best in cond (isOpen visited pairs k) after best
-
--- the choice among the first n contours, in their order
-unfoldable pub chosen : (ℕ → Float) → List ℕ → List ℕ → List ℕ → ℕ → Choice
-chosen reach first pairs visited n = each (considered reach first pairs visited) n 0 nothingYet
-
--- ---- step after step
-
 -- how far a start has come: its tour, and a flag for each contour visited
 pub record Way : Type 0 where
   pub tour : List ℕ
@@ -68,13 +30,60 @@ pub record Way : Type 0 where
 abbrev pub lastOf : List ℕ → ℕ
 lastOf tour = getD tour (length tour - 1) 0
 
+-- contour k is still to be visited: its flag is not set
+abbrev pub isLeft : Way → ℕ → Bool
+isLeft w k = eqb (getD (w .visited) k 0) 0
+
+-- ---- one step
+
+-- how far a candidate is from where the tour has come to: from home while it is empty, else from its last candidate
+unfoldable pub reachOf : Ground → Way → ℕ → Float
+reachOf g w a = cond (eqb (length (w .tour)) 0) (homeAt (g .home) a) (distanceAt (g .table) (g .t) (lastOf (w .tour)) a)
+
+-- nothing is chosen yet, and only what is nearer than the largest number will be
+abbrev pub nothingYet : Choice
+nothingYet = record { distance = huge; contour = 0; candidate = 0; found = false }
+
+-- candidate a of contour k at distance d, if it is strictly nearer than the choice so far
+unfoldable pub closer : Float → ℕ → ℕ → Choice → Choice
+closer d k a best = cond (lt d (best .distance)) (record { distance = d; contour = k; candidate = a; found = true }) best
+
+-- candidate a of contour k, so far away as it is
+unfoldable pub offer : Ground → Way → ℕ → ℕ → Choice → Choice
+offer g w k a best = closer (reachOf g w a) k a best
+
+-- the candidates of contour k, one after the other
+unfoldable pub offered : Ground → Way → ℕ → Choice → Choice
+offered g w k best =
+    let from = getD (g .first) k 0 in
+    each (offer g w k) (getD (g .first) (suc k) 0 - from) from best
+
+-- a contour still to be visited, and nothing before it is
+unfoldable pub isOpen : Ground → Way → ℕ → Bool
+isOpen g w k = isLeft w k && readyIn (w .visited) (g .pairs) k
+
+-- contour k is considered where it is open
+unfoldable pub considered : Ground → Way → ℕ → Choice → Choice
+considered g w k best = let after = offered g w k best in cond (isOpen g w k) after best
+
+-- the choice among the first n contours, in their order
+unfoldable pub chosen : Ground → Way → ℕ → Choice
+chosen g w n = each (considered g w) n 0 nothingYet
+
+-- ---- step after step
+
 -- the choice is visited, if there was one
 unfoldable pub visit : Choice → Way → Way
-visit choice w = cond (choice .found) (record { tour = w .tour ++ (choice .candidate ∷ []); visited = set (w .visited) (choice .contour) 1 }) w
+visit choice w =
+    cond (choice .found) (record {
+      tour = w .tour ++ (choice .candidate ∷ []);
+      visited = set (w .visited)
+          (choice .contour) 1;
+    }) w
 
 -- one step over n contours; which one it is makes no difference
 unfoldable pub step : Ground → ℕ → ℕ → Way → Way
-step g n i w = visit (chosen (reachOf (g .home) (g .table) (g .t) (length (w .tour)) (lastOf (w .tour))) (g .first) (g .pairs) (w .visited) n) w
+step g n i w = visit (chosen g w n) w
 
 -- a flag for each number that a contour can have
 abbrev pub flagCount : ℕ

@@ -6,8 +6,8 @@ ghost use mathlib.Core.List.{[]};
 ghost use Prim.Native.Nat.{_-_};
 ghost use Rattle.closure.specs.Limits.{CONTOURS};
 ghost use Rattle.table.specs.Each.{each};
-ghost use Rattle.start.specs.Nearest.{reachOf, closer, offer, offered, isOpen, chosen, nearest};
-ghost use Rattle.start.specs.Code.{groundOf, Written};
+ghost use Rattle.start.specs.Nearest.{Ground, Way, reachOf, closer, offer, offered, isOpen, chosen, nearest};
+ghost use Rattle.start.specs.Code.{groundOf, Tells, Written};
 
 // A flag for each number that a contour can have.
 const FLAGS: usize = 256;
@@ -22,7 +22,7 @@ struct Choice {
 
 // How far candidate a is from where the tour has come to after so many stops.
 fn reach(home: &[f64], table: &[f64], t: u8, made: usize, last: u8, a: u8) -> f64
-    ensures { λ r. ⌜ r ≡ reachOf (now (home .entry)) (now (table .entry)) t made last a ⌝ }
+    ensures { λ r. ⌜ ((g : Ground) (w : Way) → Tells (now (home .entry)) (now (table .entry)) t made last g w → r ≡ reachOf g w a) ⌝ }
 {
     if made == 0 {
         return table::home_at(home, a);
@@ -57,7 +57,8 @@ fn among(
     end: u8,
     best: Choice,
 ) -> Choice
-    ensures { λ r. ⌜ r ≡ each (offer (reachOf (now (home .entry)) (now (table .entry)) t made last) k) (end - from) from best ⌝ }
+    ensures { λ r. ⌜ ((g : Ground) (w : Way) → Tells (now (home .entry)) (now (table .entry)) t made last g w
+        → r ≡ each (offer g w k) (end - from) from best) ⌝ }
 {
     let mut choice = best;
     let mut a = from;
@@ -80,7 +81,8 @@ fn offers(
     k: u8,
     best: Choice,
 ) -> Choice
-    ensures { λ r. ⌜ r ≡ offered (reachOf (now (home .entry)) (now (table .entry)) t made last) (now (first .entry)) k best ⌝ }
+    ensures { λ r. ⌜ ((g : Ground) (w : Way) → Tells (now (home .entry)) (now (table .entry)) t made last g w
+        → now (first .entry) ≡ g .first → r ≡ offered g w k best) ⌝ }
 {
     let at = k as usize;
     let from = table::byte_at(first, at);
@@ -90,7 +92,8 @@ fn offers(
 
 // Contour k is not visited, and nothing is left to visit before it.
 fn is_open(visited: &[u8], pairs: &[u8], k: u8) -> bool
-    ensures { λ r. ⌜ r ≡ isOpen (now (visited .entry)) (now (pairs .entry)) k ⌝ }
+    ensures { λ r. ⌜ ((g : Ground) (w : Way) → now (visited .entry) ≡ w .visited → now (pairs .entry) ≡ g .pairs
+        → r ≡ isOpen g w k) ⌝ }
 {
     if table::byte_at(visited, k as usize) != 0 {
         return false;
@@ -110,7 +113,8 @@ fn choose(
     made: usize,
     last: u8,
 ) -> Choice
-    ensures { λ r. ⌜ r ≡ chosen (reachOf (now (home .entry)) (now (table .entry)) t made last) (now (first .entry)) (now (pairs .entry)) (now (visited .entry)) n ⌝ }
+    ensures { λ r. ⌜ ((g : Ground) (w : Way) → Tells (now (home .entry)) (now (table .entry)) t made last g w
+        → now (first .entry) ≡ g .first → now (pairs .entry) ≡ g .pairs → now (visited .entry) ≡ w .visited → r ≡ chosen g w n) ⌝ }
 {
     let mut best = Choice {
         distance: HUGE,

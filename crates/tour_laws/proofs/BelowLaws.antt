@@ -12,7 +12,7 @@ use Rattle.bytes.specs.Bytes.{rev}
 use Rattle.closure.specs.Limits.{CONTOURS}
 use Rattle.table.specs.Each.{each}
 use Rattle.table.proofs.EachLaws.{each-keeps}
-use Rattle.start.specs.Nearest.{Ground, Way, reachOf, lastOf, chosen, visit, step, setOut, walked, nearest}
+use Rattle.start.specs.Nearest.{Ground, Way, chosen, visit, step, setOut, walked, nearest}
 use Rattle.start.proofs.ChoiceLaws.{chosen-fair}
 use Rattle.improve.specs.Search.{Chart, ownerOf, turned, searched}
 use Rattle.improve.proofs.Keeps.{search-keeps}
@@ -101,10 +101,9 @@ below-kept chart most limit t tour bound h =
 pub step-below : (g : Ground) (n t i : ℕ) (w : Way) → ((k : ℕ) → getD (g .first) k 0 ≤ t) → AllBelow t (w .tour) → AllBelow t (step g n i w .tour)
 unfolding step visit AllBelow
 step-below g n t i w bound h =
-    let reach = reachOf (g .home) (g .table) (g .t) (length (w .tour)) (lastOf (w .tour)) in
-    let choice = chosen reach (g .first) (g .pairs) (w .visited) n in
+    let choice = chosen g w n in
     go (choice .found) (choice .contour) (choice .candidate) (λ e.
-    let f = chosen-fair reach (g .first) (g .pairs) (w .visited) n e in
+    let f = chosen-fair g w n e in
     let m = bound (suc (choice .contour)) in
     omega (arith, f .candidate .to))
   where

@@ -5,20 +5,23 @@ use native.Mathlib.Omega.{arith}
 use borrow.Author.Needs.{needs}
 use Rattle.table.proofs.EachLaws.{onwards, begin, carry, arrive}
 use Rattle.table.specs.Each.{each}
-use Rattle.start.specs.Nearest.{reachOf, offer}
+use Rattle.start.specs.Code.{Tells}
+use Rattle.start.specs.Nearest.{Ground, Way, offer}
 use Rattle.start.proofs.StepLaws.{offer-is}
 use Rattle.start.proofs.among.Statement.{statement}
 use Rattle.start.proofs.among.Tie as tie
 
 abbrev Inv-loop : tie.InvT-loop
 Inv-loop home table t made last k from end choice₀ a₀ choice a =
-    (onwards (offer (reachOf home table t made last) k) end a choice ≡ each (offer (reachOf home table t made last) k) (end - from) from choice₀) × (a < 256)
+    ((g : Ground) (w : Way) → Tells home table t made last g w
+    → onwards (offer g w k) end a choice ≡ each (offer g w k) (end - from) from choice₀)
+    × (a < 256)
 
 abbrev μ-loop : tie.MeasureT-loop
 μ-loop home table t made last k from end choice₀ a₀ choice a = end - a
 
 loop-holds : tie.Need-loop-holds Inv-loop μ-loop
-loop-holds c = (sym (begin _ _ _ _), omega arith)
+loop-holds c = (λ g w tells. sym (begin _ _ _ _), omega arith)
 
 reach-requires : tie.Need-reach-requires Inv-loop μ-loop
 reach-requires c κs = search needs
@@ -33,11 +36,15 @@ loop-less : tie.Need-loop-less Inv-loop μ-loop
 loop-less c = omega arith
 
 loop-again : tie.Need-loop-again Inv-loop μ-loop
-loop-again c =
-    (carry _ _ _ _ _ _ (c .before .before .before .loop .inv .0) (c .before .before .loop-test .taken) (offer-is _ _ _ _ _ _ (c .before .reach .ensures) (c .nearer .ensures)), omega arith)
+loop-again c = (
+  λ g w tells.
+      carry _ _ _ _ _ _ (c .before .before .before .loop .inv .0 g w tells) (c .before .before .loop-test .taken)
+      (offer-is g w _ _ _ _ _ (c .before .reach .ensures g w tells) (c .nearer .ensures)),
+  omega arith,
+)
 
 returns : tie.Need-returns Inv-loop μ-loop
-returns c = arrive _ _ _ _ _ (c .before .loop .inv .0) (c .loop-test .left)
+returns c g w tells = arrive _ _ _ _ _ (c .before .loop .inv .0 g w tells) (c .loop-test .left)
 
 pub among-spec : {M : Type 1} → statement M
 among-spec =

@@ -6,22 +6,24 @@ use borrow.Author.Needs.{needs}
 use borrow.Author.Tests.{not-true, not-false}
 use Rattle.table.proofs.EachLaws.{onwards, begin-zero, carry, arrive}
 use Rattle.table.specs.Each.{each}
-use Rattle.start.specs.Nearest.{reachOf, considered, nothingYet}
+use Rattle.start.specs.Code.{Tells}
+use Rattle.start.specs.Nearest.{Ground, Way, considered, nothingYet}
 use Rattle.start.proofs.StepLaws.{passed-over, looked-at, chosen-is}
 use Rattle.start.proofs.choose.Statement.{statement}
 use Rattle.start.proofs.choose.Tie as tie
 
 abbrev Inv-loop : tie.InvT-loop
 Inv-loop home table t first pairs visited n made last best₀ k₀ best k =
-    (onwards (considered (reachOf home table t made last) first pairs visited) n k best
-    ≡ each (considered (reachOf home table t made last) first pairs visited) n 0 nothingYet)
+    ((g : Ground) (w : Way) → Tells home table t made last g w → first ≡ g .first → pairs ≡ g .pairs
+    → visited ≡ w .visited
+    → onwards (considered g w) n k best ≡ each (considered g w) n 0 nothingYet)
     × (k < 256)
 
 abbrev μ-loop : tie.MeasureT-loop
 μ-loop home table t first pairs visited n made last best₀ k₀ best k = n - k
 
 loop-holds : tie.Need-loop-holds Inv-loop μ-loop
-loop-holds c = (begin-zero _ _ _, omega arith)
+loop-holds c = (λ g w tells f p v. begin-zero _ _ _, omega arith)
 
 is-open-requires : tie.Need-is-open-requires Inv-loop μ-loop
 is-open-requires c κs = search needs
@@ -33,7 +35,12 @@ loop-less : tie.Need-loop-less Inv-loop μ-loop
 loop-less c = omega arith
 
 loop-again : tie.Need-loop-again Inv-loop μ-loop
-loop-again c = (carry _ _ _ _ _ _ (c .before .before .before .loop .inv .0) (c .before .before .loop-test .taken) (passed-over _ _ _ _ _ _ _ (c .before .is-open .ensures) (not-true _ (c .if1 .taken))), omega arith)
+loop-again c = (
+  λ g w tells f p v.
+      carry _ _ _ _ _ _ (c .before .before .before .loop .inv .0 g w tells f p v) (c .before .before .loop-test .taken)
+      (passed-over g w _ _ _ (c .before .is-open .ensures g w v p) (not-true _ (c .if1 .taken))),
+  omega arith,
+)
 
 offers-requires : tie.Need-offers-requires Inv-loop μ-loop
 offers-requires c κs = search needs
@@ -46,13 +53,17 @@ loop-less-2 c = omega arith
 
 loop-again-2 : tie.Need-loop-again-2 Inv-loop μ-loop
 loop-again-2 c = (
-  carry _ _ _ _ _ _ (c .before .before .before .before .loop .inv .0) (c .before .before .before .loop-test .taken)
-      (looked-at _ _ _ _ _ _ _ (c .before .before .is-open .ensures) _ (not-false _ (c .before .if1 .left)) (c .offers .ensures)),
+  λ g w tells f p v.
+      carry _ _ _ _ _ _ (c .before .before .before .before .loop .inv .0 g w tells f p v)
+      (c .before .before .before .loop-test .taken)
+      (looked-at g w _ _ _ (c .before .before .is-open .ensures g w v p) _ (not-false _ (c .before .if1 .left))
+      (c .offers .ensures g w tells f)),
   omega arith,
 )
 
 returns : tie.Need-returns Inv-loop μ-loop
-returns c = chosen-is _ _ _ _ _ _ (arrive _ _ _ _ _ (c .before .loop .inv .0) (c .loop-test .left))
+returns c g w tells f p v =
+    chosen-is g w _ _ (arrive _ _ _ _ _ (c .before .loop .inv .0 g w tells f p v) (c .loop-test .left))
 
 pub choose-spec : {M : Type 1} → statement M
 choose-spec =

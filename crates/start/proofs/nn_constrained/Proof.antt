@@ -9,7 +9,7 @@ use Rattle.table.proofs.EachLaws.{onwards, begin-zero, carry, arrive}
 use Rattle.table.specs.Each.{each}
 use Rattle.start.specs.Code.{groundOf}
 use Rattle.start.specs.Nearest.{setOut, flagCount, lastOf, step as stepOver}
-use Rattle.start.proofs.StepLaws.{wayOf, step-waits, step-goes, last-written, rest-kept, written, unwritten}
+use Rattle.start.proofs.StepLaws.{wayOf, way-told, step-waits, step-goes, last-written, rest-kept, written, unwritten}
 use Rattle.start.proofs.nn_constrained.Statement.{statement}
 use Rattle.start.proofs.nn_constrained.Tie as tie
 
@@ -49,9 +49,12 @@ loop-less c = omega arith
 
 loop-again : tie.Need-loop-again Inv-loop μ-loop
 loop-again c =
-    let l = c .before .before .before .before .before .loop in (
+    let l = c .before .before .before .before .before .loop in
+    let h : l .made < length (l .tour) = omega (arith, l .inv .1) in (
       carry _ _ _ _ _ _ (l .inv .0) (c .before .before .before .before .loop-test .taken)
-          (step-waits _ _ _ _ _ _ _ _ (omega (arith, l .inv .1)) (l .inv .5) (c .before .before .choose .ensures) (not-true _ (c .if2 .taken))),
+          (step-waits _ _ _ _ _ _ _ h
+          (c .before .before .choose .ensures _ _ (way-told _ _ _ _ _ _ _ _ _ h (l .inv .5)) refl refl refl)
+          (not-true _ (c .if2 .taken))),
       l .inv .1,
       omega arith,
       omega arith,
@@ -80,7 +83,9 @@ loop-again-2 c =
     let l = c .before .before .before .before .before .before .loop in
     let h : l .made < length (l .tour) = omega (arith, l .inv .1) in (
       carry _ _ _ _ _ _ (l .inv .0) (c .before .before .before .before .before .loop-test .taken)
-          (step-goes _ _ _ _ _ _ _ _ h (l .inv .5) (c .before .before .before .choose .ensures) (not-false _ (c .before .if2 .left))),
+          (step-goes _ _ _ _ _ _ _ h
+          (c .before .before .before .choose .ensures _ _ (way-told _ _ _ _ _ _ _ _ _ h (l .inv .5)) refl refl refl)
+          (not-false _ (c .before .if2 .left))),
       simp length-set (l .inv .1),
       omega arith,
       omega arith,

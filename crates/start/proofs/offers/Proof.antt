@@ -17,7 +17,9 @@ among-requires : tie.Need-among-requires
 among-requires c κs = search needs
 
 returns : tie.Need-returns
-returns c = offered-is _ _ _ _ _ _ _ (c .before .before .byte-at .ensures) (c .before .byte-at2 .ensures) (c .among .ensures)
+returns c g w tells q =
+    offered-is _ g w _ _ _ _ _ q (c .before .before .byte-at .ensures) (c .before .byte-at2 .ensures)
+    (c .among .ensures g w tells)
 
 pub offers-spec : {M : Type 1} → statement M
 offers-spec =

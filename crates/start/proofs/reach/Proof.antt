@@ -8,13 +8,13 @@ home-at-requires : tie.Need-home-at-requires
 home-at-requires c κs = search needs
 
 returns : tie.Need-returns
-returns c = reach-home _ _ _ _ _ _ _ (c .before .if1 .taken) (c .home-at .ensures)
+returns c g w tells = reach-home _ _ _ _ _ g w tells _ _ (c .before .if1 .taken) (c .home-at .ensures)
 
 distance-at-requires : tie.Need-distance-at-requires
 distance-at-requires c κs = search needs
 
 returns-2 : tie.Need-returns-2
-returns-2 c = reach-on _ _ _ _ _ _ _ (c .before .if1 .left) (c .distance-at .ensures)
+returns-2 c g w tells = reach-on _ _ _ _ _ g w tells _ _ (c .before .if1 .left) (c .distance-at .ensures)
 
 pub reach-spec : {M : Type 1} → statement M
 reach-spec = tie.close (tie.spec home-at-requires returns distance-at-requires returns-2)
