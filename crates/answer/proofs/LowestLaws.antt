@@ -18,7 +18,8 @@ pub record LowestAt (test : ℕ → Bool) (n k : ℕ) : Type 0 where
 abbrev pub Nowhere : (ℕ → Bool) → ℕ → Type 0
 Nowhere test n = (j : ℕ) → j < n → test j ≡ false
 
-from-at : (test : ℕ → Bool) (k n j : ℕ) → j < n → test (k + j) ≡ true → ((i : ℕ) → i < j → test (k + i) ≡ false) → lowestFrom test k n ≡ At (k + j)
+from-at : (test : ℕ → Bool) (k n j : ℕ) → j < n → test (k + j) ≡ true → ((i : ℕ) → i < j → test (k + i) ≡ false)
+    → lowestFrom test k n ≡ At (k + j)
 unfolding lowestFrom
 from-at test k zero j h t b = absurd (not-suc-le-zero h)
 from-at test k (suc n) zero h t b = rw (ap test (sym (add-zero k)) ∙ t) (ap At (sym (add-zero k)))
@@ -40,7 +41,8 @@ from-none test k (suc n) b =
 pub at-is : (test : ℕ → Bool) (n k : ℕ) → LowestAt test n k → lowest test n ≡ At k
 unfolding lowest
 at-is test n k h =
-    from-at test 0 n k (h .within) (ap test (zero-add k) ∙ h .holds) (λ i g. ap test (zero-add i) ∙ h .before i g) ∙ ap At (zero-add k)
+    from-at test 0 n k (h .within) (ap test (zero-add k) ∙ h .holds) (λ i g. ap test (zero-add i) ∙ h .before i g)
+    ∙ ap At (zero-add k)
 
 pub absent-is : (test : ℕ → Bool) (n : ℕ) → Nowhere test n → lowest test n ≡ Absent
 unfolding lowest
@@ -52,7 +54,8 @@ pub search-through : (test : ℕ → Bool) (n : ℕ) → ((k : ℕ) × LowestAt 
 search-through test zero = inr (λ j h. absurd (not-suc-le-zero h))
 search-through test (suc n) = go (search-through test n) (test n) refl
   where
-    go : ((k : ℕ) × LowestAt test n k) ⊎ Nowhere test n → (b : Bool) → test n ≡ b → ((k : ℕ) × LowestAt test (suc n) k) ⊎ Nowhere test (suc n)
+    go : ((k : ℕ) × LowestAt test n k) ⊎ Nowhere test n → (b : Bool) → test n ≡ b
+        → ((k : ℕ) × LowestAt test (suc n) k) ⊎ Nowhere test (suc n)
     go (inl (k, w)) b e = inl (k, record { within = omega (arith, w .within); holds = w .holds; before = w .before })
     go (inr none) true e = inl (n, record { within = omega arith; holds = e; before = none })
     go (inr none) false e = inr (λ j h. ⊎-elim (λ (q : j ≡ n). ap test q ∙ e) (λ (q : j < n). none j q) (split j h))

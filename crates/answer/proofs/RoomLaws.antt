@@ -1,4 +1,5 @@
--- What stays and what is read where the front of a room is written, and where a list stands in a room of fixed size. Assumes nothing.
+-- What stays and what is read where the front of a room is written, and where a list stands in a room of fixed size.
+-- Assumes nothing.
 use mathlib.Core.Path.{_≡_, refl, sym, ap, _∙_}
 use mathlib.Core.List.{List, [], _∷_, _++_, append-assoc}
 use Prim.Native.Nat.{ℕ, zero, suc, _+_, _-_, _<_, _≤_}

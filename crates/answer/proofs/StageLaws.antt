@@ -43,7 +43,8 @@ fine-is (a ∷ more) h =
 pub is-refused : (stages : List Check) (r : Refusal) → firstRefusal stages ≡ Refused r → (k : ℕ) × FirstAt stages k r
 unfolding firstRefusal
 is-refused [] r e = let z : _≡_ {A = ℕ} 0 1 = cc in absurd (omega arith)
-is-refused (Refused q ∷ more) r e = (0, record { within = zero-lt-suc (length more); refuses = e; before = λ j g. absurd (not-suc-le-zero g) })
+is-refused (Refused q ∷ more) r e =
+    (0, record { within = zero-lt-suc (length more); refuses = e; before = λ j g. absurd (not-suc-le-zero g) })
 is-refused (Fine ∷ more) r e = go (is-refused more r e)
   where
     go : (k : ℕ) × FirstAt more k r → (k : ℕ) × FirstAt (Fine ∷ more) k r

@@ -16,14 +16,16 @@ use Rattle.block.proofs.FieldLaws.{past-byte, past-u16, past-u32}
 
 -- ---- one more byte adds its weight times itself
 
-weigh-suc : (w : ℕ) (t : List ℕ) (p : ℕ) → p < length t → weigh w (take (suc p) t) ≡ weigh w (take p t) + (w + p) * getD t p 0
+weigh-suc : (w : ℕ) (t : List ℕ) (p : ℕ) → p < length t
+    → weigh w (take (suc p) t) ≡ weigh w (take p t) + (w + p) * getD t p 0
 unfolding weigh
 weigh-suc w [] p h = absurd (not-suc-le-zero h)
 weigh-suc w (x ∷ t) zero h = simp add-zero (omega arith)
 weigh-suc w (x ∷ t) (suc p) h =
     rw (weigh-suc (suc w) t p (le-of-suc-le-suc h), add-suc w p, suc-add w p) (omega arith)
 
-pub weigh-step : (t : List ℕ) (p sum x : ℕ) → p < length t → sum ≡ weigh 1 (take p t) → x ≡ getD t p 0 → sum + (p + 1) * x ≡ weigh 1 (take (p + 1) t)
+pub weigh-step : (t : List ℕ) (p sum x : ℕ) → p < length t → sum ≡ weigh 1 (take p t) → x ≡ getD t p 0
+    → sum + (p + 1) * x ≡ weigh 1 (take (p + 1) t)
 weigh-step t p sum x h e f = rw (e, f, add-one, weigh-suc 1 t p h, suc-add 0 p, zero-add)
 
 -- a byte's weight times itself, within 508 bytes
@@ -44,7 +46,14 @@ pub starts-past : (s : List ℕ) (at kind version number : ℕ) → length s ≤
     → eqb 0 kind && (eqb 0 version && eqb 0 number) ≡ starts s at kind version number
 unfolding starts
 starts-past s at kind version number h =
-    rw (past-byte s at h, past-byte s (at + 1) (omega arith), past-u16 s (at + 2) (omega arith), past-u32 s (at + 4) (omega arith), and-true (eqb 0 number))
+    rw (
+      past-byte s at h,
+      past-byte s (at + 1) (omega arith),
+      past-u16 s (at + 2) (omega arith),
+      past-u32 s (at + 4)
+          (omega arith),
+      and-true (eqb 0 number),
+    )
 
 module _ (s : List ℕ) (at kind version number : ℕ) where
   pub other-kind : (b : ℕ) → b ≡ byteAt s at → (b ≡ kind → ⊥) → false ≡ starts s at kind version number
@@ -59,12 +68,20 @@ module _ (s : List ℕ) (at kind version number : ℕ) where
     module _ (second : byteAt s (at + 1) ≡ version) where
       pub other-number : (b : ℕ) → b ≡ u16At s (at + 2) → (b ≡ number → ⊥) → false ≡ starts s at kind version number
       unfolding starts
-      other-number b e f = rw (← e, ne-eqb b number f, eq-eqb (byteAt s at) kind first, eq-eqb (byteAt s (at + 1)) version second)
+      other-number b e f =
+          rw (← e, ne-eqb b number f, eq-eqb (byteAt s at) kind first, eq-eqb (byteAt s (at + 1)) version second)
 
-      pub as-due : (b : ℕ) → u16At s (at + 2) ≡ number → b ≡ u32At s (at + 4) → eqb b 0 ≡ starts s at kind version number
+      pub as-due : (b : ℕ) → u16At s (at + 2) ≡ number → b ≡ u32At s (at + 4)
+          → eqb b 0 ≡ starts s at kind version number
       unfolding starts
       as-due b third e =
-          rw (e, eq-eqb (byteAt s at) kind first, eq-eqb (byteAt s (at + 1)) version second, eq-eqb (u16At s (at + 2)) number third)
+          rw (
+            e,
+            eq-eqb (byteAt s at) kind first,
+            eq-eqb (byteAt s (at + 1)) version second,
+            eq-eqb (u16At s (at + 2))
+                number third,
+          )
 
 -- ---- a run of zeros, one byte at a time
 
@@ -85,8 +102,11 @@ zero-to-end t p h = rw (drop-of-length-le t h)
 part-none : (s : List ℕ) (at count : ℕ) → length s ≤ at → take count (drop at s) ≡ []
 part-none s at count h = rw (drop-of-length-le s h, take-nil count)
 
-part-rest : (s : List ℕ) (at count : ℕ) → length s - at < count → take (length s - at) (drop at s) ≡ take count (drop at s)
-part-rest s at count h = take-all (length s - at) (drop at s) (omega (arith, length-drop at s)) ∙ sym (take-all count (drop at s) (omega (arith, length-drop at s)))
+part-rest : (s : List ℕ) (at count : ℕ) → length s - at < count
+    → take (length s - at) (drop at s) ≡ take count (drop at s)
+part-rest s at count h =
+    take-all (length s - at) (drop at s) (omega (arith, length-drop at s))
+    ∙ sym (take-all count (drop at s) (omega (arith, length-drop at s)))
 
 part-whole : (s : List ℕ) (at count : ℕ) → take (at + count - at) (drop at s) ≡ take count (drop at s)
 part-whole s at count = let e : at + count - at ≡ count = omega arith in rw e
@@ -95,7 +115,8 @@ pub check-none : (s : List ℕ) (at : ℕ) → length s ≤ at → 0 ≡ checkAt
 unfolding checkAt weigh
 check-none s at h = rw (part-none s at checkPlace h)
 
-pub check-rest : (s : List ℕ) (at r : ℕ) → length s - at < checkPlace → r ≡ weigh 1 (take (length s - at) (drop at s)) → r ≡ checkAt s at
+pub check-rest : (s : List ℕ) (at r : ℕ) → length s - at < checkPlace → r ≡ weigh 1 (take (length s - at) (drop at s))
+    → r ≡ checkAt s at
 unfolding checkAt
 check-rest s at r h e = e ∙ ap (weigh 1) (part-rest s at checkPlace h)
 
@@ -115,10 +136,12 @@ pub zeros-none : (s : List ℕ) (at count : ℕ) → length s ≤ at → true �
 unfolding zerosAt allZero
 zeros-none s at count h = rw (part-none s at count h)
 
-pub zeros-rest : (s : List ℕ) (at count : ℕ) (r : Bool) → length s - at < count → r ≡ allZero (take (length s - at) (drop at s)) → r ≡ zerosAt s at count
+pub zeros-rest : (s : List ℕ) (at count : ℕ) (r : Bool) → length s - at < count
+    → r ≡ allZero (take (length s - at) (drop at s)) → r ≡ zerosAt s at count
 unfolding zerosAt
 zeros-rest s at count r h e = e ∙ ap allZero (part-rest s at count h)
 
-pub zeros-whole : (s : List ℕ) (at count : ℕ) (r : Bool) → r ≡ allZero (take (at + count - at) (drop at s)) → r ≡ zerosAt s at count
+pub zeros-whole : (s : List ℕ) (at count : ℕ) (r : Bool) → r ≡ allZero (take (at + count - at) (drop at s))
+    → r ≡ zerosAt s at count
 unfolding zerosAt
 zeros-whole s at count r e = e ∙ ap allZero (part-whole s at count)

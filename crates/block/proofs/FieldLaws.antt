@@ -1,4 +1,5 @@
--- What fields of bytes read where no byte is left, and what they read of the same bytes at another place. Assumes nothing.
+-- What fields of bytes read where no byte is left, and what they read of the same bytes at another place. Assumes
+-- nothing.
 use mathlib.Core.Path.{_≡_, refl, sym, ap, _∙_}
 use mathlib.Core.Bool.{true, not}
 use mathlib.Core.List.{List}
@@ -27,7 +28,8 @@ unfolding u64At
 past-u64 s at h = omega (arith, past-u32 s at h, past-u32 s (at + 4) (omega arith))
 
 -- four bytes, each by itself
-pub u32-bytes : (s : List ℕ) (at : ℕ) → byteAt s at + 256 * byteAt s (at + 1) + 65536 * byteAt s (at + 2) + 16777216 * byteAt s (at + 3) ≡ u32At s at
+pub u32-bytes : (s : List ℕ) (at : ℕ)
+    → byteAt s at + 256 * byteAt s (at + 1) + 65536 * byteAt s (at + 2) + 16777216 * byteAt s (at + 3) ≡ u32At s at
 unfolding u32At u16At
 u32-bytes s at = let e : byteAt s (at + 2 + 1) ≡ byteAt s (at + 3) = ap (byteAt s) (omega arith) in omega arith
 
@@ -40,7 +42,8 @@ nan-is (inf s) e = let z : _≡_ {A = ℕ} 0 1 = cc in absurd (omega arith)
 nan-is (fin s m x) e = let z : _≡_ {A = ℕ} 0 1 = cc in absurd (omega arith)
 
 pub above-nan : (bits : ℕ) → 0x7ff0_0000_0000_0000 < bits % 0x8000_0000_0000_0000 → ofBits binary64 bits ≡ nan
-above-nan bits h = nan-is (ofBits binary64 bits) (sym (nanBits-is binary64 bits) ∙ nanBits-above binary64 bits ∙ lt-ltb _ _ h)
+above-nan bits h =
+    nan-is (ofBits binary64 bits) (sym (nanBits-is binary64 bits) ∙ nanBits-above binary64 bits ∙ lt-ltb _ _ h)
 
 pub upto-number : (bits : ℕ) → bits % 0x8000_0000_0000_0000 ≤ 0x7ff0_0000_0000_0000 → T (not (nanBits binary64 bits))
 upto-number bits h = rw (nanBits-above binary64 bits ∙ le-ltb _ _ h) tt

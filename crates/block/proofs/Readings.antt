@@ -1,5 +1,5 @@
--- What the tests on a block say in words: its start byte by byte, a run of zeros at each place; and fields read at a place that was cut
--- off at the end of the bytes. Assumes nothing.
+-- What the tests on a block say in words: its start byte by byte, a run of zeros at each place; and fields read at a
+-- place that was cut off at the end of the bytes. Assumes nothing.
 use mathlib.Core.Path.{_≡_, refl, sym, ap, _∙_}
 use mathlib.Core.Bool.{Bool, true, false, _&&_}
 use mathlib.Core.List.{List, [], _∷_}
@@ -48,7 +48,8 @@ module _ (s : List ℕ) (at kind version number : ℕ) where
   pub is-due : Due s at kind version number → starts s at kind version number ≡ true
   unfolding starts
   is-due h =
-      and-both _ _ (eq-eqb _ _ (h .kind-is)) (and-both _ _ (eq-eqb _ _ (h .version-is)) (and-both _ _ (eq-eqb _ _ (h .number-is)) (eq-eqb _ _ (h .zeros-are))))
+      and-both _ _ (eq-eqb _ _ (h .kind-is)) (and-both _ _ (eq-eqb _ _ (h .version-is))
+      (and-both _ _ (eq-eqb _ _ (h .number-is)) (eq-eqb _ _ (h .zeros-are))))
 
 -- ---- a run of zeros
 
@@ -61,11 +62,14 @@ zero-each (x ∷ t) e (suc i) = zero-each t (and-second (eqb x 0) (allZero t) e)
 each-zero : (t : List ℕ) → ((i : ℕ) → i < length t → getD t i 0 ≡ 0) → allZero t ≡ true
 unfolding allZero
 each-zero [] h = refl
-each-zero (x ∷ t) h = and-both (eqb x 0) (allZero t) (eq-eqb x 0 (h 0 (zero-lt-suc (length t)))) (each-zero t (λ i g. h (suc i) (suc-le-suc g)))
+each-zero (x ∷ t) h =
+    and-both (eqb x 0) (allZero t) (eq-eqb x 0 (h 0 (zero-lt-suc (length t))))
+    (each-zero t (λ i g. h (suc i) (suc-le-suc g)))
 
 pub zeros-each : (s : List ℕ) (at count : ℕ) → zerosAt s at count ≡ true → (i : ℕ) → i < count → byteAt s (at + i) ≡ 0
 unfolding zerosAt
-zeros-each s at count e i h = sym (getD-drop at s i 0) ∙ sym (getD-take count (drop at s) i 0 h) ∙ zero-each (take count (drop at s)) e i
+zeros-each s at count e i h =
+    sym (getD-drop at s i 0) ∙ sym (getD-take count (drop at s) i 0 h) ∙ zero-each (take count (drop at s)) e i
 
 pub each-zeros : (s : List ℕ) (at count : ℕ) → ((i : ℕ) → i < count → byteAt s (at + i) ≡ 0) → zerosAt s at count ≡ true
 unfolding zerosAt
@@ -90,7 +94,8 @@ module _ (s : List ℕ) (a : ℕ) where
           past-byte s (min a (length s) + i) (omega arith) ∙ sym (past-byte s (a + i) (omega arith))
 
   -- the same one field further on
-  further : (f : ℕ → ℕ) → ((i : ℕ) → f (min a (length s) + i) ≡ f (a + i)) → (i j : ℕ) → f (min a (length s) + i + j) ≡ f (a + i + j)
+  further : (f : ℕ → ℕ) → ((i : ℕ) → f (min a (length s) + i) ≡ f (a + i)) → (i j : ℕ)
+      → f (min a (length s) + i + j) ≡ f (a + i + j)
   further f h i j = rw (add-assoc (min a (length s)) i j, add-assoc a i j) (h (i + j))
 
   pub cut-u16 : (i : ℕ) → u16At s (min a (length s) + i) ≡ u16At s (a + i)
@@ -113,7 +118,8 @@ module _ (s : List ℕ) (a : ℕ) where
 
 module _ (s : List ℕ) (a at : ℕ) (cut : at ≡ min a (length s)) where
   pub byte-of : (r : ℕ) → r ≡ byteAt s at → r ≡ byteAt s a
-  byte-of r e = e ∙ ap (byteAt s) (cut ∙ sym (add-zero (min a (length s)))) ∙ cut-byte s a 0 ∙ ap (byteAt s) (add-zero a)
+  byte-of r e =
+      e ∙ ap (byteAt s) (cut ∙ sym (add-zero (min a (length s)))) ∙ cut-byte s a 0 ∙ ap (byteAt s) (add-zero a)
 
   pub u16-of : (r : ℕ) → r ≡ u16At s at → r ≡ u16At s a
   u16-of r e = e ∙ ap (u16At s) (cut ∙ sym (add-zero (min a (length s)))) ∙ cut-u16 s a 0 ∙ ap (u16At s) (add-zero a)

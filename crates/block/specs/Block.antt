@@ -1,4 +1,5 @@
--- A block of 512 bytes: how it starts, its check, and bytes that are all zero. `at` is where the block begins. Assumes nothing.
+-- A block of 512 bytes: how it starts, its check, and bytes that are all zero. `at` is where the block begins. Assumes
+-- nothing.
 use mathlib.Core.Path.{_≡_}
 use mathlib.Core.Bool.{Bool, true, _&&_}
 use mathlib.Core.List.{List, [], _∷_}
@@ -37,7 +38,8 @@ checked s at = eqb (checkAt s at) (u32At s (at + checkPlace))
 unfoldable pub starts : List ℕ → ℕ → ℕ → ℕ → ℕ → Bool
 unfolding u16At u32At
 starts s at kind version number =
-    eqb (byteAt s at) kind && (eqb (byteAt s (at + 1)) version && (eqb (u16At s (at + 2)) number && eqb (u32At s (at + 4)) 0))
+    eqb (byteAt s at) kind && (eqb (byteAt s (at + 1)) version &&
+    (eqb (u16At s (at + 2)) number && eqb (u32At s (at + 4)) 0))
 
 -- the same in words: the first eight bytes are as due
 pub record Due (s : List ℕ) (at kind version number : ℕ) : Type 0 where

@@ -10,7 +10,8 @@ use lib.Ieee.{Float, binary64, add}
 use Rattle.points.specs.Points.{nowhere, noEnds, points, edges}
 use Rattle.points.specs.Numbers.{zero64}
 use Rattle.points.proofs.PointLaws.{points-length, edges-count}
-use Rattle.candidates.specs.Along.{spot, lengthOf, around, perimeterOf, reaches, onEdge, spotFrom, lastSpot, spotAt}
+use Rattle.candidates.specs.Along.{spot, lengthOf, around, perimeterOf, reaches, onEdge, spotFrom, lastSpot}
+use Rattle.candidates.specs.Along.{spotAt}
 
 module _ (n : List Float) where
   within : (i : ℕ) → i < length n / 2 → i < length (edges (points n))
@@ -34,7 +35,8 @@ module _ (n : List Float) where
   unfolding perimeterOf
   summed-start = refl
 
-  pub summed-step : (sum : Float) (i : ℕ) → i < length n / 2 → Summed sum i → Summed (add binary64 sum (lengthOf (getD (edges (points n)) i noEnds))) (i + 1)
+  pub summed-step : (sum : Float) (i : ℕ) → i < length n / 2 → Summed sum i
+      → Summed (add binary64 sum (lengthOf (getD (edges (points n)) i noEnds))) (i + 1)
   unfolding around
   summed-step sum i h s =
       let g = within i h in

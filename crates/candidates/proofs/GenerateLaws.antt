@@ -17,7 +17,8 @@ unfolding candidatesOf
 none-of way [] c h = refl
 none-of way (v ∷ more) c h = absurd (omega arith)
 
-some-of : (way : CutDirection) (ps : List Point) (c : ℕ) → (length ps ≡ 0 → ⊥) → candidatesOf way ps c ≡ candidatesFrom way (getD ps 0 nowhere) ps (min c perContourLimit)
+some-of : (way : CutDirection) (ps : List Point) (c : ℕ) → (length ps ≡ 0 → ⊥)
+    → candidatesOf way ps c ≡ candidatesFrom way (getD ps 0 nowhere) ps (min c perContourLimit)
 unfolding candidatesOf
 some-of way [] c h = absurd (h refl)
 some-of way (v ∷ more) c h = refl
@@ -26,5 +27,7 @@ module _ (n : List Float) (way : CutDirection) (c : ℕ) where
   pub no-vertices : length n / 2 ≡ 0 → candidatesOf way (points n) c ≡ []
   no-vertices h = none-of way (points n) c (points-length n ∙ h)
 
-  pub some-vertices : (length n / 2 ≡ 0 → ⊥) → candidatesOf way (points n) c ≡ candidatesFrom way (getD (points n) 0 nowhere) (points n) (min c perContourLimit)
+  pub some-vertices : (length n / 2 ≡ 0 → ⊥)
+      → candidatesOf way (points n) c
+      ≡ candidatesFrom way (getD (points n) 0 nowhere) (points n) (min c perContourLimit)
   some-vertices h = some-of way (points n) c (rw points-length h)

@@ -3,7 +3,8 @@ use mathlib.Core.Path.{_≡_, refl, sym}
 use mathlib.Core.Bool.{Bool, true, false, cond}
 use mathlib.Core.List.{List, [], _∷_}
 use Prim.Native.Nat.{ℕ, zero, suc, _+_, _-_, _*_, _≤_, _<_, min}
-use native.Mathlib.Nat.{le-trans, le-of-eq, mul-one, one-mul, mul-le-mul-right, not-suc-le-zero, le-of-suc-le-suc, zero-lt-suc}
+use native.Mathlib.Nat.{le-trans, le-of-eq, mul-one, one-mul, mul-le-mul-right, not-suc-le-zero, le-of-suc-le-suc}
+use native.Mathlib.Nat.{zero-lt-suc}
 use Prim.Native.Nat.{suc-le-suc}
 use native.Mathlib.Omega.{arith}
 use lib.Dec.{eqb, lit≤}
@@ -21,10 +22,13 @@ use Rattle.points.specs.Bad.{badPoint}
 use Rattle.points.specs.Numbers.{zero64, tiny}
 use Rattle.points.specs.Along.{alongOf}
 use Rattle.points.proofs.PointLaws.{edges-length}
-use Rattle.points.proofs.SizeLaws.{Under, Plus, Over, Near, under-more, plus-under, plus-more, near-more, add-under, sub-under, add-plus, mul-under, div-under, rem-under, distance-plus, good-near, not-tiny}
+use Rattle.points.proofs.SizeLaws.{Under, Plus, Over, Near, under-more, plus-under, plus-more, near-more, add-under}
+use Rattle.points.proofs.SizeLaws.{sub-under, add-plus, mul-under, div-under, rem-under, distance-plus, good-near}
+use Rattle.points.proofs.SizeLaws.{not-tiny}
 use Rattle.candidates.specs.declared.Spot.{Spot}
 use Rattle.candidates.specs.declared.Candidate.{Candidate}
-use Rattle.candidates.specs.Along.{lengthOf, around, perimeterOf, spot, reaches, onEdge, spotFrom, lastSpot, spotAt}
+use Rattle.candidates.specs.Along.{lengthOf, around, perimeterOf, spot, reaches, onEdge, spotFrom, lastSpot}
+use Rattle.candidates.specs.Along.{spotAt}
 use Rattle.candidates.specs.Generate.{candidateAt, blank, target, spaced, candidatesFrom, candidatesOf}
 use Rattle.candidates.proofs.FillLaws.{spaced-length}
 
@@ -40,7 +44,8 @@ abbrev AllEnded : List Ends → Type 0
 AllEnded [] = Unit
 AllEnded (e ∷ more) = Ended e × AllEnded more
 
-closing-ended : (first p : Point) (rest : List Point) → Near 20 first → Near 20 p → AllGood rest → AllEnded (closing first p rest)
+closing-ended : (first p : Point) (rest : List Point) → Near 20 first → Near 20 p → AllGood rest
+    → AllEnded (closing first p rest)
 unfolding closing
 closing-ended first p [] f n good = ((n, f), tt)
 closing-ended first p (q ∷ more) f n good =
@@ -59,12 +64,14 @@ length-plus e n = distance-plus 20 (e .start) (e .finish) (lit≤ tt) (n .0) (n 
 
 -- ---- the way around
 
-around-plus : (sum : Float) (es : List Ends) (j : ℕ) → AllEnded es → 25 ≤ j → j + 2 * length es ≤ 1000 → Plus j sum → Plus (j + 2 * length es) (around sum es)
+around-plus : (sum : Float) (es : List Ends) (j : ℕ) → AllEnded es → 25 ≤ j → j + 2 * length es ≤ 1000 → Plus j sum
+    → Plus (j + 2 * length es) (around sum es)
 unfolding around
 around-plus sum [] j n low high u = plus-more sum (omega arith) u
 around-plus sum (e ∷ more) j n low high u =
     let w = add-plus j sum (lengthOf e) (omega arith) u (plus-more (lengthOf e) low (length-plus e (n .0))) in
-    plus-more (around (add binary64 sum (lengthOf e)) more) (omega arith) (around-plus (add binary64 sum (lengthOf e)) more (suc (suc j)) (n .1) (omega arith) (omega arith) w)
+    plus-more (around (add binary64 sum (lengthOf e)) more) (omega arith)
+    (around-plus (add binary64 sum (lengthOf e)) more (suc (suc j)) (n .1) (omega arith) (omega arith) w)
 
 zero-plus : Plus 25 zero64
 unfolding ofBits
@@ -74,7 +81,8 @@ perimeter-plus : (ps : List Point) → AllGood ps → length ps ≤ vertexLimit 
 unfolding perimeterOf
 perimeter-plus ps good few =
     let e = edges-length ps in
-    plus-more (around zero64 (edges ps)) (omega arith) (around-plus zero64 (edges ps) 25 (edges-ended ps good) (lit≤ tt) (omega arith) zero-plus)
+    plus-more (around zero64 (edges ps)) (omega arith)
+    (around-plus zero64 (edges ps) 25 (edges-ended ps good) (lit≤ tt) (omega arith) zero-plus)
 
 -- ---- how far along
 
@@ -82,12 +90,14 @@ perimeter-plus ps good few =
 whole-under : (x : Float) (c : ℕ) → HasValue x false c 1 → c ≤ 8 → Under 4 x
 whole-under nan c v h = absurd v
 whole-under (inf s) c v h = absurd v
-whole-under (fin s m e) c v h = le-trans (le-of-eq (rw mul-one at (v .1))) (mul-le-mul-right (down e) (le-trans h (lit≤ tt)))
+whole-under (fin s m e) c v h =
+    le-trans (le-of-eq (rw mul-one at (v .1))) (mul-le-mul-right (down e) (le-trans h (lit≤ tt)))
 
 whole-over : (x : Float) (c : ℕ) → HasValue x false c 1 → 0 < c → Over 0 x
 whole-over nan c v h = absurd v
 whole-over (inf s) c v h = absurd v
-whole-over (fin s m e) c v h = le-trans (le-of-eq (one-mul-back (down e))) (le-trans (mul-le-mul-right (down e) h) (le-of-eq (sym (v .1))))
+whole-over (fin s m e) c v h =
+    le-trans (le-of-eq (one-mul-back (down e))) (le-trans (mul-le-mul-right (down e) h) (le-of-eq (sym (v .1))))
   where
     one-mul-back : (d : ℕ) → d ≡ 1 * d
     one-mul-back d = sym (one-mul d)
@@ -96,13 +106,18 @@ int-value : (c : ℕ) → c ≤ 8 → HasValue (ofInt binary64 (pos c)) false c 
 unfolding ofInt
 int-value c h = round-whole binary64 false c (le-trans h (lit≤ tt))
 
-target-under : (total : Float) (c k : ℕ) → Plus 85 total → lt total tiny ≡ false → 0 < c → c ≤ 8 → k < c → Under 92 (target total c k)
+target-under : (total : Float) (c k : ℕ) → Plus 85 total → lt total tiny ≡ false → 0 < c → c ≤ 8 → k < c
+    → Under 92 (target total c k)
 unfolding target
 target-under total c k u h low high less =
     let w = not-tiny 85 total u h in
-    let spacing = div-under 85 0 total (ofInt binary64 (pos c)) (lit≤ tt) (plus-under 85 total u) (whole-over (ofInt binary64 (pos c)) c (int-value c high) low) in
-    let far = mul-under 4 86 (ofInt binary64 (pos k)) (div binary64 total (ofInt binary64 (pos c))) (lit≤ tt) (whole-under (ofInt binary64 (pos k)) k (int-value k (omega arith)) (omega arith)) spacing in
-    rem-under 91 40 (mul binary64 (ofInt binary64 (pos k)) (div binary64 total (ofInt binary64 (pos c)))) total (lit≤ tt) far w
+    let spacing =
+    div-under 85 0 total (ofInt binary64 (pos c)) (lit≤ tt) (plus-under 85 total u)
+    (whole-over (ofInt binary64 (pos c)) c (int-value c high) low) in
+    let far = mul-under 4 86 (ofInt binary64 (pos k)) (div binary64 total (ofInt binary64 (pos c))) (lit≤ tt)
+    (whole-under (ofInt binary64 (pos k)) k (int-value k (omega arith)) (omega arith)) spacing in
+    rem-under 91 40 (mul binary64 (ofInt binary64 (pos k)) (div binary64 total (ofInt binary64 (pos c)))) total
+    (lit≤ tt) far w
 
 -- ---- the place on an edge
 
@@ -113,33 +128,41 @@ along-near e t n u = record {
   y-under = coordinate (e .start .y) (e .finish .y) (n .0 .y-under) (n .1 .y-under);
 }
   where
-    coordinate : (a b : Float) → Under 20 a → Under 20 b → Under 160 (add binary64 a (mul binary64 t (sub binary64 b a)))
+    coordinate : (a b : Float) → Under 20 a → Under 20 b
+        → Under 160 (add binary64 a (mul binary64 t (sub binary64 b a)))
     coordinate a b v w =
         add-under 158 a (mul binary64 t (sub binary64 b a)) (lit≤ tt) (under-more a (lit≤ {m = 20} {n = 158} tt) v)
         (mul-under 135 22 t (sub binary64 b a) (lit≤ tt) u (sub-under 20 b a (lit≤ tt) w v))
 
-edge-near : (d : Float) (i : ℕ) (before : Float) (e : Ends) → Under 92 d → Under 92 before → Ended e → Near 160 (onEdge d i before e .point)
+edge-near : (d : Float) (i : ℕ) (before : Float) (e : Ends) → Under 92 d → Under 92 before → Ended e
+    → Near 160 (onEdge d i before e .point)
 unfolding onEdge
 edge-near d i before e u w n = go (lt (lengthOf e) tiny) refl
   where
-    go : (b : Bool) → lt (lengthOf e) tiny ≡ b → Near 160 (cond b (spot (e .start) i) (spot (alongOf e (div binary64 (sub binary64 d before) (lengthOf e))) i) .point)
+    go : (b : Bool) → lt (lengthOf e) tiny ≡ b
+        → Near 160 (cond b (spot (e .start) i) (spot (alongOf e (div binary64 (sub binary64 d before) (lengthOf e)))
+        i) .point)
     go true h = near-more 20 160 (e .start) (lit≤ tt) (n .0)
     go false h =
         along-near e (div binary64 (sub binary64 d before) (lengthOf e)) n
-        (div-under 94 40 (sub binary64 d before) (lengthOf e) (lit≤ tt) (sub-under 92 d before (lit≤ tt) u w) (not-tiny 25 (lengthOf e) (length-plus e n) h))
+        (div-under 94 40 (sub binary64 d before) (lengthOf e) (lit≤ tt) (sub-under 92 d before (lit≤ tt) u w)
+        (not-tiny 25 (lengthOf e) (length-plus e n) h))
 
 spot-near : (last : Spot) (d : Float) (i : ℕ) (before : Float) (es : List Ends) (j : ℕ)
-    → Near 160 (last .point) → Under 92 d → AllEnded es → 25 ≤ j → j + 2 * length es ≤ 85 → Plus j before → Near 160 (spotFrom last d i before es .point)
+    → Near 160 (last .point) → Under 92 d → AllEnded es → 25 ≤ j → j + 2 * length es ≤ 85 → Plus j before
+    → Near 160 (spotFrom last d i before es .point)
 unfolding spotFrom
 spot-near last d i before [] j l u n low high w = l
 spot-near last d i before (e ∷ more) j l u n low high w =
     go (reaches d before after)
-    (spot-near last d (suc i) after more (suc (suc j)) l u (n .1) (omega arith) (omega arith) (add-plus j before (lengthOf e) (omega arith) w (plus-more (lengthOf e) low (length-plus e (n .0)))))
+    (spot-near last d (suc i) after more (suc (suc j)) l u (n .1) (omega arith) (omega arith)
+    (add-plus j before (lengthOf e) (omega arith) w (plus-more (lengthOf e) low (length-plus e (n .0)))))
   where
     after : Float
     after = add binary64 before (lengthOf e)
 
-    go : (b : Bool) → Near 160 (spotFrom last d (suc i) after more .point) → Near 160 (cond b (onEdge d i before e) (spotFrom last d (suc i) after more) .point)
+    go : (b : Bool) → Near 160 (spotFrom last d (suc i) after more .point)
+        → Near 160 (cond b (onEdge d i before e) (spotFrom last d (suc i) after more) .point)
     go true f = edge-near d i before e u (under-more before (omega arith) (plus-under j before w)) (n .0)
     go false f = f
 
@@ -153,40 +176,54 @@ module _ (ps : List Point) (good : AllGood ps) (few : length ps ≤ vertexLimit)
   unfolding spotAt lastSpot
   spot-at-near d u =
       let e = edges-length ps in
-      spot-near (lastSpot ps) d 0 zero64 (edges ps) 25 (vertex-near (length ps - 1) (omega arith)) u (edges-ended ps good) (lit≤ tt) (omega arith) zero-plus
+      spot-near (lastSpot ps) d 0 zero64 (edges ps) 25 (vertex-near (length ps - 1) (omega arith)) u
+      (edges-ended ps good) (lit≤ tt) (omega arith) zero-plus
 
   spaced-near : (way : CutDirection) (c k n : ℕ) → lt (perimeterOf ps) tiny ≡ false → 0 < c → c ≤ 8 → k + n ≤ c
-      → (j : ℕ) → j < n → Near 160 (point (getD (spaced way ps (perimeterOf ps) c k n) j blank .x) (getD (spaced way ps (perimeterOf ps) c k n) j blank .y))
+      → (j : ℕ) → j < n
+      → Near 160 (point (getD (spaced way ps (perimeterOf ps) c k n) j blank .x)
+      (getD (spaced way ps (perimeterOf ps) c k n) j blank .y))
   unfolding spaced
   spaced-near way c k zero h low high fit j less = absurd (not-suc-le-zero less)
   spaced-near way c k (suc n) h low high fit zero less =
-      spot-at-near (target (perimeterOf ps) c k) (target-under (perimeterOf ps) c k (perimeter-plus ps good few) h low high (omega arith))
-  spaced-near way c k (suc n) h low high fit (suc j) less = spaced-near way c (suc k) n h low high (omega arith) j (le-of-suc-le-suc less)
+      spot-at-near (target (perimeterOf ps) c k) (target-under (perimeterOf ps) c k (perimeter-plus ps good few) h low
+      high (omega arith))
+  spaced-near way c k (suc n) h low high fit (suc j) less =
+      spaced-near way c (suc k) n h low high (omega arith) j (le-of-suc-le-suc less)
 
   from-near : (way : CutDirection) (v : Point) (c : ℕ) → Near 160 v → c ≤ 8
-      → (j : ℕ) → j < length (candidatesFrom way v ps c) → Near 160 (point (getD (candidatesFrom way v ps c) j blank .x) (getD (candidatesFrom way v ps c) j blank .y))
+      → (j : ℕ) → j < length (candidatesFrom way v ps c)
+      → Near 160 (point (getD (candidatesFrom way v ps c) j blank .x) (getD (candidatesFrom way v ps c) j blank .y))
   unfolding candidatesFrom
   from-near way v c n high = go (eqb c 1) (lt (perimeterOf ps) tiny) refl
     where
       whole : Bool → Bool → List Candidate
-      whole p q = cond p (candidateAt way (spot v 0) ∷ []) (cond q (candidateAt way (spot v 0) ∷ []) (spaced way ps (perimeterOf ps) c 0 c))
+      whole p q =
+          cond p (candidateAt way (spot v 0) ∷ [])
+          (cond q (candidateAt way (spot v 0) ∷ []) (spaced way ps (perimeterOf ps) c 0 c))
 
-      one : (j : ℕ) → j < 1 → Near 160 (point (getD (candidateAt way (spot v 0) ∷ []) j blank .x) (getD (candidateAt way (spot v 0) ∷ []) j blank .y))
+      one : (j : ℕ) → j < 1
+          → Near 160 (point (getD (candidateAt way (spot v 0) ∷ []) j blank .x)
+          (getD (candidateAt way (spot v 0) ∷ []) j blank .y))
       one zero h = n
       one (suc j) h = absurd (not-suc-le-zero (le-of-suc-le-suc h))
 
-      go : (p q : Bool) → lt (perimeterOf ps) tiny ≡ q → (j : ℕ) → j < length (whole p q) → Near 160 (point (getD (whole p q) j blank .x) (getD (whole p q) j blank .y))
+      go : (p q : Bool) → lt (perimeterOf ps) tiny ≡ q → (j : ℕ) → j < length (whole p q)
+          → Near 160 (point (getD (whole p q) j blank .x) (getD (whole p q) j blank .y))
       go true q e j h = one j h
       go false true e j h = one j h
       go false false e j h =
           let l = spaced-length way ps (perimeterOf ps) c 0 c in
           spaced-near way c 0 c e (omega arith) high (omega arith) j (omega arith)
 
--- every candidate of a contour that was not refused lies within 2^160, so its distance to any other such point, home too, is finite (`distance-below`)
+-- every candidate of a contour that was not refused lies within 2^160, so its distance to any other such point, home
+-- too, is finite (`distance-below`)
 pub each-near : (way : CutDirection) (ps : List Point) (c : ℕ) → AllGood ps → length ps ≤ vertexLimit
-    → (k : ℕ) → k < length (candidatesOf way ps c) → Near 160 (point (getD (candidatesOf way ps c) k blank .x) (getD (candidatesOf way ps c) k blank .y))
+    → (k : ℕ) → k < length (candidatesOf way ps c)
+    → Near 160 (point (getD (candidatesOf way ps c) k blank .x) (getD (candidatesOf way ps c) k blank .y))
 unfolding candidatesOf
 each-near way [] c good few k h = absurd (not-suc-le-zero h)
 each-near way (v ∷ more) c good few k h =
     let some = zero-lt-suc (length more) in
-    from-near (v ∷ more) good few some way v (min c perContourLimit) (vertex-near (v ∷ more) good few some 0 some) (omega arith) k h
+    from-near (v ∷ more) good few some way v (min c perContourLimit) (vertex-near (v ∷ more) good few some 0 some)
+    (omega arith) k h

@@ -33,9 +33,12 @@ reaches d before after = le before d && le d (add binary64 after tiny)
 
 -- the place at the distance d on edge i, which begins at `before`: its vertex where the edge is under 1e-12
 unfoldable pub onEdge : Float → ℕ → Float → Ends → Spot
-onEdge d i before e = cond (lt (lengthOf e) tiny) (spot (e .start) i) (spot (alongOf e (div binary64 (sub binary64 d before) (lengthOf e))) i)
+onEdge d i before e =
+    cond (lt (lengthOf e) tiny) (spot (e .start) i)
+    (spot (alongOf e (div binary64 (sub binary64 d before) (lengthOf e))) i)
 
--- the first edge that d falls on, of those from number i on; `before` is the length passed. If there is none, the last vertex
+-- the first edge that d falls on, of those from number i on; `before` is the length passed. If there is none, the last
+-- vertex
 unfoldable pub spotFrom : Spot → Float → ℕ → Float → List Ends → Spot
 spotFrom last d i before [] = last
 spotFrom last d i before (e ∷ more) =

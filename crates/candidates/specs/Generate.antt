@@ -20,18 +20,28 @@ use Rattle.candidates.specs.Along.{perimeterOf, spot, spotAt}
 -- pierced at a spot and cut once around: the end point is the point
 abbrev pub candidateAt : CutDirection → Spot → Candidate
 candidateAt way s =
-    record { x = s .point .x; y = s .point .y; «end_x» = s .point .x; «end_y» = s .point .y; vertex = s .vertex; direction = way }
+    record {
+      x = s .point .x;
+      y = s .point .y;
+      «end_x» = s .point .x;
+      «end_y» = s .point .y;
+      vertex =
+          s .vertex;
+      direction = way;
+    }
 
 -- how far along the way candidate k of c is
 unfoldable pub target : Float → ℕ → ℕ → Float
-target total c k = rem binary64 (mul binary64 (ofInt binary64 (pos k)) (div binary64 total (ofInt binary64 (pos c)))) total
+target total c k =
+    rem binary64 (mul binary64 (ofInt binary64 (pos k)) (div binary64 total (ofInt binary64 (pos c)))) total
 
 -- the next n candidates of c, from number k on
 unfoldable pub spaced : CutDirection → List Point → Float → ℕ → ℕ → ℕ → List Candidate
 spaced way ps total c k zero = []
 spaced way ps total c k (suc n) = candidateAt way (spotAt ps (target total c k)) ∷ spaced way ps total c (suc k) n
 
--- of a contour whose first vertex is v: that vertex if one is wanted or the perimeter is under 1e-12, else c of them spaced evenly
+-- of a contour whose first vertex is v: that vertex if one is wanted or the perimeter is under 1e-12, else c of them
+-- spaced evenly
 unfoldable pub candidatesFrom : CutDirection → Point → List Point → ℕ → List Candidate
 candidatesFrom way v ps c =
     cond (eqb c 1) (candidateAt way (spot v 0) ∷ [])

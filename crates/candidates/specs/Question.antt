@@ -27,7 +27,8 @@ outside most n = ltb n 1 || ltb most n
 unfoldable pub oneContour : List Float → ℕ → Check
 oneContour numbers c =
     let v = (length numbers + 1) / 2 in
-    firstRefusal (refuseIf (outside perContourLimit c) 4 3 ∷ refuseIf (outside vertexLimit v) 6 v ∷ refuseAt 8 (firstBad numbers v) ∷ [])
+    firstRefusal (refuseIf (outside perContourLimit c) 4 3 ∷ refuseIf (outside vertexLimit v) 6 v
+    ∷ refuseAt 8 (firstBad numbers v) ∷ [])
 
 -- the candidates, unless the check refuses: then none
 abbrev pub offered : Check → Candidates → Offered
@@ -35,4 +36,5 @@ offered Fine found = record { check = Fine; found = found }
 offered (Refused r) found = record { check = Refused r; found = filled [] }
 
 unfoldable pub offeredOf : List Float → ℕ → ContourType → CutDirectionPreference → CutDirectionPreference → Offered
-offeredOf numbers c kind exterior interior = offered (oneContour numbers c) (filled (candidatesOf (directionOf kind exterior interior) (points numbers) c))
+offeredOf numbers c kind exterior interior =
+    offered (oneContour numbers c) (filled (candidatesOf (directionOf kind exterior interior) (points numbers) c))

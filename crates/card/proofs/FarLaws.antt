@@ -1,4 +1,5 @@
--- Places of coordinates: home, then each contour one place further on; a vertex read at a place cut off at the card's end. Assumes nothing.
+-- Places of coordinates: home, then each contour one place further on; a vertex read at a place cut off at the card's
+-- end. Assumes nothing.
 use mathlib.Core.Path.{_≡_, sym}
 use mathlib.Core.Bool.{Bool, true, false}
 use mathlib.Core.List.{List}
@@ -25,7 +26,8 @@ pub contour-far : (s : List ℕ) (k j : ℕ) (f : Found) → f ≡ farVertex s k
 contour-far s k j f e a = rw (add-one, ← e, a)
 
 -- the point that was looked at is the vertex
-pub vertex-looked-at : (s : List ℕ) (a at i : ℕ) (r : Bool) → at ≡ min a (length s) → r ≡ farPoint s (at + i) → farPoint s (a + i) ≡ r
+pub vertex-looked-at : (s : List ℕ) (a at i : ℕ) (r : Bool) → at ≡ min a (length s) → r ≡ farPoint s (at + i)
+    → farPoint s (a + i) ≡ r
 vertex-looked-at s a at i r cut e =
     let x : u64At s (min a (length s) + i) ≡ u64At s (a + i) = cut-u64 s a i in
     let y : u64At s (min a (length s) + i + 8) ≡ u64At s (a + i + 8) =

@@ -71,5 +71,6 @@ small-product a b h g =
     omega arith
 
 -- a field of the list that the code made is that field of the definition
-pub field-is : (s : List ℕ) (l : List Bool) (f : ℕ) (b : Bool) → l ≡ headFaults s → getD l f false ≡ b → getD (headFaults s) f false ≡ b
+pub field-is : (s : List ℕ) (l : List Bool) (f : ℕ) (b : Bool) → l ≡ headFaults s → getD l f false ≡ b
+    → getD (headFaults s) f false ≡ b
 field-is s l f b e h = sym (ap (λ (x : List Bool). getD x f false) e) ∙ h

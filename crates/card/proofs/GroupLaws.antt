@@ -1,4 +1,5 @@
--- Stages one after the other, as the code takes them: stopped by one that refuses, or past one that does not. Assumes nothing.
+-- Stages one after the other, as the code takes them: stopped by one that refuses, or past one that does not. Assumes
+-- nothing.
 use mathlib.Core.Path.{_≡_, refl, sym, ap, _∙_}
 use mathlib.Core.Bool.{false}
 use mathlib.Core.List.{List, [], _∷_, _++_}
@@ -103,14 +104,19 @@ module _ (s : List ℕ) (r : Named) (is : r ≡ namedPairs s) where
 
 pub few-contours : (s : List ℕ) → firstRefusal (headStages s) ≡ Fine → contoursOf s ≤ CONTOURS
 unfolding headFault
-few-contours s e = ltb-false _ _ (is-absent (λ f. getD (headFaults s) f false) 8 (fine-absent 4 (headFault s) (is-fine (headStages s) e 3 (lit< tt))) 1 (lit< tt))
+few-contours s e =
+    ltb-false _ _ (is-absent (λ f. getD (headFaults s) f false) 8
+    (fine-absent 4 (headFault s) (is-fine (headStages s) e 3 (lit< tt))) 1 (lit< tt))
 
 pub few-pairs : (s : List ℕ) → firstRefusal (headStages s) ≡ Fine → pairsOf s ≤ PAIRS
 unfolding headFault
-few-pairs s e = ltb-false _ _ (is-absent (λ f. getD (headFaults s) f false) 8 (fine-absent 4 (headFault s) (is-fine (headStages s) e 3 (lit< tt))) 2 (lit< tt))
+few-pairs s e =
+    ltb-false _ _ (is-absent (λ f. getD (headFaults s) f false) 8
+    (fine-absent 4 (headFault s) (is-fine (headStages s) e 3 (lit< tt))) 2 (lit< tt))
 
 -- the cycle's stage, from the positions handed in
-pub cycle-is : (s p : List ℕ) (n : ℕ) (f : Found) → n ≡ contoursOf s → p ≡ pairsOn s → f ≡ firstOnCycle n p → f ≡ cycleFault s
+pub cycle-is : (s p : List ℕ) (n : ℕ) (f : Found) → n ≡ contoursOf s → p ≡ pairsOn s → f ≡ firstOnCycle n p
+    → f ≡ cycleFault s
 unfolding cycleFault
 cycle-is s p n f e h g = g ∙ ap (λ (x : ℕ). firstOnCycle x p) e ∙ ap (firstOnCycle (contoursOf s)) h
 
@@ -136,7 +142,8 @@ module _ (s : List ℕ) where
           (group-passed (blockStages s) (contourStages s ++ pairStages s) b second c fine′
           (group-stopped (contourStages s) (pairStages s) c e r f))
 
-      pub pairs-say : (c d : Check) → c ≡ firstRefusal (contourStages s) → c ≡ Fine → d ≡ firstRefusal (pairStages s) → d ≡ checkOf s
+      pub pairs-say : (c d : Check) → c ≡ firstRefusal (contourStages s) → c ≡ Fine → d ≡ firstRefusal (pairStages s)
+          → d ≡ checkOf s
       unfolding checkOf
       pairs-say c d third e f =
           group-passed (headStages s) (blockStages s ++ contourStages s ++ pairStages s) a first d fine

@@ -1,4 +1,5 @@
--- A loop that looks for the lowest place at which a test holds: what it knows at each turn, and what it may answer. Assumes nothing.
+-- A loop that looks for the lowest place at which a test holds: what it knows at each turn, and what it may answer.
+-- Assumes nothing.
 use mathlib.Core.Path.{_≡_, sym}
 use mathlib.Core.Bool.{Bool, true, false}
 use Prim.Native.Nat.{ℕ, _+_, _≤_, _<_}

@@ -82,7 +82,8 @@ unfolding seatsOf
 seats-more s q = rw (add-one q)
 
 -- two more places are filled
-pub places-more : (s p : List ℕ) (q b a : ℕ) → q < PAIRS → p ≡ padded (2 * PAIRS) 0 (seatsOf s q) → b ≡ beforeOf s q → a ≡ afterOf s q
+pub places-more : (s p : List ℕ) (q b a : ℕ) → q < PAIRS → p ≡ padded (2 * PAIRS) 0 (seatsOf s q) → b ≡ beforeOf s q
+    → a ≡ afterOf s q
     → set (set p (2 * q) b) (2 * q + 1) a ≡ padded (2 * PAIRS) 0 (seatsOf s (q + 1))
 places-more s p q b a h e f g =
     rw (e, f, g, seats-more s q)
@@ -90,7 +91,8 @@ places-more s p q b a h e f g =
 
 -- ---- what the loop hands out
 
-module _ (s p : List ℕ) (q : ℕ) (check : Check) (before : Nowhere (unnamed s) q) (filled : p ≡ padded (2 * PAIRS) 0 (seatsOf s q)) where
+module _ (s p : List ℕ) (q : ℕ) (check : Check) (before : Nowhere (unnamed s) q)
+    (filled : p ≡ padded (2 * PAIRS) 0 (seatsOf s q)) where
   -- so many places are used
   counted : _≡_ {A = Named} (record { check = check; places = p; count = 2 * q })
       (record { check = check; places = padded (2 * PAIRS) 0 (seatsOf s q); count = length (seatsOf s q) })
@@ -126,11 +128,15 @@ last-after s m =
 
 pub seat-before : (s : List ℕ) (m q : ℕ) → q < m → getD (seatsOf s m) (2 * q) 0 ≡ beforeOf s q
 seat-before s zero q h = absurd (not-suc-le-zero h)
-seat-before s (suc m) q h = ⊎-elim (λ e. rw e (last-before s m)) (λ g. earlier s m (2 * q) (omega arith) ∙ seat-before s m q g) (eq-or-lt-of-le (le-of-suc-le-suc h))
+seat-before s (suc m) q h =
+    ⊎-elim (λ e. rw e (last-before s m)) (λ g. earlier s m (2 * q) (omega arith) ∙ seat-before s m q g)
+    (eq-or-lt-of-le (le-of-suc-le-suc h))
 
 pub seat-after : (s : List ℕ) (m q : ℕ) → q < m → getD (seatsOf s m) (2 * q + 1) 0 ≡ afterOf s q
 seat-after s zero q h = absurd (not-suc-le-zero h)
-seat-after s (suc m) q h = ⊎-elim (λ e. rw e (last-after s m)) (λ g. earlier s m (2 * q + 1) (omega arith) ∙ seat-after s m q g) (eq-or-lt-of-le (le-of-suc-le-suc h))
+seat-after s (suc m) q h =
+    ⊎-elim (λ e. rw e (last-after s m)) (λ g. earlier s m (2 * q + 1) (omega arith) ∙ seat-after s m q g)
+    (eq-or-lt-of-le (le-of-suc-le-suc h))
 
 -- ---- the two tags of a pair, looked up at its two places
 
@@ -148,7 +154,8 @@ seats-handed s p m e = ap length e ∙ seats-length s m
 
 -- ---- more contours or pairs than a card takes
 
-pub too-many-contours : (s : List ℕ) (check : Check) → CONTOURS < contoursOf s → check ≡ Refused (record { number = 4; place = 1 })
+pub too-many-contours : (s : List ℕ) (check : Check) → CONTOURS < contoursOf s
+    → check ≡ Refused (record { number = 4; place = 1 })
     → _≡_ {A = Named} (record { check = check; places = replicate (2 * PAIRS) 0; count = 0 }) (namedOf s)
 unfolding namedOf
 too-many-contours s check h e = rw (lt-ltb CONTOURS (contoursOf s) h, e)

@@ -26,5 +26,6 @@ none-spare s b u e h =
     let z : payloadBytes - u ≡ 0 = omega arith in
     rw (← e, z)
 
-pub some-spare : (s : List ℕ) (b u : ℕ) (r : Bool) → u ≡ usedIn s b → r ≡ zerosAt s (payload b + u) (payloadBytes - u) → not r ≡ badSpare s b
+pub some-spare : (s : List ℕ) (b u : ℕ) (r : Bool) → u ≡ usedIn s b → r ≡ zerosAt s (payload b + u) (payloadBytes - u)
+    → not r ≡ badSpare s b
 some-spare s b u r e f = rw (f, e)

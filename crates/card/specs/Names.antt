@@ -30,7 +30,8 @@ upTo count Absent = count
 
 -- no pair's positions
 abbrev pub nothingNamed : ℕ → Named
-nothingNamed field = record { check = Refused (record { number = 4; place = field }); places = replicate (2 * PAIRS) 0; count = 0 }
+nothingNamed field =
+    record { check = Refused (record { number = 4; place = field }); places = replicate (2 * PAIRS) 0; count = 0 }
 
 -- the pairs up to the first that names an unknown id, which is refused; two places a pair, those without a pair zero
 unfoldable pub namedPairs : List ℕ → Named
@@ -42,4 +43,5 @@ namedPairs s =
 -- more contours or pairs than a card takes are refused first
 unfoldable pub namedOf : List ℕ → Named
 unfolding namedPairs
-namedOf s = cond (ltb CONTOURS (contoursOf s)) (nothingNamed 1) (cond (ltb PAIRS (pairsOf s)) (nothingNamed 2) (namedPairs s))
+namedOf s =
+    cond (ltb CONTOURS (contoursOf s)) (nothingNamed 1) (cond (ltb PAIRS (pairsOf s)) (nothingNamed 2) (namedPairs s))

@@ -1,5 +1,5 @@
--- When a card goes back: a stage for each row of the table, in the order in which they are looked at. A stage finds the lowest place at
--- which its test holds. Assumes nothing.
+-- When a card goes back: a stage for each row of the table, in the order in which they are looked at. A stage finds the
+-- lowest place at which its test holds. Assumes nothing.
 use mathlib.Core.Bool.{Bool, true, false, not, cond, _||_}
 use mathlib.Core.List.{List, [], _∷_}
 use Prim.Native.Nat.{ℕ, zero, suc, _+_, _*_, _-_, _/_, _%_, min}
@@ -11,8 +11,11 @@ use Rattle.answer.specs.Lowest.{orFurther, lowest}
 use Rattle.block.specs.Field.{u64At}
 use Rattle.block.specs.Block.{blockBytes, payloadBytes, checked, starts, zerosAt}
 use Rattle.closure.specs.Limits.{CONTOURS, PAIRS}
-use Rattle.fields.specs.Limits.{cardBytes, perContourLimit, candidateLimit, passLimit, vertexLimit, pairsABlock, farthest}
-use Rattle.fields.specs.Layout.{blocksOf, payload, contoursOf, pairsOf, perContourOf, passesOf, homePlace, exteriorOf, interiorOf, idOf, tagOf, vertexCountOf, typeOf, fillerOf, vertexPlace, beforeIdOf, beforeTagOf, afterIdOf, afterTagOf}
+use Rattle.fields.specs.Limits.{cardBytes, perContourLimit, candidateLimit, passLimit, vertexLimit, pairsABlock}
+use Rattle.fields.specs.Limits.{farthest}
+use Rattle.fields.specs.Layout.{blocksOf, payload, contoursOf, pairsOf, perContourOf, passesOf, homePlace, exteriorOf}
+use Rattle.fields.specs.Layout.{interiorOf, idOf, tagOf, vertexCountOf, typeOf, fillerOf, vertexPlace, beforeIdOf}
+use Rattle.fields.specs.Layout.{beforeTagOf, afterIdOf, afterTagOf}
 
 -- this place, if the test holds
 abbrev pub foundIf : Bool → ℕ → Found
@@ -171,7 +174,8 @@ abbrev pub afterOf : List ℕ → ℕ → ℕ
 afterOf s q = seat (positionOf s (afterIdOf s q))
 
 abbrev pub otherTag : List ℕ → ℕ → Bool
-otherTag s q = not (eqb (tagOf s (beforeOf s q)) (beforeTagOf s q)) || not (eqb (tagOf s (afterOf s q)) (afterTagOf s q))
+otherTag s q =
+    not (eqb (tagOf s (beforeOf s q)) (beforeTagOf s q)) || not (eqb (tagOf s (afterOf s q)) (afterTagOf s q))
 
 unfoldable pub tagFault : List ℕ → Found
 unfolding lowest

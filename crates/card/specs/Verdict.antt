@@ -1,4 +1,5 @@
--- The verdict on any bytes: the first stage that refuses, in the order in which the numbers are looked at. Assumes nothing.
+-- The verdict on any bytes: the first stage that refuses, in the order in which the numbers are looked at. Assumes
+-- nothing.
 use mathlib.Core.List.{List, [], _∷_, _++_}
 use Prim.Native.Nat.{ℕ}
 use Rattle.answer.specs.declared.Found.{Found}
@@ -7,7 +8,8 @@ use Rattle.answer.specs.Lowest.{refuseAt}
 use Rattle.answer.specs.Stage.{firstRefusal}
 use Rattle.closure.specs.Cycle.{firstOnCycle}
 use Rattle.fields.specs.Layout.{blocksOf, contoursOf}
-use Rattle.card.specs.Stages.{lengthFault, checkFault, startFault, headFault, countFault, contourFault, spareFault, farFault, repeatFault, nameFault, tagFault}
+use Rattle.card.specs.Stages.{lengthFault, checkFault, startFault, headFault, countFault, contourFault}
+use Rattle.card.specs.Stages.{spareFault, farFault, repeatFault, nameFault, tagFault}
 use Rattle.card.specs.Names.{seatsOf, pairsOn}
 
 -- 12: the lowest contour that can be reached from itself by pairs
@@ -17,11 +19,21 @@ cycleFault s = firstOnCycle (contoursOf s) (pairsOn s)
 
 -- the file and its head
 abbrev pub headStages : List ℕ → List Check
-headStages s = refuseAt 1 (lengthFault s) ∷ refuseAt 2 (checkFault s) ∷ refuseAt 3 (startFault s 1) ∷ refuseAt 4 (headFault s) ∷ []
+headStages s =
+    refuseAt 1 (lengthFault s)
+    ∷ refuseAt 2 (checkFault s)
+    ∷ refuseAt 3 (startFault s 1)
+    ∷ refuseAt 4 (headFault s)
+    ∷ []
 
 -- the blocks
 abbrev pub blockStages : List ℕ → List Check
-blockStages s = refuseAt 5 (countFault s) ∷ refuseAt 3 (startFault s (blocksOf s)) ∷ refuseAt 6 (contourFault s) ∷ refuseAt 7 (spareFault s) ∷ []
+blockStages s =
+    refuseAt 5 (countFault s)
+    ∷ refuseAt 3 (startFault s (blocksOf s))
+    ∷ refuseAt 6 (contourFault s)
+    ∷ refuseAt 7 (spareFault s)
+    ∷ []
 
 -- the contours
 abbrev pub contourStages : List ℕ → List Check

@@ -1,5 +1,5 @@
--- Row 12 of the table, once ids are unique, every pair's ids are known and there are no more contours than the closure takes.
--- Assumes nothing.
+-- Row 12 of the table, once ids are unique, every pair's ids are known and there are no more contours than the closure
+-- takes. Assumes nothing.
 use mathlib.Core.Path.{_≡_}
 use mathlib.Core.Bool.{true}
 use mathlib.Core.List.{List}
@@ -38,4 +38,6 @@ module _ (s : List ℕ) (unique : No (Row9 s)) (named : No (Row10 s)) where
       rw e (lowest-exact (onCycle (contoursOf s) (pairsOn s)) (contoursOf s) (OnCycle s) cycle-row row-cycle)
 
   pub no-cycle : No (Row12 s) → (k : ℕ) → k < contoursOf s → Reaches (linked (contoursOf s) (pairsOn s)) k k → ⊥
-  no-cycle none k h r = nowhere (onCycle (contoursOf s) (pairsOn s)) (contoursOf s) (OnCycle s) cycle-row row-cycle none k h (reach-leads r)
+  no-cycle none k h r =
+      nowhere (onCycle (contoursOf s) (pairsOn s)) (contoursOf s) (OnCycle s) cycle-row row-cycle none k h
+      (reach-leads r)

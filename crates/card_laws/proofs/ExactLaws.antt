@@ -1,5 +1,5 @@
--- A search tells exactly what a row says: it finds a place exactly where the row holds. And rows in turn: what the first refusal tells of
--- each. Assumes nothing.
+-- A search tells exactly what a row says: it finds a place exactly where the row holds. And rows in turn: what the
+-- first refusal tells of each. Assumes nothing.
 use mathlib.Core.Path.{_≡_, refl, sym, ap, _∙_, subst}
 use mathlib.Core.Logic.{_⊎_, inl, inr}
 use mathlib.Core.Bool.{Bool, true, false, not, _||_}
@@ -52,7 +52,8 @@ so-not false h = refl
 -- ---- the lowest place, and a place under a test
 
 pub lowest-exact : (test : ℕ → Bool) (n : ℕ) (Fault : ℕ → Type 0)
-    → ((k : ℕ) → k < n → test k ≡ true → Fault k) → ((k : ℕ) → k < n → Fault k → test k ≡ true) → Exact (lowest test n) (Lowest n Fault)
+    → ((k : ℕ) → k < n → test k ≡ true → Fault k) → ((k : ℕ) → k < n → Fault k → test k ≡ true)
+    → Exact (lowest test n) (Lowest n Fault)
 lowest-exact test n Fault to from = record { found = found; here = here }
   where
     found : (p : ℕ) → lowest test n ≡ At p → Lowest n Fault p
@@ -75,11 +76,16 @@ lowest-exact test n Fault to from = record { found = found; here = here }
           before = λ j h. false-unless (test j) (λ t. r .before j h (to j (omega (arith, r .within)) t));
         })
 
-pub if-exact : (b : Bool) (k : ℕ) (Row : ℕ → Type 0) → (b ≡ true → Row k) → ((p : ℕ) → Row p → (b ≡ true) × (p ≡ k)) → Exact (foundIf b k) Row
+pub if-exact : (b : Bool) (k : ℕ) (Row : ℕ → Type 0) → (b ≡ true → Row k) → ((p : ℕ) → Row p → (b ≡ true) × (p ≡ k))
+    → Exact (foundIf b k) Row
 if-exact true k Row to from =
     record { found = λ p e. subst Row (let q : k ≡ p = cc in q) (to refl); here = λ p r. ap At (sym (from p r .1)) }
 if-exact false k Row to from =
-    record { found = λ p e. let z : _≡_ {A = ℕ} 0 1 = cc in absurd (omega arith); here = λ p r. absurd (never false (from p r .0) refl) }
+    record {
+      found = λ p e. let z : _≡_ {A = ℕ} 0 1 = cc in absurd (omega arith);
+      here =
+          λ p r. absurd (never false (from p r .0) refl);
+    }
 
 -- ---- rows in turn
 
@@ -104,20 +110,25 @@ module _ (number : ℕ) (f : Found) (Row : ℕ → Type 0) (exact : Exact f Row)
     where
       go : (g : Found) → f ≡ g → G (r .number) (r .place)
       go (At p) h =
-          let q : _≡_ {A = Refusal} (record { number = number; place = p }) r = cc (ap (λ (z : Found). orElse (refuseAt number z) (firstRefusal more)) h) in
+          let q : _≡_ {A = Refusal} (record { number = number; place = p }) r =
+          cc (ap (λ (z : Found). orElse (refuseAt number z) (firstRefusal more)) h) in
           subst (λ (z : Refusal). G (z .number) (z .place)) q (this p (exact .found p h))
-      go Absent h = later (λ p row. absurd-found p (sym h ∙ exact .here p row)) r (ap (λ (z : Found). orElse (refuseAt number z) (firstRefusal more)) (sym h) ∙ e)
+      go Absent h =
+          later (λ p row. absurd-found p (sym h ∙ exact .here p row)) r
+          (ap (λ (z : Found). orElse (refuseAt number z) (firstRefusal more)) (sym h) ∙ e)
         where
           absurd-found : (p : ℕ) → Absent ≡ At p → ⊥
           absurd-found p z = let y : _≡_ {A = ℕ} 0 1 = cc in omega arith
 
   pub none-here : firstRefusal (refuseAt number f ∷ more) ≡ Fine → No Row
   unfolding firstRefusal
-  none-here e p row = let z : _≡_ {A = ℕ} 0 1 = cc (ap (λ (g : Found). orElse (refuseAt number g) (firstRefusal more)) (exact .here p row)) in omega arith
+  none-here e p row = let z : _≡_ {A = ℕ} 0 1 =
+      cc (ap (λ (g : Found). orElse (refuseAt number g) (firstRefusal more)) (exact .here p row)) in omega arith
 
 -- ---- where no place is the lowest, there is none
 
-pub nowhere : (test : ℕ → Bool) (n : ℕ) (Fault : ℕ → Type 0) → ((k : ℕ) → k < n → test k ≡ true → Fault k) → ((k : ℕ) → k < n → Fault k → test k ≡ true)
+pub nowhere : (test : ℕ → Bool) (n : ℕ) (Fault : ℕ → Type 0) → ((k : ℕ) → k < n → test k ≡ true → Fault k)
+    → ((k : ℕ) → k < n → Fault k → test k ≡ true)
     → No (Lowest n Fault) → (k : ℕ) → k < n → Fault k → ⊥
 nowhere test n Fault to from no-row k h b = go (lowest test n) refl
   where

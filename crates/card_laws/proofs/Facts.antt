@@ -1,5 +1,5 @@
--- Every fine card has each fact that later parts stand on; and the record of a card's fields reads what the field questions read. Assumes
--- nothing.
+-- Every fine card has each fact that later parts stand on; and the record of a card's fields reads what the field
+-- questions read. Assumes nothing.
 use mathlib.Core.Path.{_≡_, refl, sym, ap, _∙_}
 use mathlib.Core.Logic.{_⊎_, inl, inr}
 use mathlib.Core.Bool.{Bool, true, false}
@@ -17,11 +17,16 @@ use Rattle.block.specs.Block.{blockBytes}
 use Rattle.points.specs.Bad.{badPoint}
 use Rattle.closure.specs.Limits.{CONTOURS, PAIRS}
 use Rattle.fields.specs.Limits.{perContourLimit, candidateLimit, passLimit, vertexLimit}
-use Rattle.fields.specs.Layout.{blocksOf, contoursOf, pairsOf, perContourOf, passesOf, homePlace, exteriorOf, interiorOf, idOf, vertexCountOf, typeOf, vertexPlace, beforeIdOf, beforeTagOf, afterIdOf, afterTagOf}
+use Rattle.fields.specs.Layout.{blocksOf, contoursOf, pairsOf, perContourOf, passesOf, homePlace, exteriorOf}
+use Rattle.fields.specs.Layout.{interiorOf, idOf, vertexCountOf, typeOf, vertexPlace, beforeIdOf, beforeTagOf}
+use Rattle.fields.specs.Layout.{afterIdOf, afterTagOf}
 use Rattle.fields.specs.Values.{pointAt}
 use Rattle.card.specs.Stages.{blocksDue, beforeOf, afterOf}
 use Rattle.card.specs.Verdict.{checkOf}
-use Rattle.card_laws.specs.Table.{No, Row1, Row4, Row5, Row6, Row8, Row9, Row10, Row11, Row12, BadField, contours, pairs, candidates, passes, exterior, interior, all-candidates, BadContour, few-vertices, many-vertices, no-type, FarCoordinate, at-home, at-vertex, OtherTag, Sound}
+use Rattle.card_laws.specs.Table.{No, Row1, Row4, Row5, Row6, Row8, Row9, Row10, Row11, Row12, BadField, contours}
+use Rattle.card_laws.specs.Table.{pairs, candidates, passes, exterior, interior, all-candidates, BadContour}
+use Rattle.card_laws.specs.Table.{few-vertices, many-vertices, no-type, FarCoordinate, at-home, at-vertex}
+use Rattle.card_laws.specs.Table.{OtherTag, Sound}
 use Rattle.card_laws.specs.Card.{Contour, Pair, each, contourOf, pairOf, cardOf, Names, Accepted}
 use Rattle.card_laws.proofs.ExactLaws.{false-unless}
 use Rattle.card_laws.proofs.RowLaws.{due-blocks, no-bad-field, no-bad-contour}
@@ -77,8 +82,11 @@ module _ (s : List ℕ) (sound : Sound s) where
 
   whole-length : length s ≡ blockBytes * blocksDue s
   whole-length =
-      let blocks : blocksOf s ≡ blocksDue s = must-be (blocksOf s) (blocksDue s) (λ d. row5 (blocksOf s) (record { differs = λ p w e. d (due-blocks s p w e); told = refl })) in
-      let rest : length s % blockBytes ≡ 0 = must-be (length s % blockBytes) 0 (λ d. row1 _ (record { cause = inr (inl d); told = refl })) in
+      let blocks : blocksOf s ≡ blocksDue s =
+      must-be (blocksOf s) (blocksDue s) (λ d. row5 (blocksOf s)
+      (record { differs = λ p w e. d (due-blocks s p w e); told = refl })) in
+      let rest : length s % blockBytes ≡ 0 =
+      must-be (length s % blockBytes) 0 (λ d. row1 _ (record { cause = inr (inl d); told = refl })) in
       rw (← blocks) (omega arith)
 
   -- ---- the contours
@@ -117,7 +125,8 @@ module _ (s : List ℕ) (sound : Sound s) where
         few-pairs = not-below PAIRS (pairsOf s) (λ h. fine-field 2 (lit< tt) (pairs h));
         some-candidates = not-below (perContourOf s) 1 (λ h. fine-field 3 (lit< tt) (candidates (inl h)));
         few-candidates = not-below perContourLimit (perContourOf s) (λ h. fine-field 3 (lit< tt) (candidates (inr h)));
-        few-in-all = not-below candidateLimit (contoursOf s * perContourOf s) (λ h. fine-field 7 (lit< tt) (all-candidates h));
+        few-in-all =
+            not-below candidateLimit (contoursOf s * perContourOf s) (λ h. fine-field 7 (lit< tt) (all-candidates h));
         few-passes = not-below passLimit (passesOf s) (λ h. fine-field 4 (lit< tt) (passes h));
         exterior-known = not-below 2 (exteriorOf s) (λ h. fine-field 5 (lit< tt) (exterior h));
         interior-known = not-below 2 (interiorOf s) (λ h. fine-field 6 (lit< tt) (interior h));
@@ -125,8 +134,12 @@ module _ (s : List ℕ) (sound : Sound s) where
         few-vertices = λ k h. not-below vertexLimit (vertexCountOf s k) (λ g. fine-contour k h (many-vertices g));
         type-known = λ k h. not-below 1 (typeOf s k) (λ g. fine-contour k h (no-type g));
         home-near = false-unless (badPoint (pointAt s homePlace)) (λ t. fine-point 0 (omega arith) (at-home t));
-        vertex-near = λ k j h g. false-unless (badPoint (pointAt s (vertexPlace k j))) (λ t. fine-point (suc k) (omega arith) (at-vertex k j g t));
-        ids-differ = λ j k hj hk e. same-contour s row9 (idOf s k) j k (record { is-contour = hj; same = e }) (record { is-contour = hk; same = refl });
+        vertex-near =
+            λ k j h g. false-unless (badPoint (pointAt s (vertexPlace k j)))
+            (λ t. fine-point (suc k) (omega arith) (at-vertex k j g t));
+        ids-differ =
+            λ j k hj hk e. same-contour s row9 (idOf s k) j k (record { is-contour = hj; same = e })
+            (record { is-contour = hk; same = refl });
         before-named = before-names;
         after-named = after-names;
         acyclic = no-cycle s row9 row10 row12;
@@ -161,7 +174,8 @@ contour-at s k d h = at-each (contourOf s) (contoursOf s) k d h
 pub vertices-in-all : (s : List ℕ) (k : ℕ) → length (contourOf s k .vertices) ≡ vertexCountOf s k
 vertices-in-all s k = length-each (λ j. pointAt s (vertexPlace k j)) (vertexCountOf s k)
 
-pub vertex-at : (s : List ℕ) (k j : ℕ) (d : Point) → j < vertexCountOf s k → getD (contourOf s k .vertices) j d ≡ pointAt s (vertexPlace k j)
+pub vertex-at : (s : List ℕ) (k j : ℕ) (d : Point) → j < vertexCountOf s k
+    → getD (contourOf s k .vertices) j d ≡ pointAt s (vertexPlace k j)
 vertex-at s k j d h = at-each (λ j. pointAt s (vertexPlace k j)) (vertexCountOf s k) j d h
 
 pub pairs-in-all : (s : List ℕ) → length (cardOf s .pairs) ≡ pairsOf s

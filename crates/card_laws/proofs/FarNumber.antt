@@ -1,9 +1,11 @@
--- Bits without their sign above those of 1,048,576 are exactly those of a number that is not finite or above it in size. Assumes nothing.
+-- Bits without their sign above those of 1,048,576 are exactly those of a number that is not finite or above it in
+-- size. Assumes nothing.
 use mathlib.Core.Path.{_≡_, refl, sym, ap, _∙_, subst}
 use mathlib.Core.Logic.{_⊎_, inl, inr}
 use mathlib.Core.Bool.{Bool, true, false, cond}
 use Prim.Native.Nat.{ℕ, zero, suc, _+_, _*_, _/_, _%_, _^_, _≤_, _<_}
-use native.Mathlib.Nat.{mul-comm, mul-assoc, mul-lt-mul-of-pos-right, lt-of-mul-lt-mul-right, le-of-mul-le-mul-right, mul-le-mul-right, mul-le-mul-left, mul-le-mul, mul-pos}
+use native.Mathlib.Nat.{mul-comm, mul-assoc, mul-lt-mul-of-pos-right, lt-of-mul-lt-mul-right, le-of-mul-le-mul-right}
+use native.Mathlib.Nat.{mul-le-mul-right, mul-le-mul-left, mul-le-mul, mul-pos}
 use native.Mathlib.Omega.{arith}
 use lib.Dec.{ltb, eqb, lit<, lit≤}
 use lib.Pow.{pow-add, pow-pos, pow-mono}
@@ -45,7 +47,8 @@ module _ (N P t W : ℕ) (pN : 0 < N) (pP : 0 < P) (small : t < N) where
   wider h =
       let a : N * (2 * P) ≤ (N + t) * W = mul-le-mul (omega arith) h in
       let b : 0 < N * P = mul-pos pN pP in
-      let c : N * (2 * P) ≡ 2 * (N * P) = sym (mul-assoc N 2 P) ∙ ap (λ (z : ℕ). z * P) (mul-comm N 2) ∙ mul-assoc 2 N P in
+      let c : N * (2 * P) ≡ 2 * (N * P) =
+      sym (mul-assoc N 2 P) ∙ ap (λ (z : ℕ). z * P) (mul-comm N 2) ∙ mul-assoc 2 N P in
       omega arith
 
   narrower : 2 * W ≤ P → (N + t) * W ≤ N * P
@@ -59,7 +62,9 @@ module _ (N P t W : ℕ) (pN : 0 < N) (pP : 0 < P) (small : t < N) where
     where
       go : (u : ℕ) → t ≡ u → ltb (N * P) ((N + t) * P) ≡ ltb 0 t
       go zero e = rw e (le-ltb (N * P) ((N + 0) * P) (mul-le-mul-right P (omega arith)))
-      go (suc u) e = rw e (lt-ltb (N * P) ((N + suc u) * P) (mul-lt-mul-of-pos-right (omega arith) pP) ∙ sym (lt-ltb 0 (suc u) (omega arith)))
+      go (suc u) e =
+          rw e (lt-ltb (N * P) ((N + suc u) * P) (mul-lt-mul-of-pos-right (omega arith) pP)
+          ∙ sym (lt-ltb 0 (suc u) (omega arith)))
 
 -- ---- the fields of a number
 
@@ -84,29 +89,36 @@ apart x y = go (ltb x y) (ltb y x) refl refl
     go false false e f = inr (inl (omega (arith, ltb-false x y e, ltb-false y x f)))
 
 -- the exponent's field decides, and at the limit's own field the digits do
-fields-decide : (P : ℕ) (y t : ℕ) → P ≡ 2 ^ 1042 → 0 < P → t < lead → ltb farthest (suc y * lead + t) ≡ ltb (lead * P) ((lead + t) * 2 ^ y)
+fields-decide : (P : ℕ) (y t : ℕ) → P ≡ 2 ^ 1042 → 0 < P → t < lead
+    → ltb farthest (suc y * lead + t) ≡ ltb (lead * P) ((lead + t) * 2 ^ y)
 fields-decide P y t e pos small = go (apart y 1042)
   where
     go : (y < 1042) ⊎ ((y ≡ 1042) ⊎ (1042 < y)) → ltb farthest (suc y * lead + t) ≡ ltb (lead * P) ((lead + t) * 2 ^ y)
     go (inl h) =
         le-ltb farthest (suc y * lead + t) (omega arith)
-        ∙ sym (le-ltb (lead * P) ((lead + t) * 2 ^ y) (narrower lead P t (2 ^ y) (lit< tt) pos small (subst (λ (w : ℕ). 2 * 2 ^ y ≤ w) (sym e) (double y 1042 (omega arith)))))
+        ∙ sym (le-ltb (lead * P) ((lead + t) * 2 ^ y)
+        (narrower lead P t (2 ^ y) (lit< tt) pos small
+        (subst (λ (w : ℕ). 2 * 2 ^ y ≤ w) (sym e) (double y 1042 (omega arith)))))
     go (inr (inl h)) =
         let q : 2 ^ y ≡ P = ap (λ (w : ℕ). 2 ^ w) h ∙ sym e in
-        at-limit (ltb 0 t) refl ∙ sym (level lead P t P (lit< tt) pos small) ∙ ap (λ (w : ℕ). ltb (lead * P) ((lead + t) * w)) (sym q)
+        at-limit (ltb 0 t) refl ∙ sym (level lead P t P (lit< tt) pos small)
+        ∙ ap (λ (w : ℕ). ltb (lead * P) ((lead + t) * w)) (sym q)
       where
         at-limit : (b : Bool) → ltb 0 t ≡ b → ltb farthest (suc y * lead + t) ≡ ltb 0 t
         at-limit true b = lt-ltb farthest (suc y * lead + t) (omega (arith, ltb-true 0 t b)) ∙ sym b
         at-limit false b = le-ltb farthest (suc y * lead + t) (omega (arith, ltb-false 0 t b)) ∙ sym b
     go (inr (inr h)) =
         lt-ltb farthest (suc y * lead + t) (omega arith)
-        ∙ sym (lt-ltb (lead * P) ((lead + t) * 2 ^ y) (wider lead P t (2 ^ y) (lit< tt) pos small (subst (λ (w : ℕ). 2 * w ≤ 2 ^ y) (sym e) (double 1042 y (omega arith)))))
+        ∙ sym (lt-ltb (lead * P) ((lead + t) * 2 ^ y)
+        (wider lead P t (2 ^ y) (lit< tt) pos small
+        (subst (λ (w : ℕ). 2 * w ≤ 2 ^ y) (sym e) (double 1042 y (omega arith)))))
 
 normal : (s : Bool) (y t : ℕ) → t < lead → ltb farthest (suc y * lead + t) ≡ badNumber (odd 53 s (lead + t) y 1074)
 normal s y t small =
     fields-decide (2 ^ 1042) y t refl (pow-pos 1042) small
     ∙ ap (λ (w : ℕ). ltb w ((lead + t) * 2 ^ y)) (sym top-unit)
-    ∙ sym (bad-of-value (odd 53 s (lead + t) y 1074) s ((lead + t) * 2 ^ y) (2 ^ 1074) (pow-pos 1074) (odd-sign 53 s (lead + t) y 1074))
+    ∙ sym (bad-of-value (odd 53 s (lead + t) y 1074) s ((lead + t) * 2 ^ y) (2 ^ 1074) (pow-pos 1074)
+    (odd-sign 53 s (lead + t) y 1074))
 
 -- below the smallest normal number
 tiny-law : (G t : ℕ) → 4294967296 ≤ G → t < lead → t * 1 ≤ largest * G
@@ -115,7 +127,8 @@ tiny-law G t h small = omega arith
 tiny : (s : Bool) (t : ℕ) → t < lead → ltb farthest (0 * lead + t) ≡ badNumber (odd 53 s t 0 1074)
 tiny s t small =
     le-ltb farthest (0 * lead + t) (omega arith)
-    ∙ sym (le-ltb (largest * 2 ^ 1074) (t * 2 ^ 0) (tiny-law (2 ^ 1074) t (pow-mono {i = 32} {j = 1074} (lit≤ tt)) small))
+    ∙ sym (le-ltb (largest * 2 ^ 1074) (t * 2 ^ 0)
+    (tiny-law (2 ^ 1074) t (pow-mono {i = 32} {j = 1074} (lit≤ tt)) small))
     ∙ sym (bad-of-value (odd 53 s t 0 1074) s (t * 2 ^ 0) (2 ^ 1074) (pow-pos 1074) (odd-sign 53 s t 0 1074))
 
 endless : (b : Bool) (s : Bool) → badNumber (cond b (inf s) nan) ≡ true
@@ -129,11 +142,15 @@ of-fields s zero t small = tiny s t small
 of-fields s (suc y) t small = go (eqb (suc y) 2047) refl
   where
     go : (b : Bool) → eqb (suc y) 2047 ≡ b
-        → ltb farthest (suc y * lead + t) ≡ badNumber (cond (eqb (suc y) 2047) (cond (eqb t 0) (inf s) nan) (odd 53 s (lead + t) y 1074))
+        → ltb farthest (suc y * lead + t)
+        ≡ badNumber (cond (eqb (suc y) 2047) (cond (eqb t 0) (inf s) nan) (odd 53 s (lead + t) y 1074))
     go true e =
         lt-ltb farthest (suc y * lead + t) (omega (arith, eqb-true (suc y) 2047 e))
-        ∙ sym (ap (λ (b : Bool). badNumber (cond b (cond (eqb t 0) (inf s) nan) (odd 53 s (lead + t) y 1074))) e ∙ endless (eqb t 0) s)
-    go false e = normal s y t small ∙ sym (ap (λ (b : Bool). badNumber (cond b (cond (eqb t 0) (inf s) nan) (odd 53 s (lead + t) y 1074))) e)
+        ∙ sym (ap (λ (b : Bool). badNumber (cond b (cond (eqb t 0) (inf s) nan) (odd 53 s (lead + t) y 1074))) e
+        ∙ endless (eqb t 0) s)
+    go false e =
+        normal s y t small ∙ sym (ap (λ (b : Bool). badNumber
+        (cond b (cond (eqb t 0) (inf s) nan) (odd 53 s (lead + t) y 1074))) e)
 
 pub far-is : (bits : ℕ) → tooFar bits ≡ badNumber (ofBits binary64 bits)
 unfolding ofBits

@@ -45,11 +45,13 @@ module _ (s : List ℕ) where
 
       go : (f : Found) → lowest far (vertexCountOf s k) ≡ f → isAt (lowest far (vertexCountOf s k)) ≡ true
       go (At i) g = ap isAt g
-      go Absent g = absurd (never (far j) (far-point-is s (vertexPlace k j) ∙ e) (is-absent far (vertexCountOf s k) g j h))
+      go Absent g =
+          absurd (never (far j) (far-point-is s (vertexPlace k j) ∙ e) (is-absent far (vertexCountOf s k) g j h))
 
   pub exact8 : Exact (farFault s) (Row8 s)
   unfolding farFault
-  exact8 = lowest-exact (farPlace s) (contoursOf s + 1) (FarCoordinate s) (λ p h. far-coordinate p) (λ p h. coordinate-far p)
+  exact8 = lowest-exact (farPlace s) (contoursOf s + 1) (FarCoordinate s) (λ p h. far-coordinate p)
+      (λ p h. coordinate-far p)
 
   pub no-far : No (Row8 s) → (p : ℕ) → p < contoursOf s + 1 → FarCoordinate s p → ⊥
   no-far = nowhere (farPlace s) (contoursOf s + 1) (FarCoordinate s) (λ p h. far-coordinate p) (λ p h. coordinate-far p)

@@ -1,4 +1,5 @@
--- Two contours are linked in a card's list of positions exactly where one of its pairs stands for them. Assumes nothing.
+-- Two contours are linked in a card's list of positions exactly where one of its pairs stands for them. Assumes
+-- nothing.
 use mathlib.Core.Path.{_≡_, refl, sym, ap, _∙_, subst}
 use mathlib.Core.Logic.{_⊎_, inl, inr}
 use mathlib.Core.Bool.{Bool, true, false, _&&_, _||_}
@@ -22,19 +23,22 @@ use Rattle.card_laws.proofs.PairRows.{same-contour, before-has, after-h
 
 -- ---- the pairs of a flat list, one more at its end
 
-paired-more : (l : List ℕ) (k b a : ℕ) → length l ≡ 2 * k → paired (l ++ (b ∷ a ∷ [])) ≡ paired l ++ (record { before = b; after = a } ∷ [])
+paired-more : (l : List ℕ) (k b a : ℕ) → length l ≡ 2 * k
+    → paired (l ++ (b ∷ a ∷ [])) ≡ paired l ++ (record { before = b; after = a } ∷ [])
 unfolding paired
 paired-more [] k b a e = refl
 paired-more (x ∷ []) k b a e = absurd (omega arith)
 paired-more (x ∷ (y ∷ more)) k b a e =
     ap (λ (z : List Pair). record { before = x; after = y } ∷ z) (paired-more more (k - 1) b a (omega arith))
 
-pub seats-paired : (s : List ℕ) (m : ℕ) → paired (seatsOf s (suc m)) ≡ paired (seatsOf s m) ++ (record { before = beforeOf s m; after = afterOf s m } ∷ [])
+pub seats-paired : (s : List ℕ) (m : ℕ)
+    → paired (seatsOf s (suc m)) ≡ paired (seatsOf s m) ++ (record { before = beforeOf s m; after = afterOf s m } ∷ [])
 unfolding seatsOf
 seats-paired s m = paired-more (seatsOf s m) m (beforeOf s m) (afterOf s m) (seats-length s m)
 
 module _ (test : Pair → Bool) where
-  pub some-split : (l : List Pair) (p : Pair) → someOf test (l ++ (p ∷ [])) ≡ true → (someOf test l ≡ true) ⊎ (test p ≡ true)
+  pub some-split : (l : List Pair) (p : Pair) → someOf test (l ++ (p ∷ [])) ≡ true
+      → (someOf test l ≡ true) ⊎ (test p ≡ true)
   unfolding someOf
   some-split [] p e = go (either-of (test p) false e)
     where
@@ -43,7 +47,8 @@ module _ (test : Pair → Bool) where
       go (inr t) = inl t
   some-split (x ∷ l) p e = go (either-of (test x) (someOf test (l ++ (p ∷ []))) e) (some-split l p)
     where
-      go : (test x ≡ true) ⊎ (someOf test (l ++ (p ∷ [])) ≡ true) → (someOf test (l ++ (p ∷ [])) ≡ true → (someOf test l ≡ true) ⊎ (test p ≡ true))
+      go : (test x ≡ true) ⊎ (someOf test (l ++ (p ∷ [])) ≡ true)
+          → (someOf test (l ++ (p ∷ [])) ≡ true → (someOf test l ≡ true) ⊎ (test p ≡ true))
           → ((test x || someOf test l) ≡ true) ⊎ (test p ≡ true)
       go (inl t) later = inl (first-of (test x) (someOf test l) t)
       go (inr t) later = wider (later t)
@@ -57,7 +62,8 @@ module _ (test : Pair → Bool) where
   some-earlier [] p e = absurd (never false e refl)
   some-earlier (x ∷ l) p e = go (either-of (test x) (someOf test l) e) (some-earlier l p)
     where
-      go : (test x ≡ true) ⊎ (someOf test l ≡ true) → (someOf test l ≡ true → someOf test (l ++ (p ∷ [])) ≡ true) → (test x || someOf test (l ++ (p ∷ []))) ≡ true
+      go : (test x ≡ true) ⊎ (someOf test l ≡ true) → (someOf test l ≡ true → someOf test (l ++ (p ∷ [])) ≡ true)
+          → (test x || someOf test (l ++ (p ∷ []))) ≡ true
       go (inl t) later = first-of (test x) _ t
       go (inr t) later = second-of (test x) _ (later t)
 
@@ -69,7 +75,9 @@ module _ (test : Pair → Bool) where
   pub every-last : (l : List Pair) (p : Pair) → every test l ≡ true → test p ≡ true → every test (l ++ (p ∷ [])) ≡ true
   unfolding every
   every-last [] p e f = and-both (test p) true f refl
-  every-last (x ∷ l) p e f = and-both (test x) _ (and-first (test x) (every test l) e) (every-last l p (and-second (test x) (every test l) e) f)
+  every-last (x ∷ l) p e f =
+      and-both (test x) _ (and-first (test x) (every test l) e)
+      (every-last l p (and-second (test x) (every test l) e) f)
 
 -- ---- links
 
@@ -85,11 +93,19 @@ module _ (s : List ℕ) (i j : ℕ) where
   unfolding someOf paired seatsOf
   found-pair zero e = absurd (never false e refl)
   found-pair (suc m) e =
-      go (some-split (isPair i j) (paired (seatsOf s m)) (record { before = beforeOf s m; after = afterOf s m }) (ap (someOf (isPair i j)) (sym (seats-paired s m)) ∙ e)) (found-pair m)
+      go (some-split (isPair i j) (paired (seatsOf s m)) (record { before = beforeOf s m; after = afterOf s m })
+      (ap (someOf (isPair i j)) (sym (seats-paired s m)) ∙ e)) (found-pair m)
     where
       go : (someOf (isPair i j) (paired (seatsOf s m)) ≡ true) ⊎ ((eqb (beforeOf s m) i && eqb (afterOf s m) j) ≡ true)
           → (someOf (isPair i j) (paired (seatsOf s m)) ≡ true → BeforeIn s m i j) → BeforeIn s (suc m) i j
-      go (inl t) later = let b = later t in record { pair = b .pair; is-pair = omega (arith, b .is-pair); first = b .first; second = b .second }
+      go (inl t) later = let b =
+          later t in record {
+            pair = b .pair;
+            is-pair = omega (arith, b .is-pair);
+            first = b .first;
+            second =
+                b .second;
+          }
       go (inr t) later =
           record {
             pair = m;
@@ -105,12 +121,15 @@ module _ (s : List ℕ) (i j : ℕ) where
       last : Pair
       last = record { before = beforeOf s m; after = afterOf s m }
 
-      go : (b .pair ≡ m) ⊎ (b .pair < m) → (BeforeIn s m i j → someOf (isPair i j) (paired (seatsOf s m)) ≡ true) → someOf (isPair i j) (paired (seatsOf s m) ++ (last ∷ [])) ≡ true
+      go : (b .pair ≡ m) ⊎ (b .pair < m) → (BeforeIn s m i j → someOf (isPair i j) (paired (seatsOf s m)) ≡ true)
+          → someOf (isPair i j) (paired (seatsOf s m) ++ (last ∷ [])) ≡ true
       go (inl e) earlier =
           some-last (isPair i j) (paired (seatsOf s m)) last
-          (and-both _ _ (eq-eqb _ _ (ap (beforeOf s) (sym e) ∙ b .first)) (eq-eqb _ _ (ap (afterOf s) (sym e) ∙ b .second)))
+          (and-both _ _ (eq-eqb _ _ (ap (beforeOf s) (sym e) ∙ b .first))
+          (eq-eqb _ _ (ap (afterOf s) (sym e) ∙ b .second)))
       go (inr h) earlier =
-          some-earlier (isPair i j) (paired (seatsOf s m)) last (earlier (record { pair = b .pair; is-pair = h; first = b .first; second = b .second }))
+          some-earlier (isPair i j) (paired (seatsOf s m)) last
+          (earlier (record { pair = b .pair; is-pair = h; first = b .first; second = b .second }))
 
 -- ---- once ids are unique and every pair's ids are known: the three laws of a card's pairs
 
@@ -140,8 +159,10 @@ module _ (s : List ℕ) (unique : No (Row9 s)) (named : No (Row10 s)) where
       (record {
         pair = q;
         is-pair = b .is-pair;
-        first = same-contour s unique (beforeIdOf s q) (beforeOf s q) i (before-has s unique named q (b .is-pair)) (b .first);
-        second = same-contour s unique (afterIdOf s q) (afterOf s q) j (after-has s unique named q (b .is-pair)) (b .second);
+        first = same-contour s unique (beforeIdOf s q) (beforeOf s q) i (before-has s unique named q (b .is-pair))
+            (b .first);
+        second = same-contour s unique (afterIdOf s q) (afterOf s q) j (after-has s unique named q (b .is-pair))
+            (b .second);
       })))
 
   below-more : (m : ℕ) → m ≤ pairsOf s → every (both (contoursOf s)) (paired (seatsOf s m)) ≡ true

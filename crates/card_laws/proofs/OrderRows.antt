@@ -31,7 +31,12 @@ module _ (s : List ℕ) where
       let free : Acyclic (contoursOf s) (pairsOn s) =
       legal-exactly (contoursOf s) (few-by-11 s past) (pairsOn s) .0
       (order, by-positions s (past .0 .0 .1) (past .0 .1) order legal) in
-      let fine : checkOf s ≡ Fine = exactly s .fine-if (past, (λ p row. free p (row .within) (leads-reach s (past .0 .0 .1) (past .0 .1) (row .holds)))) in
+      let fine : checkOf s ≡ Fine =
+      exactly s .fine-if (
+        past,
+        (λ p row. free p (row .within)
+            (leads-reach s (past .0 .0 .1) (past .0 .1) (row .holds))),
+      ) in
       let z : _≡_ {A = ℕ} 0 1 = cc in
       omega arith
 
@@ -46,7 +51,9 @@ module _ (s : List ℕ) where
 
       go : (f : Found) → lowest (onCycle n seats) n ≡ f → RefusedWith 12 s
       go (At k) e =
-          let row : Row12 s k = lowest-exact (onCycle n seats) n (OnCycle s) (cycle-row s (past .0 .0 .1) (past .0 .1)) (row-cycle s (past .0 .0 .1) (past .0 .1)) .found k e in
+          let row : Row12 s k =
+          lowest-exact (onCycle n seats) n (OnCycle s) (cycle-row s (past .0 .0 .1) (past .0 .1))
+          (row-cycle s (past .0 .0 .1) (past .0 .1)) .found k e in
           (k, exactly s .refused-if (record { number = 12; place = k }) (twelve past row))
       go Absent e =
           let some = legal-exactly n (few-by-11 s past) seats .1 (absent-exactly n seats .0 e) in

@@ -17,12 +17,16 @@ use Rattle.block.specs.Block.{payloadBytes, zerosAt}
 use Rattle.block.proofs.Readings.{zeros-each, each-zeros}
 use Rattle.closure.proofs.PairLaws.{lt-or}
 use Rattle.fields.specs.Limits.{pairsABlock}
-use Rattle.fields.specs.Layout.{blocksOf, payload, contoursOf, pairsOf, idOf, tagOf, vertexCountOf, beforeIdOf, beforeTagOf, afterIdOf, afterTagOf}
-use Rattle.card.specs.Stages.{isAt, pairsIn, usedIn, badSpare, spareFault, seekOf, positionOf, unnamed, nameFault, seat, beforeOf, afterOf, otherTag, tagFault}
+use Rattle.fields.specs.Layout.{blocksOf, payload, contoursOf, pairsOf, idOf, tagOf, vertexCountOf, beforeIdOf}
+use Rattle.fields.specs.Layout.{beforeTagOf, afterIdOf, afterTagOf}
+use Rattle.card.specs.Stages.{isAt, pairsIn, usedIn, badSpare, spareFault, seekOf, positionOf, unnamed, nameFault, seat}
+use Rattle.card.specs.Stages.{beforeOf, afterOf, otherTag, tagFault}
 use Rattle.card.proofs.SpareLaws.{used-head, used-contour, used-pairs}
-use Rattle.card_laws.specs.Table.{Spare, in-head, in-contour, past-last-pair, past-full-block, SpareByte, Row7, Row9, Has, Unnamed, Row10, OtherTag, Row11, No}
+use Rattle.card_laws.specs.Table.{Spare, in-head, in-contour, past-last-pair, past-full-block, SpareByte, Row7}
+use Rattle.card_laws.specs.Table.{Row9, Has, Unnamed, Row10, OtherTag, Row11, No}
 use Rattle.card_laws.proofs.RowLaws.{no-repeat}
-use Rattle.card_laws.proofs.ExactLaws.{Exact, never, either-of, first-of, second-of, not-so, so-not, lowest-exact, nowhere}
+use Rattle.card_laws.proofs.ExactLaws.{Exact, never, either-of, first-of, second-of, not-so, so-not}
+use Rattle.card_laws.proofs.ExactLaws.{lowest-exact, nowhere}
 
 -- one is below the other, or they are the same
 order : (j k : ℕ) → (j < k) ⊎ ((j ≡ k) ⊎ (k < j))
@@ -40,10 +44,12 @@ module _ (s : List ℕ) where
   behind-used : (b offset : ℕ) → usedIn s b ≤ offset → Spare s b offset
   behind-used b offset h = go (lt-or 0 b) (lt-or (contoursOf s) b)
     where
-      pairs-part : (i : ℕ) → b ≡ suc (contoursOf s + i) → 16 * min pairsABlock (pairsOf s - pairsABlock * i) ≤ offset → Spare s b offset
+      pairs-part : (i : ℕ) → b ≡ suc (contoursOf s + i) → 16 * min pairsABlock (pairsOf s - pairsABlock * i) ≤ offset
+          → Spare s b offset
       pairs-part i e g = split (lt-or pairsABlock (pairsOf s - pairsABlock * i))
         where
-          split : (pairsABlock < pairsOf s - pairsABlock * i) ⊎ (pairsOf s - pairsABlock * i ≤ pairsABlock) → Spare s b offset
+          split : (pairsABlock < pairsOf s - pairsABlock * i) ⊎ (pairsOf s - pairsABlock * i ≤ pairsABlock)
+              → Spare s b offset
           split (inl l) = past-full-block i e (omega arith)
           split (inr l) = past-last-pair i e (omega arith)
 
@@ -59,7 +65,8 @@ module _ (s : List ℕ) where
   used-behind : (b offset : ℕ) → Spare s b offset → usedIn s b ≤ offset
   used-behind b offset (in-head e h) = let u = used-head s b e in omega arith
   used-behind b offset (in-contour k l e h) =
-      let v : vertexCountOf s k ≡ vertexCountOf s (b - 1) = ap (vertexCountOf s) (let i : k ≡ b - 1 = omega arith in i) in
+      let v : vertexCountOf s k ≡ vertexCountOf s (b - 1) =
+      ap (vertexCountOf s) (let i : k ≡ b - 1 = omega arith in i) in
       let u : 12 + 16 * vertexCountOf s k ≡ usedIn s b = used-contour s b (λ z. omega arith) _ (omega arith) v in
       omega arith
   used-behind b offset (past-last-pair i e h) =
@@ -86,19 +93,22 @@ module _ (s : List ℕ) where
             offset = usedIn s b + i;
             behind = behind-used b (usedIn s b + i) (omega arith);
             inside = omega (arith, w .within);
-            some = λ z. not-so (eqb (byteAt s (payload b + usedIn s b + i)) 0) (w .holds) (eq-eqb _ _ (ap (byteAt s) (add-assoc (payload b) (usedIn s b) i) ∙ z));
+            some = λ z. not-so (eqb (byteAt s (payload b + usedIn s b + i)) 0) (w .holds)
+                (eq-eqb _ _ (ap (byteAt s) (add-assoc (payload b) (usedIn s b) i) ∙ z));
           }
       go Absent h =
           absurd
           (not-so (zerosAt s (payload b + usedIn s b) count) e
-          (each-zeros s (payload b + usedIn s b) count (λ i g. eqb-true _ _ (not-false _ (is-absent some count h i g)))))
+          (each-zeros s (payload b + usedIn s b) count
+          (λ i g. eqb-true _ _ (not-false _ (is-absent some count h i g)))))
 
   byte-spare : (b : ℕ) → SpareByte s b → badSpare s b ≡ true
   byte-spare b r =
       let u = usedIn s b in
       let behind = used-behind b (r .offset) (r .behind) in
       so-not (zerosAt s (payload b + u) (payloadBytes - u)) (λ t.
-      let e : byteAt s (payload b + u + (r .offset - u)) ≡ 0 = zeros-each s (payload b + u) (payloadBytes - u) t (r .offset - u) (omega (arith, behind, r .inside)) in
+      let e : byteAt s (payload b + u + (r .offset - u)) ≡ 0 =
+      zeros-each s (payload b + u) (payloadBytes - u) t (r .offset - u) (omega (arith, behind, r .inside)) in
       let g : payload b + u + (r .offset - u) ≡ payload b + r .offset = omega (arith, behind) in
       r .some (ap (byteAt s) (sym g) ∙ e))
 
@@ -117,7 +127,9 @@ module _ (s : List ℕ) where
 
   not-there : (id k : ℕ) → positionOf s id ≡ Absent → Has s id k → ⊥
   unfolding seekOf
-  not-there id k e h = never (eqb (idOf s k) id) (eq-eqb _ _ (h .same)) (is-absent (λ j. eqb (idOf s j) id) (contoursOf s) e k (h .is-contour))
+  not-there id k e h =
+      never (eqb (idOf s k) id) (eq-eqb _ _ (h .same))
+      (is-absent (λ j. eqb (idOf s j) id) (contoursOf s) e k (h .is-contour))
 
   unknown-id : (id : ℕ) → not (isAt (positionOf s id)) ≡ true → (k : ℕ) → Has s id k → ⊥
   unknown-id id e k h = go (positionOf s id) refl
@@ -134,15 +146,19 @@ module _ (s : List ℕ) where
       go Absent g = ap (λ (f : Found). not (isAt f)) g
 
   is-unnamed : (q : ℕ) → unnamed s q ≡ true → Unnamed s q
-  is-unnamed q e = go (either-of (not (isAt (positionOf s (beforeIdOf s q)))) (not (isAt (positionOf s (afterIdOf s q)))) e)
+  is-unnamed q e =
+      go (either-of (not (isAt (positionOf s (beforeIdOf s q)))) (not (isAt (positionOf s (afterIdOf s q)))) e)
     where
-      go : (not (isAt (positionOf s (beforeIdOf s q))) ≡ true) ⊎ (not (isAt (positionOf s (afterIdOf s q))) ≡ true) → Unnamed s q
+      go : (not (isAt (positionOf s (beforeIdOf s q))) ≡ true) ⊎ (not (isAt (positionOf s (afterIdOf s q))) ≡ true)
+          → Unnamed s q
       go (inl t) = Unnamed.first (unknown-id (beforeIdOf s q) t)
       go (inr t) = Unnamed.second (unknown-id (afterIdOf s q) t)
 
   unnamed-is : (q : ℕ) → Unnamed s q → unnamed s q ≡ true
-  unnamed-is q (Unnamed.first h) = first-of (not (isAt (positionOf s (beforeIdOf s q)))) _ (id-unknown (beforeIdOf s q) h)
-  unnamed-is q (Unnamed.second h) = second-of (not (isAt (positionOf s (beforeIdOf s q)))) _ (id-unknown (afterIdOf s q) h)
+  unnamed-is q (Unnamed.first h) =
+      first-of (not (isAt (positionOf s (beforeIdOf s q)))) _ (id-unknown (beforeIdOf s q) h)
+  unnamed-is q (Unnamed.second h) =
+      second-of (not (isAt (positionOf s (beforeIdOf s q)))) _ (id-unknown (afterIdOf s q) h)
 
   pub exact10 : Exact (nameFault s) (Row10 s)
   unfolding nameFault
@@ -160,7 +176,8 @@ module _ (s : List ℕ) where
       go : (j < k) ⊎ ((j ≡ k) ⊎ (k < j)) → j ≡ k
       go (inl h) = absurd (no-repeat s none k (hk .is-contour) (record { earlier = j; is-earlier = h; same = same }))
       go (inr (inl e)) = e
-      go (inr (inr h)) = absurd (no-repeat s none j (hj .is-contour) (record { earlier = k; is-earlier = h; same = sym same }))
+      go (inr (inr h)) =
+          absurd (no-repeat s none j (hj .is-contour) (record { earlier = k; is-earlier = h; same = sym same }))
 
   -- each id of a pair is some contour's
   known : (id : ℕ) → (((k : ℕ) → Has s id k → ⊥) → ⊥) → Has s id (seat (positionOf s id))
@@ -181,21 +198,30 @@ module _ (s : List ℕ) where
     after-has q h = known (afterIdOf s q) (λ none. no-unnamed q h (Unnamed.second none))
 
     other-tag : (q : ℕ) → q < pairsOf s → otherTag s q ≡ true → OtherTag s q
-    other-tag q h e = go (either-of (not (eqb (tagOf s (beforeOf s q)) (beforeTagOf s q))) (not (eqb (tagOf s (afterOf s q)) (afterTagOf s q))) e)
+    other-tag q h e =
+        go (either-of (not (eqb (tagOf s (beforeOf s q)) (beforeTagOf s q)))
+        (not (eqb (tagOf s (afterOf s q)) (afterTagOf s q))) e)
       where
-        go : (not (eqb (tagOf s (beforeOf s q)) (beforeTagOf s q)) ≡ true) ⊎ (not (eqb (tagOf s (afterOf s q)) (afterTagOf s q)) ≡ true) → OtherTag s q
-        go (inl t) = OtherTag.first (beforeOf s q) (before-has q h) (λ z. not-so (eqb (tagOf s (beforeOf s q)) (beforeTagOf s q)) t (eq-eqb _ _ z))
-        go (inr t) = OtherTag.second (afterOf s q) (after-has q h) (λ z. not-so (eqb (tagOf s (afterOf s q)) (afterTagOf s q)) t (eq-eqb _ _ z))
+        go : (not (eqb (tagOf s (beforeOf s q)) (beforeTagOf s q)) ≡ true) ⊎
+            (not (eqb (tagOf s (afterOf s q)) (afterTagOf s q)) ≡ true) → OtherTag s q
+        go (inl t) =
+            OtherTag.first (beforeOf s q) (before-has q h)
+            (λ z. not-so (eqb (tagOf s (beforeOf s q)) (beforeTagOf s q)) t (eq-eqb _ _ z))
+        go (inr t) =
+            OtherTag.second (afterOf s q) (after-has q h)
+            (λ z. not-so (eqb (tagOf s (afterOf s q)) (afterTagOf s q)) t (eq-eqb _ _ z))
 
     tag-other : (q : ℕ) → q < pairsOf s → OtherTag s q → otherTag s q ≡ true
     tag-other q h (OtherTag.first k has d) =
         first-of (not (eqb (tagOf s (beforeOf s q)) (beforeTagOf s q))) _
         (so-not (eqb (tagOf s (beforeOf s q)) (beforeTagOf s q))
-        (λ t. d (ap (tagOf s) (same-contour unique (beforeIdOf s q) k (beforeOf s q) has (before-has q h)) ∙ eqb-true _ _ t)))
+        (λ t. d (ap (tagOf s) (same-contour unique (beforeIdOf s q) k (beforeOf s q) has (before-has q h))
+        ∙ eqb-true _ _ t)))
     tag-other q h (OtherTag.second k has d) =
         second-of (not (eqb (tagOf s (beforeOf s q)) (beforeTagOf s q))) _
         (so-not (eqb (tagOf s (afterOf s q)) (afterTagOf s q))
-        (λ t. d (ap (tagOf s) (same-contour unique (afterIdOf s q) k (afterOf s q) has (after-has q h)) ∙ eqb-true _ _ t)))
+        (λ t. d (ap (tagOf s) (same-contour unique (afterIdOf s q) k (afterOf s q) has (after-has q h))
+        ∙ eqb-true _ _ t)))
 
     pub exact11 : Exact (tagFault s) (Row11 s)
     unfolding tagFault

@@ -18,10 +18,15 @@ use Rattle.block.proofs.Readings.{due-is, is-due}
 use Rattle.closure.proofs.PairLaws.{lt-or}
 use Rattle.fields.specs.Limits.{cardBytes, perContourLimit, vertexLimit, pairsABlock}
 use Rattle.fields.specs.Layout.{blocksOf, contoursOf, pairsOf, perContourOf, idOf, vertexCountOf, typeOf, fillerOf}
-use Rattle.card.specs.Stages.{outside, badLength, lengthFault, checkFault, kindDue, startFault, headFaults, headFault, blocksDue, countFault, badContour, contourFault, seekOf, repeats, repeatFault, isAt}
+use Rattle.card.specs.Stages.{outside, badLength, lengthFault, checkFault, kindDue, startFault, headFaults, headFault}
+use Rattle.card.specs.Stages.{blocksDue, countFault, badContour, contourFault, seekOf, repeats, repeatFault, isAt}
 use Rattle.card.proofs.FaultLaws.{kind-head, kind-contour, kind-pairs}
-use Rattle.card_laws.specs.Table.{Row1, CheckDiffers, Row2, Kind, of-head, of-contour, of-pairs, StartsOtherwise, Row3, BadField, contours, pairs, candidates, passes, exterior, interior, all-candidates, Row4, PairBlocks, Row5, BadContour, few-vertices, many-vertices, no-type, byte-eleven, Row6, Repeated, Row9, No}
-use Rattle.card_laws.proofs.ExactLaws.{Exact, never, either-of, first-of, second-of, not-so, so-not, lowest-exact, if-exact, nowhere}
+use Rattle.card_laws.specs.Table.{Row1, CheckDiffers, Row2, Kind, of-head, of-contour, of-pairs, StartsOtherwise}
+use Rattle.card_laws.specs.Table.{Row3, BadField, contours, pairs, candidates, passes, exterior, interior}
+use Rattle.card_laws.specs.Table.{all-candidates, Row4, PairBlocks, Row5, BadContour, few-vertices, many-vertices}
+use Rattle.card_laws.specs.Table.{no-type, byte-eleven, Row6, Repeated, Row9, No}
+use Rattle.card_laws.proofs.ExactLaws.{Exact, never, either-of, first-of, second-of, not-so, so-not}
+use Rattle.card_laws.proofs.ExactLaws.{lowest-exact, if-exact, nowhere}
 
 -- ---- below the least or above the most
 
@@ -42,24 +47,29 @@ module _ (s : List ℕ) where
   length-cause : badLength s ≡ true → (length s ≡ 0) ⊎ ((length s % blockBytes ≡ 0 → ⊥) ⊎ (cardBytes < length s))
   length-cause e = go (either-of (eqb (length s) 0) (not (eqb (length s % blockBytes) 0) || ltb cardBytes (length s)) e)
     where
-      rest : (not (eqb (length s % blockBytes) 0) ≡ true) ⊎ (ltb cardBytes (length s) ≡ true) → (length s ≡ 0) ⊎ ((length s % blockBytes ≡ 0 → ⊥) ⊎ (cardBytes < length s))
+      rest : (not (eqb (length s % blockBytes) 0) ≡ true) ⊎ (ltb cardBytes (length s) ≡ true)
+          → (length s ≡ 0) ⊎ ((length s % blockBytes ≡ 0 → ⊥) ⊎ (cardBytes < length s))
       rest (inl t) = inr (inl (λ z. not-so (eqb (length s % blockBytes) 0) t (eq-eqb _ _ z)))
       rest (inr t) = inr (inr (ltb-true _ _ t))
 
-      go : (eqb (length s) 0 ≡ true) ⊎ ((not (eqb (length s % blockBytes) 0) || ltb cardBytes (length s)) ≡ true) → (length s ≡ 0) ⊎ ((length s % blockBytes ≡ 0 → ⊥) ⊎ (cardBytes < length s))
+      go : (eqb (length s) 0 ≡ true) ⊎ ((not (eqb (length s % blockBytes) 0) || ltb cardBytes (length s)) ≡ true)
+          → (length s ≡ 0) ⊎ ((length s % blockBytes ≡ 0 → ⊥) ⊎ (cardBytes < length s))
       go (inl t) = inl (eqb-true _ _ t)
       go (inr t) = rest (either-of (not (eqb (length s % blockBytes) 0)) (ltb cardBytes (length s)) t)
 
   cause-length : (length s ≡ 0) ⊎ ((length s % blockBytes ≡ 0 → ⊥) ⊎ (cardBytes < length s)) → badLength s ≡ true
   cause-length (inl e) = first-of (eqb (length s) 0) _ (eq-eqb _ _ e)
   cause-length (inr (inl h)) =
-      second-of (eqb (length s) 0) _ (first-of (not (eqb (length s % blockBytes) 0)) _ (so-not (eqb (length s % blockBytes) 0) (λ t. h (eqb-true _ _ t))))
-  cause-length (inr (inr h)) = second-of (eqb (length s) 0) _ (second-of (not (eqb (length s % blockBytes) 0)) _ (lt-ltb _ _ h))
+      second-of (eqb (length s) 0) _ (first-of (not (eqb (length s % blockBytes) 0)) _
+      (so-not (eqb (length s % blockBytes) 0) (λ t. h (eqb-true _ _ t))))
+  cause-length (inr (inr h)) =
+      second-of (eqb (length s) 0) _ (second-of (not (eqb (length s % blockBytes) 0)) _ (lt-ltb _ _ h))
 
   pub exact1 : Exact (lengthFault s) (Row1 s)
   unfolding lengthFault
   exact1 =
-      if-exact (badLength s) (min (length s) (cardBytes + 1)) (Row1 s) (λ t. record { cause = length-cause t; told = refl })
+      if-exact (badLength s) (min (length s) (cardBytes + 1)) (Row1 s)
+      (λ t. record { cause = length-cause t; told = refl })
       (λ p r. (cause-length (r .cause), r .told))
 
   -- ---- 2
@@ -69,7 +79,8 @@ module _ (s : List ℕ) where
   exact2 =
       lowest-exact _ (blocksOf s) (CheckDiffers s)
       (λ b h t e. not-so (eqb (checkAt s (blockBytes * b)) (u32At s (blockBytes * b + checkPlace))) t (eq-eqb _ _ e))
-      (λ b h d. so-not (eqb (checkAt s (blockBytes * b)) (u32At s (blockBytes * b + checkPlace))) (λ t. d (eqb-true _ _ t)))
+      (λ b h d. so-not (eqb (checkAt s (blockBytes * b)) (u32At s (blockBytes * b + checkPlace)))
+      (λ t. d (eqb-true _ _ t)))
 
   -- ---- 3
 
@@ -93,8 +104,10 @@ module _ (s : List ℕ) where
       lowest-exact _ count (StartsOtherwise s)
       (λ b h t kind k d.
       not-so (starts s (blockBytes * b) (kindDue s b) 1 b) t
-      (is-due s (blockBytes * b) (kindDue s b) 1 b (subst (λ (x : ℕ). Due s (blockBytes * b) x 1 b) (kind-is b kind k) d)))
-      (λ b h d. so-not (starts s (blockBytes * b) (kindDue s b) 1 b) (λ t. d (kindDue s b) (due-kind b) (due-is s (blockBytes * b) (kindDue s b) 1 b t)))
+      (is-due s (blockBytes * b) (kindDue s b) 1 b
+      (subst (λ (x : ℕ). Due s (blockBytes * b) x 1 b) (kind-is b kind k) d)))
+      (λ b h d. so-not (starts s (blockBytes * b) (kindDue s b) 1 b)
+      (λ t. d (kindDue s b) (due-kind b) (due-is s (blockBytes * b) (kindDue s b) 1 b t)))
 
   -- ---- 4
 
@@ -135,13 +148,18 @@ module _ (s : List ℕ) where
   unfolding countFault
   exact5 =
       if-exact (not (eqb (blocksOf s) (blocksDue s))) (blocksOf s) (Row5 s)
-      (λ t. record { differs = λ p w e. not-so (eqb (blocksOf s) (blocksDue s)) t (eq-eqb _ _ (due-blocks p w e)); told = refl })
+      (λ t. record {
+        differs =
+            λ p w e. not-so (eqb (blocksOf s) (blocksDue s)) t (eq-eqb _ _ (due-blocks p w e));
+        told = refl;
+      })
       (λ p r. (so-not (eqb (blocksOf s) (blocksDue s)) (λ t. r .differs _ blocks-hold (eqb-true _ _ t)), r .told))
 
   -- ---- 6
 
   bad-contour : (k : ℕ) → badContour s k ≡ true → BadContour s k
-  bad-contour k e = go (either-of (outside 1 vertexLimit (vertexCountOf s k)) (ltb 1 (typeOf s k) || not (eqb (fillerOf s k) 0)) e)
+  bad-contour k e =
+      go (either-of (outside 1 vertexLimit (vertexCountOf s k)) (ltb 1 (typeOf s k) || not (eqb (fillerOf s k) 0)) e)
     where
       count : (vertexCountOf s k < 1) ⊎ (vertexLimit < vertexCountOf s k) → BadContour s k
       count (inl h) = few-vertices h
@@ -151,16 +169,21 @@ module _ (s : List ℕ) where
       rest (inl t) = no-type (ltb-true _ _ t)
       rest (inr t) = byte-eleven (λ z. not-so (eqb (fillerOf s k) 0) t (eq-eqb _ _ z))
 
-      go : (outside 1 vertexLimit (vertexCountOf s k) ≡ true) ⊎ ((ltb 1 (typeOf s k) || not (eqb (fillerOf s k) 0)) ≡ true) → BadContour s k
+      go : (outside 1 vertexLimit (vertexCountOf s k) ≡ true) ⊎
+          ((ltb 1 (typeOf s k) || not (eqb (fillerOf s k) 0)) ≡ true) → BadContour s k
       go (inl t) = count (outside-is 1 vertexLimit (vertexCountOf s k) t)
       go (inr t) = rest (either-of (ltb 1 (typeOf s k)) (not (eqb (fillerOf s k) 0)) t)
 
   contour-bad : (k : ℕ) → BadContour s k → badContour s k ≡ true
-  contour-bad k (few-vertices h) = first-of (outside 1 vertexLimit (vertexCountOf s k)) _ (is-outside 1 vertexLimit (vertexCountOf s k) (inl h))
-  contour-bad k (many-vertices h) = first-of (outside 1 vertexLimit (vertexCountOf s k)) _ (is-outside 1 vertexLimit (vertexCountOf s k) (inr h))
-  contour-bad k (no-type h) = second-of (outside 1 vertexLimit (vertexCountOf s k)) _ (first-of (ltb 1 (typeOf s k)) _ (lt-ltb _ _ h))
+  contour-bad k (few-vertices h) =
+      first-of (outside 1 vertexLimit (vertexCountOf s k)) _ (is-outside 1 vertexLimit (vertexCountOf s k) (inl h))
+  contour-bad k (many-vertices h) =
+      first-of (outside 1 vertexLimit (vertexCountOf s k)) _ (is-outside 1 vertexLimit (vertexCountOf s k) (inr h))
+  contour-bad k (no-type h) =
+      second-of (outside 1 vertexLimit (vertexCountOf s k)) _ (first-of (ltb 1 (typeOf s k)) _ (lt-ltb _ _ h))
   contour-bad k (byte-eleven h) =
-      second-of (outside 1 vertexLimit (vertexCountOf s k)) _ (second-of (ltb 1 (typeOf s k)) _ (so-not (eqb (fillerOf s k) 0) (λ t. h (eqb-true _ _ t))))
+      second-of (outside 1 vertexLimit (vertexCountOf s k)) _
+      (second-of (ltb 1 (typeOf s k)) _ (so-not (eqb (fillerOf s k) 0) (λ t. h (eqb-true _ _ t))))
 
   pub exact6 : Exact (contourFault s) (Row6 s)
   unfolding contourFault
@@ -190,7 +213,8 @@ module _ (s : List ℕ) where
 
       go : (f : Found) → lowest same k ≡ f → isAt (lowest same k) ≡ true
       go (At j) h = ap isAt h
-      go Absent h = absurd (never (same (r .earlier)) (eq-eqb _ _ (r .same)) (is-absent same k h (r .earlier) (r .is-earlier)))
+      go Absent h =
+          absurd (never (same (r .earlier)) (eq-eqb _ _ (r .same)) (is-absent same k h (r .earlier) (r .is-earlier)))
 
   pub exact9 : Exact (repeatFault s) (Row9 s)
   unfolding repeatFault

@@ -1,4 +1,5 @@
--- The verdict is the table's: refused with a number and a place exactly when they are given, fine exactly when no row holds. Assumes nothing.
+-- The verdict is the table's: refused with a number and a place exactly when they are given, fine exactly when no row
+-- holds. Assumes nothing.
 use mathlib.Core.Path.{_≡_, sym, _∙_}
 use mathlib.Core.List.{List, [], _∷_}
 use Prim.Native.Nat.{ℕ, _≤_}
@@ -12,9 +13,13 @@ use Rattle.answer.specs.Lowest.{refuseAt}
 use Rattle.answer.specs.Stage.{firstRefusal}
 use Rattle.closure.specs.Limits.{CONTOURS}
 use Rattle.fields.specs.Layout.{blocksOf, contoursOf}
-use Rattle.card.specs.Stages.{lengthFault, checkFault, startFault, headFault, countFault, contourFault, spareFault, farFault, repeatFault, nameFault, tagFault}
+use Rattle.card.specs.Stages.{lengthFault, checkFault, startFault, headFault, countFault, contourFault, spareFault}
+use Rattle.card.specs.Stages.{farFault, repeatFault, nameFault, tagFault}
 use Rattle.card.specs.Verdict.{cycleFault, checkOf}
-use Rattle.card_laws.specs.Table.{Row1, Row2, Row3, Row4, Row5, Row6, Row7, Row8, Row9, Row10, Row11, Row12, contours, Past1, Past2, PastStart, Past4, Past5, PastStarts, Past6, Past7, Past8, Past9, Past10, Past11, Sound, Given, one, two, three, four, five, three-later, six, seven, eight, nine, ten, eleven, twelve, Exactly}
+use Rattle.card_laws.specs.Table.{Row1, Row2, Row3, Row4, Row5, Row6, Row7, Row8, Row9, Row10, Row11, Row12}
+use Rattle.card_laws.specs.Table.{contours, Past1, Past2, PastStart, Past4, Past5, PastStarts, Past6, Past7}
+use Rattle.card_laws.specs.Table.{Past8, Past9, Past10, Past11, Sound, Given, one, two, three, four, five}
+use Rattle.card_laws.specs.Table.{three-later, six, seven, eight, nine, ten, eleven, twelve, Exactly}
 use Rattle.card_laws.proofs.ExactLaws.{Exact, false-unless, stop, on, in-turn, none-here}
 use Rattle.card_laws.proofs.RowLaws.{exact1, exact2, exact3, exact4, exact5, exact6, exact9, no-bad-field}
 use Rattle.card_laws.proofs.FarRow.{exact8}
@@ -63,7 +68,8 @@ module _ (s : List ℕ) where
   -- ---- what later rows stand on
 
   pub few : Past4 s → contoursOf s ≤ CONTOURS
-  few past = ltb-false CONTOURS (contoursOf s) (false-unless _ (λ t. no-bad-field s (past .1) 1 (lit< tt) (contours (ltb-true _ _ t))))
+  few past = ltb-false CONTOURS (contoursOf s) (false-unless _
+      (λ t. no-bad-field s (past .1) 1 (lit< tt) (contours (ltb-true _ _ t))))
 
   pub few-by-11 : Past11 s → contoursOf s ≤ CONTOURS
   few-by-11 past = few (past .0 .0 .0 .0 .0 .0 .0 .0)
@@ -93,7 +99,8 @@ module _ (s : List ℕ) where
   past5 past = past4 (past .0) ∙ on 5 (countFault s) (Row5 s) (exact5 s) fromStarts (past .1)
 
   past-starts : PastStarts s → checkOf s ≡ firstRefusal from6
-  past-starts past = past5 (past .0) ∙ on 3 (startFault s (blocksOf s)) (Row3 s (blocksOf s)) (exact3 s (blocksOf s)) from6 (past .1)
+  past-starts past =
+      past5 (past .0) ∙ on 3 (startFault s (blocksOf s)) (Row3 s (blocksOf s)) (exact3 s (blocksOf s)) from6 (past .1)
 
   past6 : Past6 s → checkOf s ≡ firstRefusal from7
   past6 past = past-starts (past .0) ∙ on 6 (contourFault s) (Row6 s) (exact6 s) from7 (past .1)
@@ -126,7 +133,8 @@ module _ (s : List ℕ) where
   given-is number place (three past row) = past2 past ∙ stop 3 (startFault s 1) (Row3 s 1) (exact3 s 1) from4 place row
   given-is number place (four past row) = past-start past ∙ stop 4 (headFault s) (Row4 s) (exact4 s) from5 place row
   given-is number place (five past row) = past4 past ∙ stop 5 (countFault s) (Row5 s) (exact5 s) fromStarts place row
-  given-is number place (three-later past row) = past5 past ∙ stop 3 (startFault s (blocksOf s)) (Row3 s (blocksOf s)) (exact3 s (blocksOf s)) from6 place row
+  given-is number place (three-later past row) =
+      past5 past ∙ stop 3 (startFault s (blocksOf s)) (Row3 s (blocksOf s)) (exact3 s (blocksOf s)) from6 place row
   given-is number place (six past row) = past-starts past ∙ stop 6 (contourFault s) (Row6 s) (exact6 s) from7 place row
   given-is number place (seven past row) = past6 past ∙ stop 7 (spareFault s) (Row7 s) (exact7 s) from8 place row
   given-is number place (eight past row) = past7 past ∙ stop 8 (farFault s) (Row8 s) (exact8 s) from9 place row
@@ -139,40 +147,61 @@ module _ (s : List ℕ) where
 
   told-12 : Past11 s → (r : Refusal) → firstRefusal from12 ≡ Refused r → Given s (r .number) (r .place)
   unfolding firstRefusal
-  told-12 past = in-turn 12 (cycleFault s) (Row12 s) (cycles past) [] (Given s) (λ p row. twelve past row) (λ none r e. let z : _≡_ {A = ℕ} 0 1 = cc in absurd (omega arith))
+  told-12 past =
+      in-turn 12 (cycleFault s) (Row12 s) (cycles past) [] (Given s) (λ p row. twelve past row)
+      (λ none r e. let z : _≡_ {A = ℕ} 0 1 = cc in absurd (omega arith))
 
   told-11 : Past10 s → (r : Refusal) → firstRefusal from11 ≡ Refused r → Given s (r .number) (r .place)
-  told-11 past = in-turn 11 (tagFault s) (Row11 s) (tags past) from12 (Given s) (λ p row. eleven past row) (λ none. told-12 (past, none))
+  told-11 past =
+      in-turn 11 (tagFault s) (Row11 s) (tags past) from12 (Given s) (λ p row. eleven past row)
+      (λ none. told-12 (past, none))
 
   told-10 : Past9 s → (r : Refusal) → firstRefusal from10 ≡ Refused r → Given s (r .number) (r .place)
-  told-10 past = in-turn 10 (nameFault s) (Row10 s) (exact10 s) from11 (Given s) (λ p row. ten past row) (λ none. told-11 (past, none))
+  told-10 past =
+      in-turn 10 (nameFault s) (Row10 s) (exact10 s) from11 (Given s) (λ p row. ten past row)
+      (λ none. told-11 (past, none))
 
   told-9 : Past8 s → (r : Refusal) → firstRefusal from9 ≡ Refused r → Given s (r .number) (r .place)
-  told-9 past = in-turn 9 (repeatFault s) (Row9 s) (exact9 s) from10 (Given s) (λ p row. nine past row) (λ none. told-10 (past, none))
+  told-9 past =
+      in-turn 9 (repeatFault s) (Row9 s) (exact9 s) from10 (Given s) (λ p row. nine past row)
+      (λ none. told-10 (past, none))
 
   told-8 : Past7 s → (r : Refusal) → firstRefusal from8 ≡ Refused r → Given s (r .number) (r .place)
-  told-8 past = in-turn 8 (farFault s) (Row8 s) (exact8 s) from9 (Given s) (λ p row. eight past row) (λ none. told-9 (past, none))
+  told-8 past =
+      in-turn 8 (farFault s) (Row8 s) (exact8 s) from9 (Given s) (λ p row. eight past row) (λ none. told-9 (past, none))
 
   told-7 : Past6 s → (r : Refusal) → firstRefusal from7 ≡ Refused r → Given s (r .number) (r .place)
-  told-7 past = in-turn 7 (spareFault s) (Row7 s) (exact7 s) from8 (Given s) (λ p row. seven past row) (λ none. told-8 (past, none))
+  told-7 past =
+      in-turn 7 (spareFault s) (Row7 s) (exact7 s) from8 (Given s) (λ p row. seven past row)
+      (λ none. told-8 (past, none))
 
   told-6 : PastStarts s → (r : Refusal) → firstRefusal from6 ≡ Refused r → Given s (r .number) (r .place)
-  told-6 past = in-turn 6 (contourFault s) (Row6 s) (exact6 s) from7 (Given s) (λ p row. six past row) (λ none. told-7 (past, none))
+  told-6 past =
+      in-turn 6 (contourFault s) (Row6 s) (exact6 s) from7 (Given s) (λ p row. six past row)
+      (λ none. told-7 (past, none))
 
   told-starts : Past5 s → (r : Refusal) → firstRefusal fromStarts ≡ Refused r → Given s (r .number) (r .place)
-  told-starts past = in-turn 3 (startFault s (blocksOf s)) (Row3 s (blocksOf s)) (exact3 s (blocksOf s)) from6 (Given s) (λ p row. three-later past row) (λ none. told-6 (past, none))
+  told-starts past =
+      in-turn 3 (startFault s (blocksOf s)) (Row3 s (blocksOf s)) (exact3 s (blocksOf s)) from6 (Given s)
+      (λ p row. three-later past row) (λ none. told-6 (past, none))
 
   told-5 : Past4 s → (r : Refusal) → firstRefusal from5 ≡ Refused r → Given s (r .number) (r .place)
-  told-5 past = in-turn 5 (countFault s) (Row5 s) (exact5 s) fromStarts (Given s) (λ p row. five past row) (λ none. told-starts (past, none))
+  told-5 past =
+      in-turn 5 (countFault s) (Row5 s) (exact5 s) fromStarts (Given s) (λ p row. five past row)
+      (λ none. told-starts (past, none))
 
   told-4 : PastStart s → (r : Refusal) → firstRefusal from4 ≡ Refused r → Given s (r .number) (r .place)
-  told-4 past = in-turn 4 (headFault s) (Row4 s) (exact4 s) from5 (Given s) (λ p row. four past row) (λ none. told-5 (past, none))
+  told-4 past =
+      in-turn 4 (headFault s) (Row4 s) (exact4 s) from5 (Given s) (λ p row. four past row) (λ none. told-5 (past, none))
 
   told-3 : Past2 s → (r : Refusal) → firstRefusal from3 ≡ Refused r → Given s (r .number) (r .place)
-  told-3 past = in-turn 3 (startFault s 1) (Row3 s 1) (exact3 s 1) from4 (Given s) (λ p row. three past row) (λ none. told-4 (past, none))
+  told-3 past =
+      in-turn 3 (startFault s 1) (Row3 s 1) (exact3 s 1) from4 (Given s) (λ p row. three past row)
+      (λ none. told-4 (past, none))
 
   told-2 : Past1 s → (r : Refusal) → firstRefusal from2 ≡ Refused r → Given s (r .number) (r .place)
-  told-2 past = in-turn 2 (checkFault s) (Row2 s) (exact2 s) from3 (Given s) (λ p row. two past row) (λ none. told-3 (past, none))
+  told-2 past =
+      in-turn 2 (checkFault s) (Row2 s) (exact2 s) from3 (Given s) (λ p row. two past row) (λ none. told-3 (past, none))
 
   told-1 : (r : Refusal) → checkOf s ≡ Refused r → Given s (r .number) (r .place)
   unfolding checkOf
@@ -197,10 +226,18 @@ module _ (s : List ℕ) where
   fine5 e = (fine4 e, none-here 5 (countFault s) (Row5 s) (exact5 s) fromStarts (sym (past4 (fine4 e)) ∙ e))
 
   fine-starts : checkOf s ≡ Fine → PastStarts s
-  fine-starts e = (fine5 e, none-here 3 (startFault s (blocksOf s)) (Row3 s (blocksOf s)) (exact3 s (blocksOf s)) from6 (sym (past5 (fine5 e)) ∙ e))
+  fine-starts e = (
+    fine5 e,
+    none-here 3 (startFault s (blocksOf s)) (Row3 s (blocksOf s)) (exact3 s (blocksOf s)) from6
+        (sym (past5 (fine5 e)) ∙ e),
+  )
 
   fine6 : checkOf s ≡ Fine → Past6 s
-  fine6 e = (fine-starts e, none-here 6 (contourFault s) (Row6 s) (exact6 s) from7 (sym (past-starts (fine-starts e)) ∙ e))
+  fine6 e = (
+    fine-starts e,
+    none-here 6 (contourFault s) (Row6 s) (exact6 s) from7
+        (sym (past-starts (fine-starts e)) ∙ e),
+  )
 
   fine7 : checkOf s ≡ Fine → Past7 s
   fine7 e = (fine6 e, none-here 7 (spareFault s) (Row7 s) (exact7 s) from8 (sym (past6 (fine6 e)) ∙ e))

@@ -12,7 +12,9 @@ use Rattle.points.specs.Bad.{badPoint}
 use Rattle.closure.specs.Limits.{CONTOURS, PAIRS}
 use Rattle.closure.specs.Cycle.{Acyclic}
 use Rattle.fields.specs.Limits.{perContourLimit, candidateLimit, passLimit, vertexLimit}
-use Rattle.fields.specs.Layout.{jobOf, contoursOf, pairsOf, perContourOf, passesOf, moveLimitOf, homePlace, exteriorOf, interiorOf, idOf, tagOf, vertexCountOf, typeOf, vertexPlace, beforeIdOf, beforeTagOf, afterIdOf, afterTagOf}
+use Rattle.fields.specs.Layout.{jobOf, contoursOf, pairsOf, perContourOf, passesOf, moveLimitOf, homePlace, exteriorOf}
+use Rattle.fields.specs.Layout.{interiorOf, idOf, tagOf, vertexCountOf, typeOf, vertexPlace, beforeIdOf, beforeTagOf}
+use Rattle.fields.specs.Layout.{afterIdOf, afterTagOf}
 use Rattle.fields.specs.Values.{asType, asPreference, pointAt}
 use Rattle.card.specs.Stages.{blocksDue, beforeOf, afterOf}
 use Rattle.card.specs.Names.{pairsOn}
@@ -49,10 +51,23 @@ each f (suc n) = each f n ++ (f n ∷ [])
 
 abbrev pub contourOf : List ℕ → ℕ → Contour
 contourOf s k =
-    record { id = idOf s k; tag = tagOf s k; kind = asType (typeOf s k); vertices = each (λ j. pointAt s (vertexPlace k j)) (vertexCountOf s k) }
+    record {
+      id = idOf s k;
+      tag = tagOf s k;
+      kind = asType (typeOf s k);
+      vertices =
+          each (λ j. pointAt s (vertexPlace k j)) (vertexCountOf s k);
+    }
 
 abbrev pub pairOf : List ℕ → ℕ → Pair
-pairOf s q = record { before-id = beforeIdOf s q; before-tag = beforeTagOf s q; after-id = afterIdOf s q; after-tag = afterTagOf s q }
+pairOf s q =
+    record {
+      before-id = beforeIdOf s q;
+      before-tag = beforeTagOf s q;
+      after-id = afterIdOf s q;
+      after-tag =
+          afterTagOf s q;
+    }
 
 -- what the bytes say
 abbrev pub cardOf : List ℕ → Card
@@ -91,7 +106,8 @@ pub record Accepted (s : List ℕ) : Type 0 where
   pub few-vertices : (k : ℕ) → k < contoursOf s → vertexCountOf s k ≤ vertexLimit
   pub type-known : (k : ℕ) → k < contoursOf s → typeOf s k ≤ 1
   pub home-near : badPoint (pointAt s homePlace) ≡ false
-  pub vertex-near : (k j : ℕ) → k < contoursOf s → j < vertexCountOf s k → badPoint (pointAt s (vertexPlace k j)) ≡ false
+  pub vertex-near : (k j : ℕ) → k < contoursOf s → j < vertexCountOf s k
+      → badPoint (pointAt s (vertexPlace k j)) ≡ false
   pub ids-differ : (j k : ℕ) → j < contoursOf s → k < contoursOf s → idOf s j ≡ idOf s k → j ≡ k
   pub before-named : (q : ℕ) → q < pairsOf s → Names s (beforeIdOf s q) (beforeTagOf s q) (beforeOf s q)
   pub after-named : (q : ℕ) → q < pairsOf s → Names s (afterIdOf s q) (afterTagOf s q) (afterOf s q)

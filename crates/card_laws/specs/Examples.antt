@@ -12,7 +12,8 @@ use Rattle.card.specs.Verdict.{checkOf}
 use Rattle.card_laws.specs.Card.{Card, Contour, Pair}
 use Rattle.card_laws.specs.Write.{written}
 
--- a card like job 41's: home at the corner, one candidate a contour, ten passes, no move limit, directions left to the types
+-- a card like job 41's: home at the corner, one candidate a contour, ten passes, no move limit, directions left to the
+-- types
 abbrev pub asJob41 : List Contour → List Pair → Card
 asJob41 contours pairs =
     record {
@@ -29,7 +30,8 @@ asJob41 contours pairs =
 
 -- a contour of one vertex, given by the bits of its coordinates
 abbrev pub dot : ℕ → ℕ → ContourType → ℕ → ℕ → Contour
-dot id tag kind x y = record { id = id; tag = tag; kind = kind; vertices = record { x = ofBits binary64 x; y = ofBits binary64 y } ∷ [] }
+dot id tag kind x y =
+    record { id = id; tag = tag; kind = kind; vertices = record { x = ofBits binary64 x; y = ofBits binary64 y } ∷ [] }
 
 -- one before another, each with ten times its id as its tag
 abbrev pub waits : ℕ → ℕ → Pair

@@ -1,5 +1,6 @@
--- When a card goes back, in the words of the table: a row holds at a place, and of several rows the first is given. The rows name fields and
--- numbers only and compute nothing; the verdict that does is said to be this one in `Exactly`. Assumes nothing.
+-- When a card goes back, in the words of the table: a row holds at a place, and of several rows the first is given. The
+-- rows name fields and numbers only and compute nothing; the verdict that does is said to be this one in `Exactly`.
+-- Assumes nothing.
 use mathlib.Core.Path.{_≡_}
 use mathlib.Core.Logic.{_⊎_}
 use mathlib.Core.Bool.{true}
@@ -13,7 +14,9 @@ use Rattle.block.specs.Block.{blockBytes, payloadBytes, checkPlace, checkAt, Du
 use Rattle.points.specs.Bad.{badPoint}
 use Rattle.closure.specs.Limits.{CONTOURS, PAIRS}
 use Rattle.fields.specs.Limits.{cardBytes, perContourLimit, candidateLimit, passLimit, vertexLimit, pairsABlock}
-use Rattle.fields.specs.Layout.{blocksOf, payload, contoursOf, pairsOf, perContourOf, passesOf, homePlace, exteriorOf, interiorOf, idOf, tagOf, vertexCountOf, typeOf, fillerOf, vertexPlace, beforeIdOf, beforeTagOf, afterIdOf, afterTagOf}
+use Rattle.fields.specs.Layout.{blocksOf, payload, contoursOf, pairsOf, perContourOf, passesOf, homePlace, exteriorOf}
+use Rattle.fields.specs.Layout.{interiorOf, idOf, tagOf, vertexCountOf, typeOf, fillerOf, vertexPlace, beforeIdOf}
+use Rattle.fields.specs.Layout.{beforeTagOf, afterIdOf, afterTagOf}
 use Rattle.fields.specs.Values.{pointAt}
 use Rattle.card.specs.Verdict.{checkOf}
 
@@ -84,8 +87,8 @@ abbrev pub Row6 : List ℕ → ℕ → Type 0
 Row6 s = Lowest (contoursOf s) (BadContour s)
 
 -- no field stands at this byte of block b's payload: the head has 34 bytes of fields, contour k 12 and 16 a vertex, a
--- block of pairs 16 a pair, 31 pairs at most; where the earlier blocks of pairs and the bytes before this one hold all m
--- pairs, no field is left
+-- block of pairs 16 a pair, 31 pairs at most; where the earlier blocks of pairs and the bytes before this one hold all
+-- m pairs, no field is left
 pub data Spare (s : List ℕ) (b offset : ℕ) : Type 0 where
   in-head : b ≡ 0 → 34 ≤ offset → Spare s b offset
   in-contour : (k : ℕ) → k < contoursOf s → b ≡ suc k → 12 + 16 * vertexCountOf s k ≤ offset → Spare s b offset
@@ -106,7 +109,8 @@ Row7 s = Lowest (blocksOf s) (SpareByte s)
 -- 8: a coordinate is not finite or is above 1,048,576 in size; 0 for home, else position + 1; the lowest
 pub data FarCoordinate (s : List ℕ) : ℕ → Type 0 where
   at-home : badPoint (pointAt s homePlace) ≡ true → FarCoordinate s 0
-  at-vertex : (k j : ℕ) → j < vertexCountOf s k → badPoint (pointAt s (vertexPlace k j)) ≡ true → FarCoordinate s (suc k)
+  at-vertex : (k j : ℕ) → j < vertexCountOf s k → badPoint (pointAt s (vertexPlace k j)) ≡ true
+      → FarCoordinate s (suc k)
 
 abbrev pub Row8 : List ℕ → ℕ → Type 0
 Row8 s = Lowest (contoursOf s + 1) (FarCoordinate s)
@@ -207,8 +211,8 @@ Past11 s = Past10 s × No (Row11 s)
 abbrev pub Sound : List ℕ → Type 0
 Sound s = Past11 s × No (Row12 s)
 
--- a number is given at a place exactly when its row holds there and no earlier one does anywhere; the start of block 0 is looked at
--- before 4, the other starts right after 5
+-- a number is given at a place exactly when its row holds there and no earlier one does anywhere; the start of block 0
+-- is looked at before 4, the other starts right after 5
 pub data Given (s : List ℕ) : ℕ → ℕ → Type 0 where
   one : {place : ℕ} → Row1 s place → Given s 1 place
   two : {place : ℕ} → Past1 s → Row2 s place → Given s 2 place
@@ -224,7 +228,8 @@ pub data Given (s : List ℕ) : ℕ → ℕ → Type 0 where
   eleven : {place : ℕ} → Past10 s → Row11 s place → Given s 11 place
   twelve : {place : ℕ} → Past11 s → Row12 s place → Given s 12 place
 
--- the verdict is the table's: a card is refused with a number and a place exactly when they are given, and is fine exactly when no row holds
+-- the verdict is the table's: a card is refused with a number and a place exactly when they are given, and is fine
+-- exactly when no row holds
 pub record Exactly (s : List ℕ) : Type 0 where
   pub refused-if : (r : Refusal) → Given s (r .number) (r .place) → checkOf s ≡ Refused r
   pub refused-only : (r : Refusal) → checkOf s ≡ Refused r → Given s (r .number) (r .place)

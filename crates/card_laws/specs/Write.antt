@@ -32,8 +32,10 @@ typeByte Interior = 1
 unfoldable pub headBytes : Card → List ℕ
 unfolding bytes pointBytes
 headBytes c =
-    bytes 4 (c .job) ++ bytes 2 (length (c .contours)) ++ bytes 2 (length (c .pairs)) ++ bytes 2 (c .per-contour) ++ bytes 2 (c .passes)
-    ++ bytes 4 (c .move-limit) ++ pointBytes (c .home) ++ preferenceByte (c .exterior) ∷ preferenceByte (c .interior) ∷ []
+    bytes 4 (c .job) ++ bytes 2 (length (c .contours)) ++ bytes 2 (length (c .pairs)) ++ bytes 2 (c .per-contour) ++
+    bytes 2 (c .passes)
+    ++ bytes 4 (c .move-limit) ++ pointBytes (c .home) ++ preferenceByte (c .exterior) ∷ preferenceByte (c .interior)
+    ∷ []
 
 -- points one after the other
 unfoldable pub pointsBytes : List Point → List ℕ
@@ -43,7 +45,9 @@ pointsBytes (p ∷ more) = pointBytes p ++ pointsBytes more
 
 unfoldable pub contourBytes : Contour → List ℕ
 unfolding bytes pointsBytes
-contourBytes c = bytes 4 (c .id) ++ bytes 4 (c .tag) ++ bytes 2 (length (c .vertices)) ++ typeByte (c .kind) ∷ 0 ∷ pointsBytes (c .vertices)
+contourBytes c =
+    bytes 4 (c .id) ++ bytes 4 (c .tag) ++ bytes 2 (length (c .vertices)) ++ typeByte (c .kind) ∷ 0
+    ∷ pointsBytes (c .vertices)
 
 -- the contours' blocks, from a block number on
 unfoldable pub contourBlocks : ℕ → List Contour → List ℕ
@@ -54,7 +58,9 @@ contourBlocks b (c ∷ more) = blockOf 2 1 b (contourBytes c) ++ contourBlocks (
 unfoldable pub pairBytes : List Pair → List ℕ
 unfolding bytes
 pairBytes [] = []
-pairBytes (p ∷ more) = bytes 4 (p .before-id) ++ bytes 4 (p .before-tag) ++ bytes 4 (p .after-id) ++ bytes 4 (p .after-tag) ++ pairBytes more
+pairBytes (p ∷ more) =
+    bytes 4 (p .before-id) ++ bytes 4 (p .before-tag) ++ bytes 4 (p .after-id) ++ bytes 4 (p .after-tag) ++ pairBytes
+    more
 
 -- so many blocks of pairs, from a block number on
 unfoldable pub pairBlocks : ℕ → ℕ → List Pair → List ℕ

@@ -12,7 +12,8 @@ use lib.ListN.{getD}
 use Rattle.answer.proofs.LowestLaws.{LowestAt, Nowhere, search-through}
 use Rattle.closure.specs.Cycle.{Reaches, step, leads}
 use Rattle.closure.proofs.PairLaws.{same-or}
-use Rattle.closure.proofs.PathLaws.{or-cases, or-left, or-right, and-first, and-second, both-true, yes-or-no, true-false, leads-on, leads-reaches, reaches-leads, Within}
+use Rattle.closure.proofs.PathLaws.{or-cases, or-left, or-right, and-first, and-second, both-true, yes-or-no}
+use Rattle.closure.proofs.PathLaws.{true-false, leads-on, leads-reaches, reaches-leads, Within}
 
 -- how many places below n pass the test
 bit : Bool → ℕ
@@ -37,24 +38,32 @@ unfolding count
 count-le test zero = omega arith
 count-le test (suc n) = omega (arith, count-le test n, bit-le (test n))
 
-pub count-grows : (test other : ℕ → Bool) (n : ℕ) → ((j : ℕ) → j < n → test j ≡ true → other j ≡ true) → count test n ≤ count other n
+pub count-grows : (test other : ℕ → Bool) (n : ℕ) → ((j : ℕ) → j < n → test j ≡ true → other j ≡ true)
+    → count test n ≤ count other n
 unfolding count
 count-grows test other zero h = omega arith
-count-grows test other (suc n) h = omega (arith, count-grows test other n (λ j l. h j (omega arith)), bit-grows (test n) (other n) (h n (omega arith)))
+count-grows test other (suc n) h =
+    omega (arith, count-grows test other n (λ j l. h j (omega arith)), bit-grows (test n) (other n) (h n (omega arith)))
 
 -- one more passes the other test
-pub count-more : (test other : ℕ → Bool) (n k : ℕ) → ((j : ℕ) → j < n → test j ≡ true → other j ≡ true) → k < n → test k ≡ false → other k ≡ true → count test n < count other n
+pub count-more : (test other : ℕ → Bool) (n k : ℕ) → ((j : ℕ) → j < n → test j ≡ true → other j ≡ true) → k < n
+    → test k ≡ false → other k ≡ true → count test n < count other n
 unfolding count bit
 count-more test other zero k h l f t = absurd (not-suc-le-zero l)
-count-more test other (suc n) k h l f t = go (eq-or-lt-of-le (le-of-suc-le-suc l)) (count-more test other n k (λ j m. h j (omega arith)))
+count-more test other (suc n) k h l f t =
+    go (eq-or-lt-of-le (le-of-suc-le-suc l)) (count-more test other n k (λ j m. h j (omega arith)))
   where
-    go : (k ≡ n) ⊎ (k < n) → (k < n → test k ≡ false → other k ≡ true → count test n < count other n) → count test n + bit (test n) < count other n + bit (other n)
-    go (inl e) rec = rw (ap test (sym e) ∙ f, ap other (sym e) ∙ t) (omega (arith, count-grows test other n (λ j m. h j (omega arith))))
+    go : (k ≡ n) ⊎ (k < n) → (k < n → test k ≡ false → other k ≡ true → count test n < count other n)
+        → count test n + bit (test n) < count other n + bit (other n)
+    go (inl e) rec =
+        rw (ap test (sym e) ∙ f, ap other (sym e) ∙ t)
+        (omega (arith, count-grows test other n (λ j m. h j (omega arith))))
     go (inr m) rec = omega (arith, rec m f t, bit-grows (test n) (other n) (h n (omega arith)))
 
 -- ---- a descent ends
 
-module _ (n : ℕ) (link : ℕ → ℕ → Bool) (low : Within n link) (free : (i : ℕ) → i < n → Reaches link i i → ⊥) (P : ℕ → Bool) where
+module _ (n : ℕ) (link : ℕ → ℕ → Bool) (low : Within n link) (free : (i : ℕ) → i < n → Reaches link i i → ⊥)
+    (P : ℕ → Bool) where
   -- a position that passes, and no position linked to it does
   pub record Least (k : ℕ) : Type 0 where
     pub within : k < n
@@ -70,17 +79,28 @@ module _ (n : ℕ) (link : ℕ → ℕ → Bool) (low : Within n link) (free : (
   rank-falls b k hb hk e = count-more (λ j. leads link n j b) (λ j. leads link n j k) n b
       (λ j h t. leads-on link n j b k hb t (reaches-leads n link low (step e)))
       hb
-      (⊎-elim (λ (t : leads link n b b ≡ true). absurd (free b hb (leads-reaches link n b b t))) (λ (f : leads link n b b ≡ false). f) (yes-or-no (leads link n b b)))
+      (⊎-elim (λ (t : leads link n b b ≡ true). absurd (free b hb (leads-reaches link n b b t)))
+      (λ (f : leads link n b b ≡ false). f) (yes-or-no (leads link n b b)))
       (reaches-leads n link low (step e))
 
   descend : (most k : ℕ) → rank k < most → k < n → P k ≡ true → (m : ℕ) × Least m
   descend zero k h l t = absurd (not-suc-le-zero h)
   descend (suc most) k h l t = go (descend most) (search-through (λ b. P b && link b k) n)
     where
-      go : ((k : ℕ) → rank k < most → k < n → P k ≡ true → (m : ℕ) × Least m) → ((b : ℕ) × LowestAt (λ b. P b && link b k) n b) ⊎ Nowhere (λ b. P b && link b k) n → (m : ℕ) × Least m
+      go : ((k : ℕ) → rank k < most → k < n → P k ≡ true → (m : ℕ) × Least m)
+          → ((b : ℕ) × LowestAt (λ b. P b && link b k) n b) ⊎ Nowhere (λ b. P b && link b k) n → (m : ℕ) × Least m
       go rec (inl (b, w)) =
-          rec b (omega (arith, rank-falls b k (w .within) l (and-second (P b) (link b k) (w .holds)))) (w .within) (and-first (P b) (link b k) (w .holds))
-      go rec (inr none) = (k, record { within = l; holds = t; none = λ b hb p e. true-false (both-true (P b) (link b k) p e) (none b hb) })
+          rec b (omega (arith, rank-falls b k (w .within) l (and-second (P b) (link b k) (w .holds)))) (w .within)
+          (and-first (P b) (link b k) (w .holds))
+      go rec (inr none) = (
+        k,
+        record {
+          within = l;
+          holds = t;
+          none =
+              λ b hb p e. true-false (both-true (P b) (link b k) p e) (none b hb);
+        },
+      )
 
   -- where some position passes, some passing position has none before it that passes
   pub least : (k : ℕ) → k < n → P k ≡ true → (m : ℕ) × Least m
@@ -107,7 +127,8 @@ unfolding anyBelow
 any-at test zero e = let z : _≡_ {A = ℕ} 0 1 = cc in absurd (omega arith)
 any-at test (suc m) e = go (or-cases (anyBelow test m) (test m) e) (any-at test m)
   where
-    go : (anyBelow test m ≡ true) ⊎ (test m ≡ true) → (anyBelow test m ≡ true → (p : ℕ) × (p < m) × (test p ≡ true)) → (p : ℕ) × (p < suc m) × (test p ≡ true)
+    go : (anyBelow test m ≡ true) ⊎ (test m ≡ true) → (anyBelow test m ≡ true → (p : ℕ) × (p < m) × (test p ≡ true))
+        → (p : ℕ) × (p < suc m) × (test p ≡ true)
     go (inl a) rec = let f = rec a in (f .0, omega (arith, f .1), f .2)
     go (inr t) rec = (m, omega arith, t)
 
@@ -127,12 +148,14 @@ pub record Different (n : ℕ) (l : List ℕ) (m : ℕ) : Type 0 where
   pub once : (p q : ℕ) → p < m → q < m → getD l p 0 ≡ getD l q 0 → p ≡ q
 
 pub fewer : (n : ℕ) (l : List ℕ) (m k : ℕ) → k ≤ m → Different n l m → Different n l k
-fewer n l m k h d = record { within = λ p i. d .within p (omega arith); once = λ p q i j e. d .once p q (omega arith) (omega arith) e }
+fewer n l m k h d =
+    record { within = λ p i. d .within p (omega arith); once = λ p q i j e. d .once p q (omega arith) (omega arith) e }
 
 -- the next of different positions has not been met
 pub met-not : (n : ℕ) (l : List ℕ) (m k : ℕ) → k < m → Different n l m → met l k (getD l k 0) ≡ false
 met-not n l m k h d = ⊎-elim
-    (λ (t : met l k (getD l k 0) ≡ true). let f = met-at l k (getD l k 0) t in let e : f .0 ≡ k = d .once (f .0) k (omega (arith, f .1)) h (f .2) in absurd (omega (arith, f .1)))
+    (λ (t : met l k (getD l k 0) ≡ true). let f = met-at l k (getD l k 0) t in let e : f .0 ≡ k =
+    d .once (f .0) k (omega (arith, f .1)) h (f .2) in absurd (omega (arith, f .1)))
     (λ (f : met l k (getD l k 0) ≡ false). f) (yes-or-no (met l k (getD l k 0)))
 
 different-count : (n : ℕ) (l : List ℕ) (m : ℕ) → Different n l m → m ≤ count (met l m) n
@@ -143,7 +166,8 @@ different-count n l (suc m) d =
       arith,
       count-more (met l m) (met l (suc m)) n (getD l m 0)
           (λ j h t. let f = met-at l m j t in met-is l (suc m) j (f .0) (omega (arith, f .1)) (f .2))
-          (d .within m (omega arith)) (met-not n l (suc m) m (omega arith) d) (met-is l (suc m) (getD l m 0) m (omega arith) refl),
+          (d .within m (omega arith)) (met-not n l (suc m) m (omega arith) d)
+          (met-is l (suc m) (getD l m 0) m (omega arith) refl),
     )
 
 -- there are at most n of them
@@ -154,7 +178,9 @@ different-few n l m d = omega (arith, different-count n l m d, count-le (met l m
 pub different-all : (n : ℕ) (l : List ℕ) → Different n l n → (k : ℕ) → k < n → met l n k ≡ true
 different-all n l d k h = ⊎-elim
     (λ (t : met l n k ≡ true). t)
-    (λ (f : met l n k ≡ false). absurd (let m : count (met l n) n < count (λ _. true) n = count-more (met l n) (λ _. true) n k (λ j i t. refl) h f refl in omega (arith, different-count n l n d, count-le (λ _. true) n)))
+    (λ (f : met l n k ≡ false). absurd (let m : count (met l n) n < count (λ _. true) n =
+    count-more (met l n) (λ _. true) n k (λ j i t. refl) h f refl in omega
+    (arith, different-count n l n d, count-le (λ _. true) n)))
     (yes-or-no (met l n k))
 
 -- ---- a list that has all n positions has at least n entries
@@ -189,7 +215,8 @@ count-false (suc n) = omega (arith, count-false n)
 count-met : (l : List ℕ) (m n : ℕ) → count (met l m) n ≤ m
 unfolding anyBelow
 count-met l zero n = count-false n
-count-met l (suc m) n = omega (arith, count-or (met l m) (λ j. eqb (getD l m 0) j) n, count-met l m n, count-one (getD l m 0) n)
+count-met l (suc m) n =
+    omega (arith, count-or (met l m) (λ j. eqb (getD l m 0) j) n, count-met l m n, count-one (getD l m 0) n)
 
 count-all : (test : ℕ → Bool) (n : ℕ) → ((j : ℕ) → j < n → test j ≡ true) → n ≤ count test n
 unfolding count bit

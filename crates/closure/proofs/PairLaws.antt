@@ -1,4 +1,5 @@
--- How a loop that goes two numbers at a time walks the pairs of a flat list, and when a pair is a given one. Assumes nothing.
+-- How a loop that goes two numbers at a time walks the pairs of a flat list, and when a pair is a given one. Assumes
+-- nothing.
 use mathlib.Core.Bool.{Bool, true, false}
 use mathlib.Core.Path.{_≡_, refl}
 use mathlib.Core.Logic.{_⊎_, inl, inr, ⊎-elim}
@@ -24,7 +25,8 @@ lt-or a b = elim (decLt a b) [ yes p ↦ inl p | no q ↦ inr (omega arith) ]
 abbrev pub pairAt : List ℕ → ℕ → Pair
 pairAt l at = record { before = getD l at 0; after = getD l (at + 1) 0 }
 
-pub paired-more : (l : List ℕ) (at : ℕ) → at + 1 < length l → paired (drop at l) ≡ pairAt l at ∷ paired (drop (at + 2) l)
+pub paired-more : (l : List ℕ) (at : ℕ) → at + 1 < length l
+    → paired (drop at l) ≡ pairAt l at ∷ paired (drop (at + 2) l)
 unfolding paired
 paired-more l at h =
     let g : at < length l = omega arith in
@@ -65,15 +67,19 @@ pub record EveryPart (test : Pair → Bool) (pairs : List ℕ) (at : ℕ) : Type
 pub every-none : (test : Pair → Bool) (pairs : List ℕ) → EveryPart test pairs 0
 every-none test pairs = record { within = omega arith; left = refl }
 
-pub every-more : (test : Pair → Bool) (pairs : List ℕ) (at : ℕ) → at + 1 < length pairs → EveryPart test pairs at → test (pairAt pairs at) ≡ true → EveryPart test pairs (at + 2)
+pub every-more : (test : Pair → Bool) (pairs : List ℕ) (at : ℕ) → at + 1 < length pairs → EveryPart test pairs at
+    → test (pairAt pairs at) ≡ true → EveryPart test pairs (at + 2)
 unfolding every
-every-more test pairs at more part t = record { within = omega arith; left = rw (paired-more pairs at more, t) at (part .left) }
+every-more test pairs at more part t =
+    record { within = omega arith; left = rw (paired-more pairs at more, t) at (part .left) }
 
-pub every-fails : (test : Pair → Bool) (pairs : List ℕ) (at : ℕ) → at + 1 < length pairs → EveryPart test pairs at → test (pairAt pairs at) ≡ false → false ≡ every test (paired pairs)
+pub every-fails : (test : Pair → Bool) (pairs : List ℕ) (at : ℕ) → at + 1 < length pairs → EveryPart test pairs at
+    → test (pairAt pairs at) ≡ false → false ≡ every test (paired pairs)
 unfolding every
 every-fails test pairs at more part t = rw (paired-more pairs at more, t) at (part .left)
 
-pub every-all : (test : Pair → Bool) (pairs : List ℕ) (at : ℕ) → length pairs ≤ at + 1 → EveryPart test pairs at → true ≡ every test (paired pairs)
+pub every-all : (test : Pair → Bool) (pairs : List ℕ) (at : ℕ) → length pairs ≤ at + 1 → EveryPart test pairs at
+    → true ≡ every test (paired pairs)
 unfolding every
 every-all test pairs at all part = rw (paired-end pairs at all) at (part .left)
 
@@ -87,14 +93,18 @@ pub record SomePart (test : Pair → Bool) (pairs : List ℕ) (at : ℕ) : Type 
 pub some-none : (test : Pair → Bool) (pairs : List ℕ) → SomePart test pairs 0
 some-none test pairs = record { within = omega arith; left = refl }
 
-pub some-more : (test : Pair → Bool) (pairs : List ℕ) (at : ℕ) → at + 1 < length pairs → SomePart test pairs at → test (pairAt pairs at) ≡ false → SomePart test pairs (at + 2)
+pub some-more : (test : Pair → Bool) (pairs : List ℕ) (at : ℕ) → at + 1 < length pairs → SomePart test pairs at
+    → test (pairAt pairs at) ≡ false → SomePart test pairs (at + 2)
 unfolding someOf
-some-more test pairs at more part t = record { within = omega arith; left = rw (paired-more pairs at more, t) at (part .left) }
+some-more test pairs at more part t =
+    record { within = omega arith; left = rw (paired-more pairs at more, t) at (part .left) }
 
-pub some-found : (test : Pair → Bool) (pairs : List ℕ) (at : ℕ) → at + 1 < length pairs → SomePart test pairs at → test (pairAt pairs at) ≡ true → true ≡ someOf test (paired pairs)
+pub some-found : (test : Pair → Bool) (pairs : List ℕ) (at : ℕ) → at + 1 < length pairs → SomePart test pairs at
+    → test (pairAt pairs at) ≡ true → true ≡ someOf test (paired pairs)
 unfolding someOf
 some-found test pairs at more part t = rw (paired-more pairs at more, t) at (part .left)
 
-pub some-all : (test : Pair → Bool) (pairs : List ℕ) (at : ℕ) → length pairs ≤ at + 1 → SomePart test pairs at → false ≡ someOf test (paired pairs)
+pub some-all : (test : Pair → Bool) (pairs : List ℕ) (at : ℕ) → length pairs ≤ at + 1 → SomePart test pairs at
+    → false ≡ someOf test (paired pairs)
 unfolding someOf
 some-all test pairs at all part = rw (paired-end pairs at all) at (part .left)

@@ -1,5 +1,5 @@
--- `leads` says yes exactly where a path is: links that lead from one position to another; below n, links are the pairs of the list.
--- Assumes nothing.
+-- `leads` says yes exactly where a path is: links that lead from one position to another; below n, links are the pairs
+-- of the list. Assumes nothing.
 use mathlib.Core.Bool.{Bool, true, false, _&&_, _||_}
 use mathlib.Core.Path.{_≡_, refl, sym, ap, _∙_}
 use mathlib.Core.Logic.{_⊎_, inl, inr, ⊎-elim, _↔_}
@@ -62,11 +62,16 @@ pub leads-reaches : (link : ℕ → ℕ → Bool) (k i j : ℕ) → leads link k
 unfolding leads
 leads-reaches link zero i j e = step e
 leads-reaches link (suc k) i j e =
-    go (or-cases (leads link k i j) (leads link k i k && leads link k k j) e) (leads-reaches link k i j) (leads-reaches link k i k) (leads-reaches link k k j)
+    go (or-cases (leads link k i j) (leads link k i k && leads link k k j) e) (leads-reaches link k i j)
+    (leads-reaches link k i k) (leads-reaches link k k j)
   where
-    go : (leads link k i j ≡ true) ⊎ ((leads link k i k && leads link k k j) ≡ true) → (leads link k i j ≡ true → Reaches link i j) → (leads link k i k ≡ true → Reaches link i k) → (leads link k k j ≡ true → Reaches link k j) → Reaches link i j
+    go : (leads link k i j ≡ true) ⊎ ((leads link k i k && leads link k k j) ≡ true)
+        → (leads link k i j ≡ true → Reaches link i j) → (leads link k i k ≡ true → Reaches link i k)
+        → (leads link k k j ≡ true → Reaches link k j) → Reaches link i j
     go (inl p) direct to from = direct p
-    go (inr q) direct to from = reaches-on (to (and-first (leads link k i k) (leads link k k j) q)) (from (and-second (leads link k i k) (leads link k k j) q))
+    go (inr q) direct to from =
+        reaches-on (to (and-first (leads link k i k) (leads link k k j) q))
+        (from (and-second (leads link k i k) (leads link k k j) q))
 
 -- a way through fewer positions is a way through more
 leads-grows : (link : ℕ → ℕ → Bool) (k i j : ℕ) → leads link k i j ≡ true → leads link (suc k) i j ≡ true
@@ -81,15 +86,22 @@ leads-link link (suc k) i j e = leads-grows link k i j (leads-link link k i j e)
 -- to k itself, or from it, k is no help on the way
 leads-to : (link : ℕ → ℕ → Bool) (k i : ℕ) → leads link (suc k) i k ≡ true → leads link k i k ≡ true
 unfolding leads
-leads-to link k i e = ⊎-elim (λ (p : leads link k i k ≡ true). p) (λ (q : (leads link k i k && leads link k k k) ≡ true). and-first (leads link k i k) (leads link k k k) q) (or-cases (leads link k i k) (leads link k i k && leads link k k k) e)
+leads-to link k i e =
+    ⊎-elim (λ (p : leads link k i k ≡ true). p) (λ (q : (leads link k i k && leads link k k k) ≡ true). and-first
+    (leads link k i k) (leads link k k k) q) (or-cases (leads link k i k) (leads link k i k && leads link k k k) e)
 
 leads-from : (link : ℕ → ℕ → Bool) (k j : ℕ) → leads link (suc k) k j ≡ true → leads link k k j ≡ true
 unfolding leads
-leads-from link k j e = ⊎-elim (λ (p : leads link k k j ≡ true). p) (λ (q : (leads link k k k && leads link k k j) ≡ true). and-second (leads link k k k) (leads link k k j) q) (or-cases (leads link k k j) (leads link k k k && leads link k k j) e)
+leads-from link k j e =
+    ⊎-elim (λ (p : leads link k k j ≡ true). p) (λ (q : (leads link k k k && leads link k k j) ≡ true). and-second
+    (leads link k k k) (leads link k k j) q) (or-cases (leads link k k j) (leads link k k k && leads link k k j) e)
 
-through : (link : ℕ → ℕ → Bool) (k i j : ℕ) → leads link k i k ≡ true → leads link k k j ≡ true → leads link (suc k) i j ≡ true
+through : (link : ℕ → ℕ → Bool) (k i j : ℕ) → leads link k i k ≡ true → leads link k k j ≡ true
+    → leads link (suc k) i j ≡ true
 unfolding leads
-through link k i j p q = or-right (leads link k i j) (leads link k i k && leads link k k j) (both-true (leads link k i k) (leads link k k j) p q)
+through link k i j p q =
+    or-right (leads link k i j) (leads link k i k && leads link k k j)
+    (both-true (leads link k i k) (leads link k k j) p q)
 
 -- a way through positions up to k goes round k or by way of it
 abbrev Ways : (ℕ → ℕ → Bool) → ℕ → ℕ → ℕ → Type 0
@@ -100,17 +112,27 @@ unfolding leads
 ways link k a b e = or-cases (leads link k a b) (leads link k a k && leads link k k b) e
 
 -- what is reached by way of a position below k is reached
-pub leads-on : (link : ℕ → ℕ → Bool) (k i m j : ℕ) → m < k → leads link k i m ≡ true → leads link k m j ≡ true → leads link k i j ≡ true
+pub leads-on : (link : ℕ → ℕ → Bool) (k i m j : ℕ) → m < k → leads link k i m ≡ true → leads link k m j ≡ true
+    → leads link k i j ≡ true
 leads-on link zero i m j h p q = absurd (not-suc-le-zero h)
 leads-on link (suc k) i m j h p q = go (eq-or-lt-of-le (le-of-suc-le-suc h)) (leads-on link k)
   where
-    parts : (rec : (i m j : ℕ) → m < k → leads link k i m ≡ true → leads link k m j ≡ true → leads link k i j ≡ true) → m < k → Ways link k i m → Ways link k m j → leads link (suc k) i j ≡ true
+    parts : (rec : (i m j : ℕ) → m < k → leads link k i m ≡ true → leads link k m j ≡ true → leads link k i j ≡ true)
+        → m < k → Ways link k i m → Ways link k m j → leads link (suc k) i j ≡ true
     parts rec l (inl a) (inl b) = leads-grows link k i j (rec i m j l a b)
-    parts rec l (inl a) (inr b) = through link k i j (rec i m k l a (and-first (leads link k m k) (leads link k k j) b)) (and-second (leads link k m k) (leads link k k j) b)
-    parts rec l (inr a) (inl b) = through link k i j (and-first (leads link k i k) (leads link k k m) a) (rec k m j l (and-second (leads link k i k) (leads link k k m) a) b)
-    parts rec l (inr a) (inr b) = through link k i j (and-first (leads link k i k) (leads link k k m) a) (and-second (leads link k m k) (leads link k k j) b)
+    parts rec l (inl a) (inr b) =
+        through link k i j (rec i m k l a (and-first (leads link k m k) (leads link k k j) b))
+        (and-second (leads link k m k) (leads link k k j) b)
+    parts rec l (inr a) (inl b) =
+        through link k i j (and-first (leads link k i k) (leads link k k m) a)
+        (rec k m j l (and-second (leads link k i k) (leads link k k m) a) b)
+    parts rec l (inr a) (inr b) =
+        through link k i j (and-first (leads link k i k) (leads link k k m) a)
+        (and-second (leads link k m k) (leads link k k j) b)
 
-    go : (m ≡ k) ⊎ (m < k) → ((i m j : ℕ) → m < k → leads link k i m ≡ true → leads link k m j ≡ true → leads link k i j ≡ true) → leads link (suc k) i j ≡ true
+    go : (m ≡ k) ⊎ (m < k)
+        → ((i m j : ℕ) → m < k → leads link k i m ≡ true → leads link k m j ≡ true → leads link k i j ≡ true)
+        → leads link (suc k) i j ≡ true
     go (inl e) rec = through link k i j (leads-to link k i (rw e at p)) (leads-from link k j (rw e at q))
     go (inr l) rec = parts rec l (ways link k i m p) (ways link k m j q)
 
@@ -119,38 +141,54 @@ abbrev pub Within : ℕ → (ℕ → ℕ → Bool) → Type 0
 Within n link = (i j : ℕ) → link i j ≡ true → (i < n) × (j < n)
 
 -- where there is a path, leads says yes
-pub reaches-leads : (n : ℕ) (link : ℕ → ℕ → Bool) → Within n link → {i j : ℕ} → Reaches link i j → leads link n i j ≡ true
+pub reaches-leads : (n : ℕ) (link : ℕ → ℕ → Bool) → Within n link → {i j : ℕ} → Reaches link i j
+    → leads link n i j ≡ true
 reaches-leads n link low (step {i} {j} e) = leads-link link n i j e
-reaches-leads n link low (onward {i} {m} {j} e r) = leads-on link n i m j (low i m e .1) (leads-link link n i m e) (reaches-leads n link low r)
+reaches-leads n link low (onward {i} {m} {j} e r) =
+    leads-on link n i m j (low i m e .1) (leads-link link n i m e) (reaches-leads n link low r)
 
 pub linked-within : (n : ℕ) (pairs : List ℕ) → Within n (linked n pairs)
 unfolding linked
-linked-within n pairs i j e =
-    (ltb-true i n (and-first (ltb i n) (ltb j n && someOf (isPair i j) (paired pairs)) e), ltb-true j n (and-first (ltb j n) (someOf (isPair i j) (paired pairs)) (and-second (ltb i n) (ltb j n && someOf (isPair i j) (paired pairs)) e)))
+linked-within n pairs i j e = (
+  ltb-true i n (and-first (ltb i n) (ltb j n && someOf (isPair i j) (paired pairs)) e),
+  ltb-true j n
+      (and-first (ltb j n) (someOf (isPair i j) (paired pairs))
+      (and-second (ltb i n) (ltb j n && someOf (isPair i j) (paired pairs)) e)),
+)
 
 -- ---- the cycle question
 
 -- a position is on a cycle exactly where pairs lead from it back to it
 pub cycle-exactly : (n : ℕ) (pairs : List ℕ) (i : ℕ) → (onCycle n pairs i ≡ true) ↔ Reaches (linked n pairs) i i
-cycle-exactly n pairs i = (leads-reaches (linked n pairs) n i i, reaches-leads n (linked n pairs) (linked-within n pairs))
+cycle-exactly n pairs i =
+    (leads-reaches (linked n pairs) n i i, reaches-leads n (linked n pairs) (linked-within n pairs))
 
 -- none is found exactly where no position reaches itself
 pub absent-exactly : (n : ℕ) (pairs : List ℕ) → (lowest (onCycle n pairs) n ≡ Found.Absent) ↔ Acyclic n pairs
-absent-exactly n pairs =
-    ((λ e i h r. true-false (reaches-leads n (linked n pairs) (linked-within n pairs) r) (is-absent (onCycle n pairs) n e i h)), (λ free. absent-is (onCycle n pairs) n (λ i h. ⊎-elim (λ (t : onCycle n pairs i ≡ true). absurd (free i h (leads-reaches (linked n pairs) n i i t))) (λ (f : onCycle n pairs i ≡ false). f) (yes-or-no (onCycle n pairs i)))))
+absent-exactly n pairs = (
+  (λ e i h r. true-false (reaches-leads n (linked n pairs) (linked-within n pairs) r)
+      (is-absent (onCycle n pairs) n e i h)),
+  (λ free. absent-is (onCycle n pairs) n
+      (λ i h. ⊎-elim (λ (t : onCycle n pairs i ≡ true). absurd (free i h (leads-reaches (linked n pairs) n i i t)))
+      (λ (f : onCycle n pairs i ≡ false). f) (yes-or-no (onCycle n pairs i)))),
+)
 
 -- in the closed table the flag of i and j says yes exactly where pairs lead from i to j
-pub flags-exactly : (n : ℕ) (pairs : List ℕ) (f g : List Bool) → n ≤ CONTOURS → Noted n pairs (replicate (CONTOURS * CONTOURS) false) f → Says n (leads (flag f) n) g →
+pub flags-exactly : (n : ℕ) (pairs : List ℕ) (f g : List Bool) → n ≤ CONTOURS
+    → Noted n pairs (replicate (CONTOURS * CONTOURS) false) f → Says n (leads (flag f) n) g →
     (i j : ℕ) → i < n → j < n → (flag g i j ≡ true) ↔ Reaches (linked n pairs) i j
 flags-exactly n pairs f g small noted says i j h l =
-    let e : flag g i j ≡ leads (linked n pairs) n i j = closed-leads n pairs f g small noted says i j h l in
-    ((λ t. leads-reaches (linked n pairs) n i j (sym e ∙ t)), (λ r. e ∙ reaches-leads n (linked n pairs) (linked-within n pairs) r))
+    let e : flag g i j ≡ leads (linked n pairs) n i j = closed-leads n pairs f g small noted says i j h l in (
+      (λ t. leads-reaches (linked n pairs) n i j (sym e ∙ t)),
+      (λ r. e ∙ reaches-leads n (linked n pairs) (linked-within n pairs) r),
+    )
 
 -- ---- every pair of a list, one by one
 
 -- what holds of each pair of the list holds of all
 pub every-is : (test : Pair → Bool) (ps : List Pair)
-    → ((b a : ℕ) → someOf (isPair b a) ps ≡ true → test (record { before = b; after = a }) ≡ true) → every test ps ≡ true
+    → ((b a : ℕ) → someOf (isPair b a) ps ≡ true → test (record { before = b; after = a }) ≡ true)
+    → every test ps ≡ true
 unfolding every someOf
 every-is test [] h = refl
 every-is test (p ∷ more) h = both-true (test p) (every test more)
@@ -165,7 +203,8 @@ pub every-at : (test : Pair → Bool) (ps : List Pair) (b a : ℕ) → every tes
 unfolding every someOf
 every-at test [] b a e t = let z : _≡_ {A = ℕ} 0 1 = cc in absurd (omega arith)
 every-at test (p ∷ more) b a e t =
-    go (or-cases (isPair b a p) (someOf (isPair b a) more) t) (every-at test more b a (and-second (test p) (every test more) e))
+    go (or-cases (isPair b a p) (someOf (isPair b a) more) t)
+    (every-at test more b a (and-second (test p) (every test more) e))
   where
     go : (isPair b a p ≡ true) ⊎ (someOf (isPair b a) more ≡ true)
         → (someOf (isPair b a) more ≡ true → test (record { before = b; after = a }) ≡ true)
@@ -183,5 +222,6 @@ pub linked-pair : (n : ℕ) (pairs : List ℕ) (b a : ℕ) → b < n → a < n �
 linked-pair n pairs b a hb ha t = linked-is n pairs b a hb ha ∙ t
 
 -- and a link a pair
-pub pair-linked : (n : ℕ) (pairs : List ℕ) (b a : ℕ) → linked n pairs b a ≡ true → someOf (isPair b a) (paired pairs) ≡ true
+pub pair-linked : (n : ℕ) (pairs : List ℕ) (b a : ℕ) → linked n pairs b a ≡ true
+    → someOf (isPair b a) (paired pairs) ≡ true
 pair-linked n pairs b a t = let h = linked-within n pairs b a t in sym (linked-is n pairs b a (h .0) (h .1)) ∙ t

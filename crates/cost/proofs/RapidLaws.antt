@@ -18,7 +18,8 @@ use Rattle.points.specs.Distance.{distanceOf}
 use Rattle.cost.specs.Rapid.{onward, rapidOf}
 use Rattle.points.proofs.PointLaws.{legs-count}
 
-first-of : (home : Point) (l : List Ends) → 0 < length l → rapidOf home l ≡ onward (distanceOf home (getD l 0 noEnds .start)) (getD l 0 noEnds .finish) (drop 1 l)
+first-of : (home : Point) (l : List Ends) → 0 < length l
+    → rapidOf home l ≡ onward (distanceOf home (getD l 0 noEnds .start)) (getD l 0 noEnds .finish) (drop 1 l)
 unfolding rapidOf
 first-of home [] h = absurd (not-suc-le-zero h)
 first-of home (leg ∷ more) h = refl
@@ -33,15 +34,18 @@ module _ (d : List Float) where
   abbrev pub Onwards : Float → Point → Float → Point → ℕ → Type 0
   Onwards total₀ p₀ total p k = onward total₀ p₀ (drop 1 (legs (points d))) ≡ onward total p (drop k (legs (points d)))
 
-  pub onwards-step : (total₀ : Float) (p₀ : Point) (total : Float) (p : Point) (k : ℕ) → k < length d / 4 → Onwards total₀ p₀ total p k
-      → Onwards total₀ p₀ (add binary64 total (distanceOf p (getD (legs (points d)) k noEnds .start))) (getD (legs (points d)) k noEnds .finish) (k + 1)
+  pub onwards-step : (total₀ : Float) (p₀ : Point) (total : Float) (p : Point) (k : ℕ) → k < length d / 4
+      → Onwards total₀ p₀ total p k
+      → Onwards total₀ p₀ (add binary64 total (distanceOf p (getD (legs (points d)) k noEnds .start)))
+      (getD (legs (points d)) k noEnds .finish) (k + 1)
   unfolding onward
   onwards-step total₀ p₀ total p k h o =
       let g : k < length (legs (points d)) = rw legs-count h in
       o ∙ rw (add-one, drop-cons (legs (points d)) k noEnds)
 
   pub onwards-done : (home : Point) (total : Float) (p : Point) (k : ℕ) → 0 < length d / 4 → length d / 4 ≤ k
-      → Onwards (distanceOf home (getD (legs (points d)) 0 noEnds .start)) (getD (legs (points d)) 0 noEnds .finish) total p k
+      → Onwards (distanceOf home (getD (legs (points d)) 0 noEnds .start)) (getD (legs (points d)) 0 noEnds .finish)
+      total p k
       → total ≡ rapidOf home (legs (points d))
   unfolding onward
   onwards-done home total p k f h o =

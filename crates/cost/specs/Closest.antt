@@ -28,7 +28,8 @@ unfoldable pub footOf : Point → Ends → Float
 footOf p e =
     let a = e .start in
     let b = e .finish in
-    let over = add binary64 (mul binary64 (sub binary64 (p .x) (a .x)) (sub binary64 (b .x) (a .x))) (mul binary64 (sub binary64 (p .y) (a .y)) (sub binary64 (b .y) (a .y))) in
+    let over = add binary64 (mul binary64 (sub binary64 (p .x) (a .x)) (sub binary64 (b .x) (a .x)))
+    (mul binary64 (sub binary64 (p .y) (a .y)) (sub binary64 (b .y) (a .y))) in
     cond (lt (distanceSqOf a b) tiny) zero64 (div binary64 over (distanceSqOf a b))
 
 -- edge i takes the place of the best so far only if it is strictly closer
@@ -58,10 +59,12 @@ abbrev pub located : Check → Closest → Closest
 located Fine c = c
 located (Refused r) c = Unplaced r
 
--- the polygon's first bad vertex, one with a number missing among them; then the point, numbered after the whole vertices
+-- the polygon's first bad vertex, one with a number missing among them; then the point, numbered after the whole
+-- vertices
 unfoldable pub polygonAndPoint : List Float → Point → Check
 polygonAndPoint polygon p =
-    firstRefusal (refuseAt 8 (firstBad polygon ((length polygon + 1) / 2)) ∷ refuseIf (badPoint p) 8 (length polygon / 2) ∷ [])
+    firstRefusal (refuseAt 8 (firstBad polygon ((length polygon + 1) / 2))
+    ∷ refuseIf (badPoint p) 8 (length polygon / 2) ∷ [])
 
 unfoldable pub closestOnPolygonOf : List Float → Point → Closest
 closestOnPolygonOf polygon p = located (polygonAndPoint polygon p) (closestTo p (points polygon))

@@ -1,4 +1,5 @@
--- The length of all moves between cuts: from home to the first start, then from each end to the next start. Assumes nothing.
+-- The length of all moves between cuts: from home to the first start, then from each end to the next start. Assumes
+-- nothing.
 use mathlib.Core.List.{List, [], _∷_}
 use Prim.Native.Nat.{_+_, _*_, _/_}
 use lib.ListN.{length}
@@ -33,7 +34,9 @@ afterHome Absent = Absent
 
 -- home is point 0, leg k's start 1 + 2k and its end 2 + 2k; a leg begun counts with both its points
 unfoldable pub homeAndLegs : Point → List Float → Check
-homeAndLegs home numbers = firstRefusal (refuseIf (badPoint home) 8 0 ∷ refuseAt 8 (afterHome (firstBad numbers (2 * ((length numbers + 3) / 4)))) ∷ [])
+homeAndLegs home numbers =
+    firstRefusal (refuseIf (badPoint home) 8 0
+    ∷ refuseAt 8 (afterHome (firstBad numbers (2 * ((length numbers + 3) / 4)))) ∷ [])
 
 unfoldable pub totalRapidOf : Point → List Float → Measured
 totalRapidOf home numbers = measured (homeAndLegs home numbers) (rapidOf home (legs (points numbers)))

@@ -23,8 +23,11 @@ noAmount (fin s m e) = s && ltb 0 m
 
 -- refused with 14, first cause first: the total at 1, the weight at 2, the count at 3
 unfoldable pub amounts : Float → ℕ → Float → Check
-amounts total count weight = firstRefusal (refuseIf (noAmount total) 14 1 ∷ refuseIf (noAmount weight) 14 2 ∷ refuseIf (ltb mostPierces count) 14 3 ∷ [])
+amounts total count weight =
+    firstRefusal (refuseIf (noAmount total) 14 1 ∷ refuseIf (noAmount weight) 14 2
+    ∷ refuseIf (ltb mostPierces count) 14 3 ∷ [])
 
 -- the product rounded, then the sum
 unfoldable pub sequenceCostOf : Float → ℕ → Float → Measured
-sequenceCostOf total count weight = measured (amounts total count weight) (add binary64 total (mul binary64 weight (ofInt binary64 (pos count))))
+sequenceCostOf total count weight =
+    measured (amounts total count weight) (add binary64 total (mul binary64 weight (ofInt binary64 (pos count))))

@@ -26,7 +26,8 @@ use Rattle.demands.specs.Demand1.{small-room, small-table, GivenWith, by
 module _ (s room : List ℕ) (table : List Float) where
   -- the check by its three parts: the card's, and whether each room is too small
   parts : Check → Bool → Bool → Check
-  parts c a b = firstRefusal (c ∷ firstRefusal (refuseIf a 13 (contoursOf s) ∷ refuseIf b 13 (countOn s * countOn s) ∷ []) ∷ [])
+  parts c a b =
+      firstRefusal (c ∷ firstRefusal (refuseIf a 13 (contoursOf s) ∷ refuseIf b 13 (countOn s * countOn s) ∷ []) ∷ [])
 
   abbrev small : Bool
   small = ltb (length room) (contoursOf s)
@@ -41,26 +42,39 @@ module _ (s room : List ℕ) (table : List Float) where
   unfolding parts tourCheck roomCheck firstRefusal
   by-parts = refl
 
-  refused-by : (c : Check) (a b : Bool) → checkOf s ≡ c → small ≡ a → short ≡ b → (r : Refusal) → parts c a b ≡ check.Refused r → GivenWith s room table (r .number) (r .place)
+  refused-by : (c : Check) (a b : Bool) → checkOf s ≡ c → small ≡ a → short ≡ b → (r : Refusal)
+      → parts c a b ≡ check.Refused r → GivenWith s room table (r .number) (r .place)
   unfolding parts firstRefusal
   refused-by (check.Refused q) a b ec ea eb r h = by-card (exactly s .refused-only r (ec ∙ h))
   refused-by check.Fine true b ec ea eb r h =
       let e : record { number = 13; place = contoursOf s } ≡ r = cc in
-      subst (λ (z : Refusal). GivenWith s room table (z .number) (z .place)) e (thirteen (exactly s .fine-only ec) (small-room (ltb-true (length room) (contoursOf s) ea)))
+      subst (λ (z : Refusal). GivenWith s room table (z .number) (z .place)) e
+      (thirteen (exactly s .fine-only ec) (small-room (ltb-true (length room) (contoursOf s) ea)))
   refused-by check.Fine false true ec ea eb r h =
       let e : record { number = 13; place = countOn s * countOn s } ≡ r = cc in
       subst (λ (z : Refusal). GivenWith s room table (z .number) (z .place)) e
-      (thirteen (exactly s .fine-only ec) (small-table (ltb-false (length room) (contoursOf s) ea) (ltb-true (length table) (countOn s * countOn s) eb)))
+      (thirteen (exactly s .fine-only ec) (small-table (ltb-false (length room) (contoursOf s) ea)
+      (ltb-true (length table) (countOn s * countOn s) eb)))
   refused-by check.Fine false false ec ea eb r h = let z : _≡_ {A = ℕ} 0 1 = cc in absurd (omega arith)
 
-  given-told : (number place : ℕ) → GivenWith s room table number place → told ≡ check.Refused (record { number = number; place = place })
+  given-told : (number place : ℕ) → GivenWith s room table number place
+      → told ≡ check.Refused (record { number = number; place = place })
   unfolding parts firstRefusal
-  given-told number place (by-card g) = by-parts ∙ ap (λ (c : Check). parts c small short) (exactly s .refused-if (record { number = number; place = place }) g)
-  given-told number place (thirteen sound (small-room h)) = by-parts ∙ rw (exactly s .fine-if sound, lt-ltb (length room) (contoursOf s) h)
+  given-told number place (by-card g) =
+      by-parts ∙ ap (λ (c : Check). parts c small short)
+      (exactly s .refused-if (record { number = number; place = place }) g)
+  given-told number place (thirteen sound (small-room h)) =
+      by-parts ∙ rw (exactly s .fine-if sound, lt-ltb (length room) (contoursOf s) h)
   given-told number place (thirteen sound (small-table g h)) =
-      by-parts ∙ rw (exactly s .fine-if sound, le-ltb (length room) (contoursOf s) g, lt-ltb (length table) (countOn s * countOn s) h)
+      by-parts ∙ rw (
+        exactly s .fine-if sound,
+        le-ltb (length room) (contoursOf s) g,
+        lt-ltb (length table)
+            (countOn s * countOn s) h,
+      )
 
-  fine-by : (c : Check) (a b : Bool) → checkOf s ≡ c → small ≡ a → short ≡ b → parts c a b ≡ check.Fine → Nothing s room table
+  fine-by : (c : Check) (a b : Bool) → checkOf s ≡ c → small ≡ a → short ≡ b → parts c a b ≡ check.Fine
+      → Nothing s room table
   unfolding parts firstRefusal
   fine-by (check.Refused q) a b ec ea eb h = let z : _≡_ {A = ℕ} 0 1 = cc in absurd (omega arith)
   fine-by check.Fine true b ec ea eb h = let z : _≡_ {A = ℕ} 0 1 = cc in absurd (omega arith)
@@ -74,7 +88,12 @@ module _ (s room : List ℕ) (table : List Float) where
   nothing-told : Nothing s room table → told ≡ check.Fine
   unfolding parts firstRefusal
   nothing-told w =
-      by-parts ∙ rw (exactly s .fine-if (w .sound), le-ltb (length room) (contoursOf s) (w .room-enough), le-ltb (length table) (countOn s * countOn s) (w .table-enough))
+      by-parts ∙ rw (
+        exactly s .fine-if (w .sound),
+        le-ltb (length room) (contoursOf s) (w .room-enough),
+        le-ltb
+            (length table) (countOn s * countOn s) (w .table-enough),
+      )
 
   -- ---- the answer follows the check
 

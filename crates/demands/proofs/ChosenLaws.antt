@@ -45,7 +45,8 @@ not-nearer (fin true m e) y p q h = absurd (true≢false p)
 not-nearer (fin false m e) nan p q h = absurd q
 not-nearer (fin false m e) (inf t) p q h = absurd q
 not-nearer (fin false m e) (fin true n d) p q h = absurd (true≢false q)
-not-nearer (fin false m e) (fin false n d) p q h = at-most (n * up d * down e) (m * up e * down d) (ltb-false (m * up e * down d) (n * up d * down e) h)
+not-nearer (fin false m e) (fin false n d) p q h =
+    at-most (n * up d * down e) (m * up e * down d) (ltb-false (m * up e * down d) (n * up d * down e) h)
 
 nearer-not : (x y : Float) → Real x → Real y → lt x y ≡ true → T (le y x) → ⊥
 unfolding lt le eq
@@ -79,7 +80,8 @@ record Best (reach : ℕ → Float) (Offered : ℕ → Type 0) (bound : ℕ) (d 
   first : found ≡ true → (b : ℕ) → Offered b → b < a → lt d (reach b) ≡ true
 
 -- fewer offered, and a higher bound
-fewer : (reach : ℕ → Float) (O P : ℕ → Type 0) (m n : ℕ) (d : Float) (found : Bool) (a : ℕ) → ((b : ℕ) → P b → O b) → m ≤ n
+fewer : (reach : ℕ → Float) (O P : ℕ → Type 0) (m n : ℕ) (d : Float) (found : Bool) (a : ℕ) → ((b : ℕ) → P b → O b)
+    → m ≤ n
     → Best reach O m d found a → Best reach P n d found a
 fewer reach O P m n d found a sub up′ w = record {
   real = w .real;
@@ -91,7 +93,8 @@ fewer reach O P m n d found a sub up′ w = record {
 }
 
 -- one more is offered: the one at the bound
-module _ (reach : ℕ → Float) (O : ℕ → Type 0) (i : ℕ) (d : Float) (found : Bool) (a : ℕ) (w : Best reach O i d found a) (r : Real (reach i)) where
+module _ (reach : ℕ → Float) (O : ℕ → Type 0) (i : ℕ) (d : Float) (found : Bool) (a : ℕ)
+    (w : Best reach O i d found a) (r : Real (reach i)) where
   abbrev More : ℕ → Type 0
   More b = O b ⊎ (b ≡ i)
 
@@ -116,7 +119,8 @@ module _ (reach : ℕ → Float) (O : ℕ → Type 0) (i : ℕ) (d : Float) (fou
       strict : (b : ℕ) → O b → (c : Bool) → lt (reach i) (reach b) ≡ c → c ≡ true
       strict b o true e = refl
       strict b o false e =
-          absurd (nearer-not (reach i) d r (w .real) h (le-trans-float d (reach b) (reach i) (w .least b o) (not-nearer (reach i) (reach b) r (w .reals b o) e)))
+          absurd (nearer-not (reach i) d r (w .real) h
+          (le-trans-float d (reach b) (reach i) (w .least b o) (not-nearer (reach i) (reach b) r (w .reals b o) e)))
 
       first-more : (b : ℕ) → More b → b < i → lt (reach i) (reach b) ≡ true
       first-more b (inl o) l = strict b o (lt (reach i) (reach b)) refl
@@ -143,11 +147,14 @@ module _ (reach : ℕ → Float) (O : ℕ → Type 0) (i : ℕ) (d : Float) (fou
 -- ---- all that are offered, in order
 
 -- what holds of a number and a state, and each step carries to the next number
-each-on : {S : Type 0} (step : ℕ → S → S) (P : ℕ → S → Type 0) (k a : ℕ) → ((i : ℕ) → a ≤ i → i < a + k → (s : S) → P i s → P (suc i) (step i s)) → (s : S) → P a s
+each-on : {S : Type 0} (step : ℕ → S → S) (P : ℕ → S → Type 0) (k a : ℕ)
+    → ((i : ℕ) → a ≤ i → i < a + k → (s : S) → P i s → P (suc i) (step i s)) → (s : S) → P a s
     → P (a + k) (each step k a s)
 unfolding each
 each-on step P zero a h s p = rw (add-zero a) p
-each-on step P (suc k) a h s p = rw (add-suc a k, ← suc-add a k) (each-on step P k (suc a) (λ i l g. h i (omega arith) (omega arith)) (step a s) (h a (omega arith) (omega arith) s p))
+each-on step P (suc k) a h s p =
+    rw (add-suc a k, ← suc-add a k) (each-on step P k (suc a) (λ i l g. h i (omega arith) (omega arith)) (step a s)
+    (h a (omega arith) (omega arith) s p))
 
 -- a candidate of an open contour below k
 pub record Open (ground : Ground) (way : Way) (k b : ℕ) : Type 0 where
@@ -182,16 +189,20 @@ module _ (ground : Ground) (way : Way) (n : ℕ) (rises : (k : ℕ) → k < n �
       less b (inl z) = inl (inl z)
       less b (inr (l, g)) = split (same-or b i)
         where
-          split : (b ≡ i) ⊎ (b ≡ i → ⊥) → More reach (So k i) i (best .distance) (best .found) (best .candidate) w real b
+          split : (b ≡ i) ⊎ (b ≡ i → ⊥)
+              → More reach (So k i) i (best .distance) (best .found) (best .candidate) w real b
           split (inl e) = inr e
           split (inr d) = inl (inr (l, omega arith))
 
       go : (c : Bool) → lt (reach i) (best .distance) ≡ c
-          → Best reach (So k (suc i)) (suc i) (cond c (record { distance = reach i; contour = k; candidate = i; found = true }) best .distance)
+          → Best reach (So k (suc i)) (suc i) (cond c
+          (record { distance = reach i; contour = k; candidate = i; found = true }) best .distance)
           (cond c (record { distance = reach i; contour = k; candidate = i; found = true }) best .found)
           (cond c (record { distance = reach i; contour = k; candidate = i; found = true }) best .candidate)
-      go true e = fewer reach _ (So k (suc i)) (suc i) (suc i) _ _ _ less (omega arith) (taken reach (So k i) i _ _ _ w real e)
-      go false e = fewer reach _ (So k (suc i)) (suc i) (suc i) _ _ _ less (omega arith) (passed reach (So k i) i _ _ _ w real e)
+      go true e =
+          fewer reach _ (So k (suc i)) (suc i) (suc i) _ _ _ less (omega arith) (taken reach (So k i) i _ _ _ w real e)
+      go false e =
+          fewer reach _ (So k (suc i)) (suc i) (suc i) _ _ _ less (omega arith) (passed reach (So k i) i _ _ _ w real e)
 
   contour-offered : (k : ℕ) → k < n → (best : _)
       → let after = considered ground way k best in Best reach (Open ground way k) (firstIn ground k) (best .distance)
@@ -215,14 +226,28 @@ module _ (ground : Ground) (way : Way) (n : ℕ) (rises : (k : ℕ) → k < n �
                 subst
                     (λ (j : ℕ). b < firstIn ground (suc j)) e (o .among .to),
               )
-          split (inr d) = inl (record { contour = o .contour; below = (let l = o .below in omega arith); is-open = o .is-open; among = o .among })
+          split (inr d) =
+              inl (record {
+                contour = o .contour;
+                below = (let l = o .below in omega arith);
+                is-open =
+                    o .is-open;
+                among = o .among;
+              })
 
       shut : isOpen ground way k ≡ false → (b : ℕ) → Open ground way (suc k) b → Open ground way k b
       shut e b o = split (same-or (o .contour) k)
         where
           split : (o .contour ≡ k) ⊎ (o .contour ≡ k → ⊥) → Open ground way k b
           split (inl q) = absurd (true≢false (sym (o .is-open) ∙ ap (isOpen ground way) q ∙ e))
-          split (inr d) = record { contour = o .contour; below = (let l = o .below in omega arith); is-open = o .is-open; among = o .among }
+          split (inr d) =
+              record {
+                contour = o .contour;
+                below = (let l = o .below in omega arith);
+                is-open = o .is-open;
+                among =
+                    o .among;
+              }
 
       go : (c : Bool) → isOpen ground way k ≡ c
           → let after = cond c (each (offer ground way k) (firstIn ground (suc k) - firstIn ground k)

@@ -23,12 +23,14 @@ use Rattle.card_laws.proofs.Facts.{accepted}
 use Rattle.card_laws.proofs.Verdicts.{exactly}
 use Rattle.table.specs.Distances.{absent}
 use Rattle.table.proofs.DistanceLaws.{homes-at, same-contour, other-contour}
-use Rattle.improve.specs.Search.{Chart, State, lengthIn, swap, alternative, turn, flip, reversal, row, pass, repeated, judged, atLimit, tried, begun, worthwhile, searched}
+use Rattle.improve.specs.Search.{Chart, State, lengthIn, swap, alternative, turn, flip, reversal, row, pass, repeated}
+use Rattle.improve.specs.Search.{judged, atLimit, tried, begun, worthwhile, searched}
 use Rattle.improve.proofs.Keeps.{Carries, search-carries, Keeps, search-keeps}
 use Rattle.improve.proofs.TourLaws.{moves-at-most}
 use Rattle.improve.specs.After.{After, here, swapped, flipped}
 use Rattle.improve.proofs.PassLaws.{repeat-cut, repeat-quiet}
-use Rattle.improve.proofs.PrefixLaws.{level-refl, after-level, after-counts, Twin, search-twin, looser-none, cut-at-limit, one-more, limit-idle}
+use Rattle.improve.proofs.PrefixLaws.{level-refl, after-level, after-counts, Twin, search-twin, looser-none}
+use Rattle.improve.proofs.PrefixLaws.{cut-at-limit, one-more, limit-idle}
 use Rattle.instance.specs.Gather.{verticesOf, wayOf, offersOf, gathered}
 use Rattle.instance.proofs.FineLaws.{outline-whole}
 use Rattle.instance.proofs.OwnerLaws.{first-at, gathered-grows, owner-at}
@@ -37,7 +39,8 @@ use Rattle.tour.specs.declared.Toured.the-variants.{Done}
 use Rattle.instance.specs.Search.{homeOn, candidatesOn, countOn, ownersOn, chartOn}
 use Rattle.tour.specs.Search.{startOn, endOn, tourOn, outcomeOn}
 use Rattle.tour.specs.Tour.{Left, tourOf}
-use Rattle.demands.specs.Demand2.{ownOn, Numbered, Apart, Trials, begunOn, searchOn, passesOn, Begins, Order, Cut, Claim}
+use Rattle.demands.specs.Demand2.{ownOn, Numbered, Apart, Trials, begunOn, searchOn, passesOn, Begins, Order, Cut}
+use Rattle.demands.specs.Demand2.{Claim}
 use Rattle.demands.proofs.AskedLaws.{toured-if, done-fine, fine-nothing}
 use Rattle.demands.proofs.NextLaws.{starts}
 use Rattle.tour_laws.proofs.TourLaws.{start-long, tour-long, tour-legal}
@@ -50,12 +53,14 @@ vertices-are s k zero = refl
 vertices-are s k (suc v) = ap (λ (l : List Point). l ++ (pointAt s (vertexPlace k v) ∷ [])) (vertices-are s k v)
 
 -- the candidates gathered up to n hold those of each contour before
-gathered-own : (s : List ℕ) (n k j : ℕ) → k < n → j < length (offersOf s k) → getD (gathered s n) (length (gathered s k) + j) absent ≡ getD (offersOf s k) j absent
+gathered-own : (s : List ℕ) (n k j : ℕ) → k < n → j < length (offersOf s k)
+    → getD (gathered s n) (length (gathered s k) + j) absent ≡ getD (offersOf s k) j absent
 unfolding gathered
 gathered-own s zero k j h l = absurd (omega arith)
 gathered-own s (suc n) k j h l = go (same-or k n) (λ g. gathered-own s n k j g l)
   where
-    go : (k ≡ n) ⊎ (k ≡ n → ⊥) → (k < n → getD (gathered s n) (length (gathered s k) + j) absent ≡ getD (offersOf s k) j absent)
+    go : (k ≡ n) ⊎ (k ≡ n → ⊥)
+        → (k < n → getD (gathered s n) (length (gathered s k) + j) absent ≡ getD (offersOf s k) j absent)
         → getD (gathered s n ++ offersOf s n) (length (gathered s k) + j) absent ≡ getD (offersOf s k) j absent
     go (inl e) earlier =
         ap (λ (i : ℕ). getD (gathered s n ++ offersOf s n) (length (gathered s i) + j) absent) e
@@ -64,12 +69,15 @@ gathered-own s (suc n) k j h l = go (same-or k n) (λ g. gathered-own s n k j g 
     go (inr d) earlier =
         let more = gathered-grows s n (suc k) (omega arith) in
         let next = length-append (gathered s k) (offersOf s k) in
-        List·getD-append (gathered s n) (offersOf s n) absent (length (gathered s k) + j) (omega arith) ∙ earlier (omega arith)
+        List·getD-append (gathered s n) (offersOf s n) absent (length (gathered s k) + j) (omega arith)
+        ∙ earlier (omega arith)
 
 module _ (s : List ℕ) (fine : checkOf s ≡ Fine) where
   own-is : (k : ℕ) → k < contoursOf s → offersOf s k ≡ ownOn s k
   unfolding offersOf
-  own-is k h = ap (λ (ps : List Point). candidatesOf (wayOf s k) ps (perContourOf s)) (outline-whole s fine k h ∙ vertices-are s k (vertexCountOf s k))
+  own-is k h =
+      ap (λ (ps : List Point). candidatesOf (wayOf s k) ps (perContourOf s))
+      (outline-whole s fine k h ∙ vertices-are s k (vertexCountOf s k))
 
   numbered : Numbered s
   unfolding gathered
@@ -82,11 +90,13 @@ module _ (s : List ℕ) (fine : checkOf s ≡ Fine) where
     all = sym (first-at s (contoursOf s) (contoursOf s) (omega arith));
     own = λ k j h l.
         let room : j < length (offersOf s k) = rw (own-is k h) l in
-        rw (first-at s (contoursOf s) k (omega arith)) (gathered-own s (contoursOf s) k j h room ∙ ap (λ (cs : List Candidate). getD cs j absent) (own-is k h));
+        rw (first-at s (contoursOf s) k (omega arith))
+        (gathered-own s (contoursOf s) k j h room ∙ ap (λ (cs : List Candidate). getD cs j absent) (own-is k h));
     owner = λ k j h l.
         let room : j < length (offersOf s k) = rw (own-is k h) l in
         let next = length-append (gathered s k) (offersOf s k) in
-        rw (first-at s (contoursOf s) k (omega arith)) (owner-at s (contoursOf s) k (length (gathered s k) + j) h (omega arith) (omega arith));
+        rw (first-at s (contoursOf s) k (omega arith))
+        (owner-at s (contoursOf s) k (length (gathered s k) + j) h (omega arith) (omega arith));
   }
 
 apart : (s : List ℕ) (a b : ℕ) → a < countOn s → b < countOn s → Apart s a b
@@ -133,7 +143,14 @@ whole : (s : List ℕ) → checkOf s ≡ Fine → (M most : ℕ) → 3 ≤ conto
     → searched (chartOn s) most M (startOn s) ≡ passesOn s M most (begunOn s)
 unfolding searched repeated
 whole s fine M zero h = refl
-whole s fine M (suc k) h = rw (start-long s fine, lt-ltb 0 (suc k) (omega arith), le-leb 3 (contoursOf s) h, le-leb (contoursOf s) CONTOURS (accepted s fine .few-contours))
+whole s fine M (suc k) h =
+    rw (
+      start-long s fine,
+      lt-ltb 0 (suc k) (omega arith),
+      le-leb 3 (contoursOf s) h,
+      le-leb (contoursOf s) CONTOURS
+          (accepted s fine .few-contours),
+    )
 
 order : (s : List ℕ) → checkOf s ≡ Fine → (M : ℕ) → Order s M
 unfolding chartOn turn alternative row reversal pass repeated
@@ -173,7 +190,8 @@ module _ (s : List ℕ) where
       go : Twin (chartOn s) (length (startOn s)) (searchOn s M) (searchOn s 0)
           → (searchOn s M .moves ≡ M)
           × ((k : ℕ) × After (chartOn s) (length (startOn s)) (searchOn s M) (suc k) (searchOn s 0))
-      go (inl e) = let f : searchOn s M .moves ≡ searchOn s 0 .moves = ap (λ (v : State). v .moves) e in absurd (omega (arith, most))
+      go (inl e) = let f : searchOn s M .moves ≡ searchOn s 0 .moves =
+          ap (λ (v : State). v .moves) e in absurd (omega (arith, most))
       go (inr w) = let least = cut-at-limit (chartOn s) (passesOf s) M (startOn s) (w .0) in (omega (arith, most), w .1)
 
   -- with one trial more allowed, one more is made: the two cannot be the same, since they count differently
@@ -267,9 +285,11 @@ claim s room table told h =
     let fine = exactly s .fine-if (fine-nothing s room table clear .sound) in
     let all = done-fine s room table clear in
     let long = tour-long s fine in
-    let e : outcomeOn s ≡ told = (let d : Done (outcomeOn s) ≡ Done told = sym (ap (λ (l : Left). l .answer) all) ∙ h in cc) in
+    let e : outcomeOn s ≡ told =
+    (let d : Done (outcomeOn s) ≡ Done told = sym (ap (λ (l : Left). l .answer) all) ∙ h in cc) in
     let front : take (contoursOf s) (tourOf s room table .room) ≡ tourOn s =
-    ap (λ (l : Left). take (contoursOf s) (l .room)) all ∙ take-at (tourOn s) (drop (length (tourOn s)) room) (contoursOf s) long in
+    ap (λ (l : Left). take (contoursOf s) (l .room)) all
+    ∙ take-at (tourOn s) (drop (length (tourOn s)) room) (contoursOf s) long in
     record {
       numbered = numbered s fine;
       from-home = homes-at (candidatesOn s) (homeOn s);

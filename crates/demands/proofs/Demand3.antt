@@ -70,8 +70,10 @@ claim s room table told grid h =
     let clear = toured-if s room table told h in
     let fine = exactly s .fine-if (fine-nothing s room table clear .sound) in
     let all = done-fine s room table clear in
-    let e : outcomeOn s ≡ told = (let d : Done (outcomeOn s) ≡ Done told = sym (ap (λ (l : Left). l .answer) all) ∙ h in cc) in
+    let e : outcomeOn s ≡ told =
+    (let d : Done (outcomeOn s) ≡ Done told = sym (ap (λ (l : Left). l .answer) all) ∙ h in cc) in
     let front : take (contoursOf s) (tourOf s room table .room) ≡ tourOn s =
-    ap (λ (l : Left). take (contoursOf s) (l .room)) all ∙ take-at (tourOn s) (drop (length (tourOn s)) room) (contoursOf s) (tour-long s fine) in
+    ap (λ (l : Left). take (contoursOf s) (l .room)) all
+    ∙ take-at (tourOn s) (drop (length (tourOn s)) room) (contoursOf s) (tour-long s fine) in
     subst (λ (o : Outcome). Good s (take (contoursOf s) (tourOf s room table .room)) o) e
     (subst (λ (tour : List ℕ). Good s tour (outcomeOn s)) (sym front) (good s fine grid))

@@ -1,4 +1,5 @@
--- Each step of a fine card's start takes the first of the nearest candidates that are ready, and the steps make up the start. Assumes nothing.
+-- Each step of a fine card's start takes the first of the nearest candidates that are ready, and the steps make up the
+-- start. Assumes nothing.
 use mathlib.Core.Bool.{Bool, true, false, cond}
 use mathlib.Core.List.{List, [], _∷_, _++_}
 use mathlib.Core.Logic.{_⊎_, inl, inr}
@@ -55,7 +56,9 @@ step-grows g n i w =
     let choice = chosen g w n in
     go (choice .found) (choice .contour) (choice .candidate)
   where
-    go : (b : Bool) (k a : ℕ) → length (cond b (record { tour = w .tour ++ (a ∷ []); visited = set (w .visited) k 1 }) w .tour) ≤ suc (length (w .tour))
+    go : (b : Bool) (k a : ℕ)
+        → length (cond b (record { tour = w .tour ++ (a ∷ []); visited = set (w .visited) k 1 }) w .tour) ≤ suc
+        (length (w .tour))
     go true k a = let e = length-append (w .tour) (a ∷ []) in omega arith
     go false k a = omega arith
 
@@ -64,7 +67,8 @@ module _ (s : List ℕ) (fine : checkOf s ≡ Fine) where
   g = groundOn s
 
   way-next : (p : ℕ) → wayOn s (suc p) ≡ step g (contoursOf s) p (wayOn s p)
-  way-next p = each-last (step g (contoursOf s)) p 0 setOut ∙ ap (λ (i : ℕ). step g (contoursOf s) i (wayOn s p)) (zero-add p)
+  way-next p =
+      each-last (step g (contoursOf s)) p 0 setOut ∙ ap (λ (i : ℕ). step g (contoursOf s) i (wayOn s p)) (zero-add p)
 
   whole : startOn s ≡ wayOn s (contoursOf s) .tour
   unfolding nearest walked
@@ -88,7 +92,8 @@ module _ (s : List ℕ) (fine : checkOf s ≡ Fine) where
   exactly-so p h =
       let e : p + (contoursOf s - p) ≡ contoursOf s = omega arith in
       let a = no-faster (contoursOf s - p) p in
-      let b : length (wayOn s (p + (contoursOf s - p)) .tour) ≡ contoursOf s = ap (λ (q : ℕ). length (wayOn s q .tour)) e ∙ ap length (sym whole) ∙ start-long s fine in
+      let b : length (wayOn s (p + (contoursOf s - p)) .tour) ≡ contoursOf s =
+      ap (λ (q : ℕ). length (wayOn s q .tour)) e ∙ ap length (sym whole) ∙ start-long s fine in
       let c = at-most p in
       omega arith
 
@@ -96,26 +101,32 @@ module _ (s : List ℕ) (fine : checkOf s ≡ Fine) where
 
   below : (p : ℕ) → AllBelow (countOn s) (wayOn s p .tour)
   unfolding AllBelow chartOn
-  below p = each-keeps (λ w. AllBelow (countOn s) (w .tour)) (step g (contoursOf s)) p 0 (λ i l h w. step-below g (contoursOf s) (countOn s) i w (firsts-below s (contoursOf s))) setOut tt
+  below p = each-keeps (λ w. AllBelow (countOn s) (w .tour)) (step g (contoursOf s)) p 0
+      (λ i l h w. step-below g (contoursOf s) (countOn s) i w (firsts-below s (contoursOf s))) setOut tt
 
   home-real : (b : ℕ) → b < countOn s → Real (getD (homesOn s) b nan)
-  home-real b h = rw (homes-at (candidatesOn s) (homeOn s) b h) (real-between (homeOn s) (stopOf (candidatesOn s) b) (home-near s fine) (candidate-near s fine b h))
+  home-real b h =
+      rw (homes-at (candidatesOn s) (homeOn s) b h)
+      (real-between (homeOn s) (stopOf (candidatesOn s) b) (home-near s fine) (candidate-near s fine b h))
 
   table-real : (a b : ℕ) → a < countOn s → b < countOn s → Real (getD (tableOn s) (a * countOn s + b) nan)
   unfolding ofBits ofFields odd
   table-real a b ha hb = go (same-or (getD (ownersOn s) a 0) (getD (ownersOn s) b 0))
     where
-      go : (getD (ownersOn s) a 0 ≡ getD (ownersOn s) b 0) ⊎ (getD (ownersOn s) a 0 ≡ getD (ownersOn s) b 0 → ⊥) → Real (getD (tableOn s) (a * countOn s + b) nan)
+      go : (getD (ownersOn s) a 0 ≡ getD (ownersOn s) b 0) ⊎ (getD (ownersOn s) a 0 ≡ getD (ownersOn s) b 0 → ⊥)
+          → Real (getD (tableOn s) (a * countOn s + b) nan)
       go (inl e) = rw (same-contour (candidatesOn s) (ownersOn s) a b ha hb e) refl
       go (inr d) =
           rw (leg-is (candidatesOn s) (ownersOn s) (ends-gathered s (contoursOf s)) a b ha hb d)
-          (real-between (stopOf (candidatesOn s) a) (stopOf (candidatesOn s) b) (candidate-near s fine a ha) (candidate-near s fine b hb))
+          (real-between (stopOf (candidatesOn s) a) (stopOf (candidatesOn s) b) (candidate-near s fine a ha)
+          (candidate-near s fine b hb))
 
   reach-real : (w : Way) → AllBelow (countOn s) (w .tour) → (b : ℕ) → b < countOn s → Real (reachOn s w b)
   unfolding reachOf chartOn
   reach-real w h b l = go (eqb (length (w .tour)) 0) refl
     where
-      go : (c : Bool) → eqb (length (w .tour)) 0 ≡ c → Real (cond c (getD (homesOn s) b nan) (getD (tableOn s) (lastOf (w .tour) * countOn s + b) nan))
+      go : (c : Bool) → eqb (length (w .tour)) 0 ≡ c
+          → Real (cond c (getD (homesOn s) b nan) (getD (tableOn s) (lastOf (w .tour) * countOn s + b) nan))
       go true e = home-real b l
       go false e =
           let some = eqb-false (length (w .tour)) 0 e in
@@ -131,11 +142,19 @@ module _ (s : List ℕ) (fine : checkOf s ≡ Fine) where
 
   opened : (w : Way) (b : ℕ) → Ready s w b → Open g w (contoursOf s) b
   unfolding chartOn
-  opened w b r = record { contour = r .contour; below = r .is-contour; is-open = r .is-open; among = record { from = r .from; to = r .to } }
+  opened w b r =
+      record {
+        contour = r .contour;
+        below = r .is-contour;
+        is-open = r .is-open;
+        among =
+            record { from = r .from; to = r .to };
+      }
 
   reals : (w : Way) → AllBelow (countOn s) (w .tour) → (b : ℕ) → Open g w (contoursOf s) b → Real (reachOn s w b)
   unfolding chartOn
-  reals w h b o = reach-real w h b (let l = firsts-below s (contoursOf s) (suc (o .contour)) in omega (arith, o .among .to))
+  reals w h b o =
+      reach-real w h b (let l = firsts-below s (contoursOf s) (suc (o .contour)) in omega (arith, o .among .to))
 
   -- what a step takes, if it finds something
   takes : (i : ℕ) (w : Way) → AllBelow (countOn s) (w .tour)
@@ -145,7 +164,14 @@ module _ (s : List ℕ) (fine : checkOf s ≡ Fine) where
   takes i w h e =
       let fair = chosen-fair g w (contoursOf s) e in
       record {
-        ready = record { contour = _; is-contour = fair .within; is-open = fair .«open»; from = fair .candidate .from; to = fair .candidate .to };
+        ready = record {
+          contour = _;
+          is-contour = fair .within;
+          is-open = fair .«open»;
+          from =
+              fair .candidate .from;
+          to = fair .candidate .to;
+        };
         least = λ b r. chosen-least g w (contoursOf s) rises (reals w h) e b (opened w b r);
         first = λ b r l. chosen-first g w (contoursOf s) rises (reals w h) e b (opened w b r) l;
         put = rw e;
@@ -167,7 +193,8 @@ module _ (s : List ℕ) (fine : checkOf s ≡ Fine) where
           let a = chosen g (wayOn s p) (contoursOf s) .candidate in
           (a, subst (λ (v : Way). Takes s (wayOn s p) v a) (sym (way-next p)) (takes p (wayOn s p) (below p) e))
       go false e =
-          let same : length (wayOn s (suc p) .tour) ≡ length (wayOn s p .tour) = ap (λ (v : Way). length (v .tour)) (way-next p) ∙ ap length (idle p (wayOn s p) e) in
+          let same : length (wayOn s (suc p) .tour) ≡ length (wayOn s p .tour) =
+          ap (λ (v : Way). length (v .tour)) (way-next p) ∙ ap length (idle p (wayOn s p) e) in
           let here = exactly-so p (omega arith) in
           let there = exactly-so (suc p) h in
           absurd (omega arith)

@@ -3,7 +3,8 @@ use mathlib.Core.Path.{_≡_, sym, _∙_}
 use mathlib.Core.List.{List}
 use Prim.Native.Nat.{ℕ}
 use Rattle.answer.proofs.UniqueLaws.{one}
-use Rattle.demands.specs.Unique.{OfNumbers, OfBlocks, OfCost, OfCandidates, OfPairs, OfCards, OfReader, OfSearch, OfTours, Claim}
+use Rattle.demands.specs.Unique.{OfNumbers, OfBlocks, OfCost, OfCandidates, OfPairs, OfCards, OfReader, OfSearch}
+use Rattle.demands.specs.Unique.{OfTours, Claim}
 
 -- what is told and the room, each by itself
 pair : {A : Type 0} {a b : A} {l m : List ℕ} → a ≡ b → l ≡ m → _≡_ {A = A × List ℕ} (a, l) (b, m)

@@ -1,8 +1,8 @@
--- Demand 1: a card is sent back exactly when the table of refusals says so, with the number and the place that it says, and then nothing
--- that was lent has changed; and a card without an earlier fault is sent back with 12 exactly when there is no order in which it could
--- be cut. s is the card, any bytes whatever; room and table are lent for the tour and for the distances, of any size.
--- checkOf is what `card::check` promises and tourOf what `tour::tour` does; the rows of the table are in
--- card_laws/specs/Table, the orders in card_laws/specs/Orders. Assumes nothing.
+-- Demand 1: a card is sent back exactly when the table of refusals says so, with the number and the place that it says,
+-- and then nothing that was lent has changed; and a card without an earlier fault is sent back with 12 exactly when
+-- there is no order in which it could be cut. s is the card, any bytes whatever; room and table are lent for the tour
+-- and for the distances, of any size. checkOf is what `card::check` promises and tourOf what `tour::tour` does; the
+-- rows of the table are in card_laws/specs/Table, the orders in card_laws/specs/Orders. Assumes nothing.
 use mathlib.Core.Path.{_≡_}
 use mathlib.Core.Logic.{_↔_}
 use mathlib.Core.List.{List}
@@ -22,10 +22,12 @@ use Rattle.tour.specs.Tour.{tourOf}
 
 -- ---- 13
 
--- the tour's room is under n entries; else the table's is under t * t, t being the card's candidates in all. The place: what is needed
+-- the tour's room is under n entries; else the table's is under t * t, t being the card's candidates in all. The place:
+-- what is needed
 pub data Row13 (s room : List ℕ) (table : List Float) : ℕ → Type 0 where
   small-room : length room < contoursOf s → Row13 s room table (contoursOf s)
-  small-table : contoursOf s ≤ length room → length table < countOn s * countOn s → Row13 s room table (countOn s * countOn s)
+  small-table : contoursOf s ≤ length room → length table < countOn s * countOn s
+      → Row13 s room table (countOn s * countOn s)
 
 -- a number is given at a place: by the card itself, in the order of its rows, or 13 where none of them holds
 pub data GivenWith (s room : List ℕ) (table : List Float) : ℕ → ℕ → Type 0 where
@@ -48,7 +50,8 @@ pub record Checked (s : List ℕ) : Type 0 where
 
 -- whoever asks for the tour
 pub record Asked (s room : List ℕ) (table : List Float) : Type 0 where
-  pub refused : (r : Refusal) → (tourOf s room table .answer ≡ answer.Refused r) ↔ GivenWith s room table (r .number) (r .place)
+  pub refused : (r : Refusal)
+      → (tourOf s room table .answer ≡ answer.Refused r) ↔ GivenWith s room table (r .number) (r .place)
   pub done : (tourOf s room table .answer ≡ answer.Done (outcomeOn s)) ↔ Nothing s room table
   pub room-kept : (r : Refusal) → tourOf s room table .answer ≡ answer.Refused r → tourOf s room table .room ≡ room
   pub table-kept : (r : Refusal) → tourOf s room table .answer ≡ answer.Refused r → tourOf s room table .table ≡ table

@@ -1,6 +1,6 @@
--- Demand 3: where home and all candidates of a card lie on a grid, the tour that is handed out cuts each contour once and of each pair
--- the first before the second; the length reported is within 2^-28 mm of the exact one; and the tour is at most 2^-27 mm longer than
--- the start, exactly. tourOf is what `tour::tour` promises. Assumes nothing.
+-- Demand 3: where home and all candidates of a card lie on a grid, the tour that is handed out cuts each contour once
+-- and of each pair the first before the second; the length reported is within 2^-28 mm of the exact one; and the tour
+-- is at most 2^-27 mm longer than the start, exactly. tourOf is what `tour::tour` promises. Assumes nothing.
 use mathlib.Core.Path.{_≡_}
 use mathlib.Core.List.{List, map}
 use Prim.Native.Nat.{ℕ, _+_, _*_, _^_, _≤_, _<_}
@@ -42,9 +42,9 @@ nearness n = 2 ^ 12
 abbrev pub excess : ℕ → ℕ
 excess n = 2 ^ 13
 
--- what is claimed of a tour and what is told of it: legal; its length a finite number, not below zero and near to both ends of the interval
--- that the exact length lies in; and its upper end no more than the excess above the start's lower end. All lengths are whole numbers of
--- steps of 2^-1074 mm
+-- what is claimed of a tour and what is told of it: legal; its length a finite number, not below zero and near to both
+-- ends of the interval that the exact length lies in; and its upper end no more than the excess above the start's lower
+-- end. All lengths are whole numbers of steps of 2^-1074 mm
 pub record Good (s tour : List ℕ) (told : Outcome) : Type 0 where
   pub legal : LegalOrder s (contours (ownersOn s) tour)
   pub near : NearEnds (nearness (contoursOf s)) (told .length) (legsOn s tour)

@@ -1,4 +1,5 @@
--- The starred cases of the scope document's section "Both sides of each edge", one table. Floats are given by their bits. Assumes nothing.
+-- The starred cases of the scope document's section "Both sides of each edge", one table. Floats are given by their
+-- bits. Assumes nothing.
 use mathlib.Core.Path.{_≡_}
 use mathlib.Core.List.{List, [], _∷_, map}
 use Prim.Native.Nat.{ℕ, _-_}
@@ -52,7 +53,13 @@ pub record Line : Type 0 where
 unfoldable pub lineOf : List ℕ → ℕ → Line
 lineOf s a =
     let k = getD (ownersOn s) a 0 in
-    record { id = idOf s k; tag = tagOf s k; candidate = a - getD (firstsOn s) k 0; direction = getD (candidatesOn s) a blank .direction }
+    record {
+      id = idOf s k;
+      tag = tagOf s k;
+      candidate = a - getD (firstsOn s) k 0;
+      direction =
+          getD (candidatesOn s) a blank .direction;
+    }
 
 -- the list of a card that is written
 abbrev pub listOf : Card → List Line
@@ -73,9 +80,12 @@ pub record OfRoots : Type 0 where
 -- the square: two candidates, the second of four, the point closest to (2,2)
 pub record OfSquare : Type 0 where
   pub two-candidates : (way : CutDirection)
-      → candidatesOf way (points square) 2 ≡ candidateAt way (spot (point zero64 zero64) 0) ∷ candidateAt way (spot (point four64 four64) 1) ∷ []
-  pub second-of-four : (way : CutDirection) → getD (candidatesOf way (points square) 4) 1 blank ≡ candidateAt way (spot (point four64 zero64) 0)
-  pub closest : closestOnPolygonOf square (point two64 two64) ≡ At (record { point = point two64 zero64; vertex = 0; t = half64 })
+      → candidatesOf way (points square) 2 ≡ candidateAt way (spot (point zero64 zero64) 0)
+      ∷ candidateAt way (spot (point four64 four64) 1) ∷ []
+  pub second-of-four : (way : CutDirection)
+      → getD (candidatesOf way (points square) 4) 1 blank ≡ candidateAt way (spot (point four64 zero64) 0)
+  pub closest : closestOnPolygonOf square (point two64 two64)
+      ≡ At (record { point = point two64 zero64; vertex = 0; t = half64 })
 
 -- no contours and no pairs: accepted, an empty tour, no trial, length 0
 pub record OfNothing : Type 0 where

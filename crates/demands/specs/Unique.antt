@@ -1,5 +1,6 @@
--- For each callable function two answers that meet its promise are equal: what is answered, and every lent room afterwards. A promise is
--- an equation with a definition, or a record of such equations; it speaks of every input, refused ones too. Assumes nothing.
+-- For each callable function two answers that meet its promise are equal: what is answered, and every lent room
+-- afterwards. A promise is an equation with a definition, or a record of such equations; it speaks of every input,
+-- refused ones too. Assumes nothing.
 use mathlib.Core.List.{List, []}
 use Prim.Native.Nat.{ℕ, _+_, _-_, min}
 use denote.Ref.{now}
@@ -30,8 +31,11 @@ use Rattle.candidates.specs.Generate.{candidatesOf, filled}
 use Rattle.candidates.specs.Question.{offeredOf}
 use Rattle.closure.specs.Cycle.{firstOnCycle}
 use Rattle.keep.specs.Keep.{keptAt, keepsPairs, readyIn}
-use Rattle.hierarchy.specs.Questions.{numContours, precedencesOf, violatesOf, predecessorsOf, successorsOf, validSequence, topologicalSort}
-use Rattle.fields.specs.Layout.{payload, jobOf, contoursOf, pairsOf, perContourOf, passesOf, moveLimitOf, homePlace, exteriorOf, interiorOf, idOf, tagOf, vertexCountOf, typeOf, vertexPlace, beforeIdOf, beforeTagOf, afterIdOf, afterTagOf}
+use Rattle.hierarchy.specs.Questions.{numContours, precedencesOf, violatesOf, predecessorsOf, successorsOf}
+use Rattle.hierarchy.specs.Questions.{validSequence, topologicalSort}
+use Rattle.fields.specs.Layout.{payload, jobOf, contoursOf, pairsOf, perContourOf, passesOf, moveLimitOf, homePlace}
+use Rattle.fields.specs.Layout.{exteriorOf, interiorOf, idOf, tagOf, vertexCountOf, typeOf, vertexPlace, beforeIdOf}
+use Rattle.fields.specs.Layout.{beforeTagOf, afterIdOf, afterTagOf}
 use Rattle.fields.specs.Values.{asType, asPreference, pointAt}
 use Rattle.reader.specs.declared.Width.{Width}
 use Rattle.reader.specs.declared.Reader.{Reader}
@@ -95,11 +99,14 @@ pub record OfCost : Type 0 where
 
 -- candidates
 pub record OfCandidates : Type 0 where
-  pub determine-direction : (kind : ContourType) (exterior interior : CutDirectionPreference) → OneAnswer (Is (directionOf kind exterior interior))
+  pub determine-direction : (kind : ContourType) (exterior interior : CutDirectionPreference)
+      → OneAnswer (Is (directionOf kind exterior interior))
   pub perimeter : (numbers : List Float) → OneAnswer (Is (perimeterOf (points numbers)))
   pub spot-at : (numbers : List Float) (d : Float) → OneAnswer (Is (spotAt (points numbers) d))
-  pub candidates-of : (numbers : List Float) (c : ℕ) (kind : ContourType) (exterior interior : CutDirectionPreference) → OneAnswer (Is (filled (candidatesOf (directionOf kind exterior interior) (points numbers) c)))
-  pub contour-candidates : (numbers : List Float) (c : ℕ) (kind : ContourType) (exterior interior : CutDirectionPreference) → OneAnswer (Is (offeredOf numbers c kind exterior interior))
+  pub candidates-of : (numbers : List Float) (c : ℕ) (kind : ContourType) (exterior interior : CutDirectionPreference)
+      → OneAnswer (Is (filled (candidatesOf (directionOf kind exterior interior) (points numbers) c)))
+  pub contour-candidates : (numbers : List Float) (c : ℕ) (kind : ContourType)
+      (exterior interior : CutDirectionPreference) → OneAnswer (Is (offeredOf numbers c kind exterior interior))
 
 -- closure and hierarchy
 pub record OfPairs : Type 0 where
@@ -162,10 +169,14 @@ pub record OfSearch : Type 0 where
   pub byte-at : (l : List ℕ) (i : ℕ) → OneAnswer (Is (getD l i 0))
   pub home-at : (home : List Float) (a : ℕ) → OneAnswer (Is (homeAt home a))
   pub distance-at : (table : List Float) (t a b : ℕ) → OneAnswer (Is (distanceAt table t a b))
-  pub evaluate-solution : (home table : List Float) (t : ℕ) (tour : List ℕ) → OneAnswer (Is (lengthOf home table t tour))
-  pub fill-table : (items : List Candidate) (t : ℕ) (owner : List ℕ) (room : List Float) → OneAnswer (Is (tabled items t owner room))
-  pub fill-home : (items : List Candidate) (t : ℕ) (home : Point) (room : List Float) → OneAnswer (Is (homed items t home room))
-  pub nn-constrained : (g : Ground) (n : ℕ) (room : List ℕ) → OneAnswer {A = ℕ × List ℕ} (λ a. Written (nearest g n) room (a .0) (a .1))
+  pub evaluate-solution : (home table : List Float) (t : ℕ) (tour : List ℕ)
+      → OneAnswer (Is (lengthOf home table t tour))
+  pub fill-table : (items : List Candidate) (t : ℕ) (owner : List ℕ) (room : List Float)
+      → OneAnswer (Is (tabled items t owner room))
+  pub fill-home : (items : List Candidate) (t : ℕ) (home : Point) (room : List Float)
+      → OneAnswer (Is (homed items t home room))
+  pub nn-constrained : (g : Ground) (n : ℕ) (room : List ℕ)
+      → OneAnswer {A = ℕ × List ℕ} (λ a. Written (nearest g n) room (a .0) (a .1))
   pub solve-nn : (home table : List Float) (t : ℕ) (first : List ℕ) (n : ℕ) (room : List ℕ)
       → OneAnswer {A = ℕ × List ℕ} (λ a. Written (nearest (groundOf home table t first []) n) room (a .0) (a .1))
   pub improve : (s : State) → OneAnswer {A = ℕ × List ℕ} (λ a. Reached (a .0) (a .1) s)

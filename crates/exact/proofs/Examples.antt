@@ -1,4 +1,5 @@
--- The route of job 41 of the scope document, computed: its points are on the grid, its legs are 5, 4 and 15 mm, and the interval starts at 24 mm. Assumes nothing.
+-- The route of job 41 of the scope document, computed: its points are on the grid, its legs are 5, 4 and 15 mm, and the
+-- interval starts at 24 mm. Assumes nothing.
 use mathlib.Core.Path.{_≡_, refl}
 use mathlib.Core.Bool.{true}
 use mathlib.Core.List.{List, [], _∷_}
@@ -22,7 +23,8 @@ home = at 0 0
 
 -- (3,4), (3,0), (12,12)
 abbrev stops : List Point
-stops = at 0x4008_0000_0000_0000 0x4010_0000_0000_0000 ∷ at 0x4008_0000_0000_0000 0 ∷ at 0x4028_0000_0000_0000 0x4028_0000_0000_0000 ∷ []
+stops = at 0x4008_0000_0000_0000 0x4010_0000_0000_0000 ∷ at 0x4008_0000_0000_0000 0
+    ∷ at 0x4028_0000_0000_0000 0x4028_0000_0000_0000 ∷ []
 
 on-the-grid : gridPoints (home ∷ stops) ≡ true
 unfolding gridPoints ofBits ofFields odd trailingZeros

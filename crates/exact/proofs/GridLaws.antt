@@ -1,8 +1,11 @@
--- On the grid the differences, their squares and the sum are exact, so only the root of a leg's length is rounded. Assumes nothing.
+-- On the grid the differences, their squares and the sum are exact, so only the root of a leg's length is rounded.
+-- Assumes nothing.
 use mathlib.Core.Path.{_≡_, refl, sym, ap, _∙_, subst}
 use mathlib.Core.Bool.{Bool, true, false, not, _&&_, Bool·beq, cond, true≢false}
 use Prim.Native.Nat.{ℕ, _+_, _-_, _*_, _%_, _^_, _≤_, _<_}
-use native.Mathlib.Nat.{le-trans, le-of-eq, le-of-lt, lt-of-le-of-lt, le-dest, mul-assoc, mul-le-mul, mul-le-mul-right, mul-pos, le-of-mul-le-mul-right, mul-mul-mul-comm, div-add-mod', add-comm, add-le-add, mul-right-comm}
+use native.Mathlib.Nat.{le-trans, le-of-eq, le-of-lt, lt-of-le-of-lt, le-dest, mul-assoc, mul-le-mul, mul-le-mul-right}
+use native.Mathlib.Nat.{mul-pos, le-of-mul-le-mul-right, mul-mul-mul-comm, div-add-mod', add-comm, add-le-add}
+use native.Mathlib.Nat.{mul-right-comm}
 use native.Mathlib.Omega.{arith}
 use lib.Dec.{T, eqb, leb, ltb, eqb→eq, leb→le, ltb→lt, nltb→le, lit≤, lit<}
 use lib.Ieee.{Float, nan, inf, fin, Format, binary64, up, down, round, sum, add, sub, mul, neg, fits}
@@ -26,7 +29,9 @@ unfolding onGrid
 on-grid-value nan t = absurd t
 on-grid-value (inf s) t = absurd t
 on-grid-value (fin s m e) t =
-    let z : m * up e * perMm % down e ≡ 0 = eqb→eq (m * up e * perMm % down e) 0 (and-l (eqb (m * up e * perMm % down e) 0) (leb (m * up e) (reach * down e)) t) in
+    let z : m * up e * perMm % down e ≡ 0 =
+    eqb→eq (m * up e * perMm % down e) 0 (and-l (eqb (m * up e * perMm % down e) 0)
+    (leb (m * up e) (reach * down e)) t) in
     let d = div-add-mod' (m * up e * perMm) (down e) in
     (refl, omega arith)
 
@@ -35,7 +40,8 @@ unfolding onGrid
 on-grid-small nan t = absurd t
 on-grid-small (inf s) t = absurd t
 on-grid-small (fin s m e) t =
-    let l = leb→le (m * up e) (reach * down e) (and-r (eqb (m * up e * perMm % down e) 0) (leb (m * up e) (reach * down e)) t) in
+    let l = leb→le (m * up e) (reach * down e) (and-r (eqb (m * up e * perMm % down e) 0)
+    (leb (m * up e) (reach * down e)) t) in
     let d = div-add-mod' (m * up e * perMm) (down e) in
     le-of-mul-le-mul-right {k = down e} (omega arith) (down-pos e)
 
@@ -54,7 +60,9 @@ apart-small x y t u = go (Bool·beq (signOf x) (signOf y))
 
 -- with one denominator on each side
 gap-less : (A B C a b c : ℕ) → 0 < C → A * c ≡ b * C → B * c ≡ a * C → A ≤ B → (B - A) * c ≡ gap a b * C
-gap-less A B C a b c h p q l = go (le-dest l) (le-dest (le-of-mul-le-mul-right {k = C} (le-trans (le-of-eq (sym p)) (le-trans (mul-le-mul-right c l) (le-of-eq q))) h))
+gap-less A B C a b c h p q l =
+    go (le-dest l) (le-dest (le-of-mul-le-mul-right {k = C}
+    (le-trans (le-of-eq (sym p)) (le-trans (mul-le-mul-right c l) (le-of-eq q))) h))
   where
     go : (w : ℕ) × (A + w ≡ B) → (z : ℕ) × (b + z ≡ a) → (B - A) * c ≡ gap a b * C
     go (w, i) (z, j) =
@@ -68,12 +76,18 @@ gap-comm a b = add-comm (a - b) (b - a)
 
 -- which of the two, and its sign, do not matter to its size
 unlike-signs : (f : Format) (r : Bool) (A B C a b c : ℕ) → 0 < C → 0 < c → A * c ≡ b * C → B * c ≡ a * C
-    → (s : Bool) × (cond (ltb A B) (round f (not r) (B - A) C) (round f (r && ltb B A) (A - B) C) ≡ round f s (gap a b) c)
+    → (s : Bool) × (cond (ltb A B) (round f (not r) (B - A) C) (round f (r && ltb B A) (A - B) C)
+    ≡ round f s (gap a b) c)
 unlike-signs f r A B C a b c h k p q = go (ltb A B) (ltb→lt A B) (nltb→le A B)
   where
-    go : (t : Bool) → (T t → A < B) → (T (not t) → B ≤ A) → (s : Bool) × (cond t (round f (not r) (B - A) C) (round f (r && ltb B A) (A - B) C) ≡ round f s (gap a b) c)
+    go : (t : Bool) → (T t → A < B) → (T (not t) → B ≤ A)
+        → (s : Bool) × (cond t (round f (not r) (B - A) C) (round f (r && ltb B A) (A - B) C) ≡ round f s (gap a b) c)
     go true l g = (not r, round-same f (not r) (B - A) C (gap a b) c h k (gap-less A B C a b c h p q (le-of-lt (l tt))))
-    go false l g = (r && ltb B A, round-same f (r && ltb B A) (A - B) C (gap a b) c h k (gap-less B A C b a c h q p (g tt) ∙ ap (λ (n : ℕ). n * C) (gap-comm b a)))
+    go false l g = (
+      r && ltb B A,
+      round-same f (r && ltb B A) (A - B) C (gap a b) c h k
+          (gap-less B A C b a c h q p (g tt) ∙ ap (λ (n : ℕ). n * C) (gap-comm b a)),
+    )
 
 -- ±b less ±a, by how far they are apart
 abbrev sizeBetween : Bool → ℕ → Bool → ℕ → ℕ
@@ -88,7 +102,8 @@ over x a c d e p = omega (arith, ap (λ (z : ℕ). z * e) p)
 over-right : (x a c d e : ℕ) → x * c ≡ a * e → x * d * c ≡ a * (d * e)
 over-right x a c d e p = omega (arith, ap (λ (z : ℕ). z * d) p)
 
-sub-at : (f : Format) (y x : Float) (b a c : ℕ) → 0 < c → HasValue y (signOf y) b c → HasValue x (signOf x) a c → (r : Bool) × (sub f y x ≡ round f r (sizeBetween (signOf x) a (signOf y) b) c)
+sub-at : (f : Format) (y x : Float) (b a c : ℕ) → 0 < c → HasValue y (signOf y) b c → HasValue x (signOf x) a c
+    → (r : Bool) × (sub f y x ≡ round f r (sizeBetween (signOf x) a (signOf y) b) c)
 unfolding sub add neg sum
 sub-at f nan x b a c h p q = absurd p
 sub-at f (inf r) x b a c h p q = absurd p
@@ -101,54 +116,80 @@ sub-at f (fin t n d) (fin s m e) b a c h p q =
     C-pos = mul-pos (down-pos d) (down-pos e)
 
     go : (t s : Bool) → n * up d * down e * c ≡ b * (down d * down e) → m * up e * down d * c ≡ a * (down d * down e)
-        → (r : Bool) × (sum f t (n * up d * down e) (not s) (m * up e * down d) (down d * down e) ≡ round f r (sizeBetween s a t b) c)
-    go false false i j = unlike-signs f false (n * up d * down e) (m * up e * down d) (down d * down e) a b c C-pos h i j
+        → (r : Bool) × (sum f t (n * up d * down e) (not s) (m * up e * down d) (down d * down e)
+        ≡ round f r (sizeBetween s a t b) c)
+    go false false i j =
+        unlike-signs f false (n * up d * down e) (m * up e * down d) (down d * down e) a b c C-pos h i j
     go true true i j = unlike-signs f true (n * up d * down e) (m * up e * down d) (down d * down e) a b c C-pos h i j
-    go false true i j = (false, round-same f false (n * up d * down e + m * up e * down d) (down d * down e) (a + b) c C-pos h (sum-cross (n * up d * down e) (m * up e * down d) (down d * down e) a b c i j))
-    go true false i j = (true, round-same f true (n * up d * down e + m * up e * down d) (down d * down e) (a + b) c C-pos h (sum-cross (n * up d * down e) (m * up e * down d) (down d * down e) a b c i j))
+    go false true i j = (
+      false,
+      round-same f false (n * up d * down e + m * up e * down d) (down d * down e) (a + b) c C-pos h
+          (sum-cross (n * up d * down e) (m * up e * down d) (down d * down e) a b c i j),
+    )
+    go true false i j = (
+      true,
+      round-same f true (n * up d * down e + m * up e * down d) (down d * down e) (a + b) c C-pos h
+          (sum-cross (n * up d * down e) (m * up e * down d) (down d * down e) a b c i j),
+    )
 
 -- ---- a whole number of 2^-10 or 2^-20 of no more than 49 digits is a number of binary64
 
 small-tenth : (s : Bool) (g : ℕ) → g ≤ 2 ^ 24 → HasValue (round binary64 s g perMm) s g perMm
 small-tenth s g h =
-    round-exact binary64 s g perMm g 1064 (lit< tt) (lt-of-le-of-lt h (lit< tt)) (lt-of-le-of-lt (mul-le-mul-right (2 ^ 1064) h) (lit< tt)) (sym (mul-assoc g (2 ^ 1064) perMm))
+    round-exact binary64 s g perMm g 1064 (lit< tt) (lt-of-le-of-lt h (lit< tt))
+    (lt-of-le-of-lt (mul-le-mul-right (2 ^ 1064) h) (lit< tt)) (sym (mul-assoc g (2 ^ 1064) perMm))
 
 small-twentieth : (g : ℕ) → g ≤ 2 ^ 49 → HasValue (round binary64 false g (2 ^ 20)) false g (2 ^ 20)
 small-twentieth g h =
-    round-exact binary64 false g (2 ^ 20) g 1054 (lit< tt) (lt-of-le-of-lt h (lit< tt)) (lt-of-le-of-lt (mul-le-mul-right (2 ^ 1054) h) (lit< tt)) (sym (mul-assoc g (2 ^ 1054) (2 ^ 20)))
+    round-exact binary64 false g (2 ^ 20) g 1054 (lit< tt) (lt-of-le-of-lt h (lit< tt))
+    (lt-of-le-of-lt (mul-le-mul-right (2 ^ 1054) h) (lit< tt)) (sym (mul-assoc g (2 ^ 1054) (2 ^ 20)))
 
 -- ---- the difference of two coordinates, and its square
 
-pub difference-exact : (x y : Float) → T (onGrid x) → T (onGrid y) → (s : Bool) × HasValue (sub binary64 y x) s (apart x y) perMm
+pub difference-exact : (x y : Float) → T (onGrid x) → T (onGrid y)
+    → (s : Bool) × HasValue (sub binary64 y x) s (apart x y) perMm
 unfolding apart
 difference-exact x y t u =
     go (sub-at binary64 y x (unitsOf y) (unitsOf x) perMm (lit< tt) (on-grid-value y u) (on-grid-value x t))
   where
-    go : (r : Bool) × (sub binary64 y x ≡ round binary64 r (sizeBetween (signOf x) (unitsOf x) (signOf y) (unitsOf y)) perMm) → (s : Bool) × HasValue (sub binary64 y x) s (sizeBetween (signOf x) (unitsOf x) (signOf y) (unitsOf y)) perMm
-    go (r, e) = (r, subst (λ (z : Float). HasValue z r (sizeBetween (signOf x) (unitsOf x) (signOf y) (unitsOf y)) perMm) (sym e) (small-tenth r (sizeBetween (signOf x) (unitsOf x) (signOf y) (unitsOf y)) (apart-small x y t u)))
+    go : (r : Bool) × (sub binary64 y x
+        ≡ round binary64 r (sizeBetween (signOf x) (unitsOf x) (signOf y) (unitsOf y)) perMm)
+        → (s : Bool) × HasValue (sub binary64 y x) s (sizeBetween (signOf x) (unitsOf x) (signOf y) (unitsOf y)) perMm
+    go (r, e) = (
+      r,
+      subst (λ (z : Float). HasValue z r (sizeBetween (signOf x) (unitsOf x) (signOf y) (unitsOf y)) perMm)
+          (sym e) (small-tenth r (sizeBetween (signOf x) (unitsOf x) (signOf y) (unitsOf y)) (apart-small x y t u)),
+    )
 
-square-at : (d : Float) (s : Bool) (g : ℕ) → HasValue d s g perMm → mul binary64 d d ≡ round binary64 false (g * g) (2 ^ 20)
+square-at : (d : Float) (s : Bool) (g : ℕ) → HasValue d s g perMm
+    → mul binary64 d d ≡ round binary64 false (g * g) (2 ^ 20)
 unfolding mul
 square-at nan s g h = absurd h
 square-at (inf t) s g h = absurd h
 square-at (fin t m e) s g h = go t
   where
     cross : m * up e * (m * up e) * (2 ^ 20) ≡ g * g * (down e * down e)
-    cross = mul-mul-mul-comm (m * up e) (m * up e) perMm perMm ∙ ap (λ (z : ℕ). z * (m * up e * perMm)) (h .1) ∙ ap (λ (z : ℕ). g * down e * z) (h .1) ∙ mul-mul-mul-comm g (down e) g (down e)
+    cross = mul-mul-mul-comm (m * up e) (m * up e) perMm perMm ∙ ap (λ (z : ℕ). z * (m * up e * perMm)) (h .1)
+        ∙ ap (λ (z : ℕ). g * down e * z) (h .1) ∙ mul-mul-mul-comm g (down e) g (down e)
 
     go : (t : Bool) → mul binary64 (fin t m e) (fin t m e) ≡ round binary64 false (g * g) (2 ^ 20)
-    go true = round-same binary64 false (m * up e * (m * up e)) (down e * down e) (g * g) (2 ^ 20) (mul-pos (down-pos e) (down-pos e)) (lit< tt) cross
-    go false = round-same binary64 false (m * up e * (m * up e)) (down e * down e) (g * g) (2 ^ 20) (mul-pos (down-pos e) (down-pos e)) (lit< tt) cross
+    go true = round-same binary64 false (m * up e * (m * up e)) (down e * down e) (g * g) (2 ^ 20)
+        (mul-pos (down-pos e) (down-pos e)) (lit< tt) cross
+    go false = round-same binary64 false (m * up e * (m * up e)) (down e * down e) (g * g) (2 ^ 20)
+        (mul-pos (down-pos e) (down-pos e)) (lit< tt) cross
 
 square-small : (g : ℕ) → g ≤ 2 ^ 24 → g * g ≤ 2 ^ 48
 square-small g h = mul-le-mul {n₂ = 2 ^ 24} {m₂ = 2 ^ 24} h h
 
-square-exact : (x y : Float) → T (onGrid x) → T (onGrid y) → HasValue (mul binary64 (sub binary64 y x) (sub binary64 y x)) false (apart x y * apart x y) (2 ^ 20)
+square-exact : (x y : Float) → T (onGrid x) → T (onGrid y)
+    → HasValue (mul binary64 (sub binary64 y x) (sub binary64 y x)) false (apart x y * apart x y) (2 ^ 20)
 square-exact x y t u = go (difference-exact x y t u)
   where
-    go : (s : Bool) × HasValue (sub binary64 y x) s (apart x y) perMm → HasValue (mul binary64 (sub binary64 y x) (sub binary64 y x)) false (apart x y * apart x y) (2 ^ 20)
+    go : (s : Bool) × HasValue (sub binary64 y x) s (apart x y) perMm
+        → HasValue (mul binary64 (sub binary64 y x) (sub binary64 y x)) false (apart x y * apart x y) (2 ^ 20)
     go (s, v) =
-        subst (λ (z : Float). HasValue z false (apart x y * apart x y) (2 ^ 20)) (sym (square-at (sub binary64 y x) s (apart x y) v))
+        subst (λ (z : Float). HasValue z false (apart x y * apart x y) (2 ^ 20))
+        (sym (square-at (sub binary64 y x) s (apart x y) v))
         (small-twentieth (apart x y * apart x y) (le-trans (square-small (apart x y) (apart-small x y t u)) (lit≤ tt)))
 
 -- ---- the squared length of a leg between grid points
@@ -156,22 +197,28 @@ square-exact x y t u = go (difference-exact x y t u)
 pub squared-small : (a b : Point) → T (gridPoint a) → T (gridPoint b) → squaredLength a b ≤ 2 ^ 49
 unfolding gridPoint squaredLength
 squared-small a b t u =
-    let x = square-small (apart (a .x) (b .x)) (apart-small (a .x) (b .x) (and-l (onGrid (a .x)) (onGrid (a .y)) t) (and-l (onGrid (b .x)) (onGrid (b .y)) u)) in
-    let y = square-small (apart (a .y) (b .y)) (apart-small (a .y) (b .y) (and-r (onGrid (a .x)) (onGrid (a .y)) t) (and-r (onGrid (b .x)) (onGrid (b .y)) u)) in
+    let x = square-small (apart (a .x) (b .x)) (apart-small (a .x) (b .x) (and-l (onGrid (a .x)) (onGrid (a .y)) t)
+    (and-l (onGrid (b .x)) (onGrid (b .y)) u)) in
+    let y = square-small (apart (a .y) (b .y)) (apart-small (a .y) (b .y) (and-r (onGrid (a .x)) (onGrid (a .y)) t)
+    (and-r (onGrid (b .x)) (onGrid (b .y)) u)) in
     add-le-add {b = 2 ^ 48} {d = 2 ^ 48} x y
 
 -- the sum of the squares, as it is computed
 abbrev squares : Point → Point → Float
-squares a b = add binary64 (mul binary64 (sub binary64 (b .x) (a .x)) (sub binary64 (b .x) (a .x))) (mul binary64 (sub binary64 (b .y) (a .y)) (sub binary64 (b .y) (a .y)))
+squares a b =
+    add binary64 (mul binary64 (sub binary64 (b .x) (a .x)) (sub binary64 (b .x) (a .x)))
+    (mul binary64 (sub binary64 (b .y) (a .y)) (sub binary64 (b .y) (a .y)))
 
-squares-exact : (a b : Point) → T (gridPoint a) → T (gridPoint b) → HasValue (squares a b) false (squaredLength a b) (2 ^ 20)
+squares-exact : (a b : Point) → T (gridPoint a) → T (gridPoint b)
+    → HasValue (squares a b) false (squaredLength a b) (2 ^ 20)
 unfolding gridPoint squaredLength
 squares-exact a b t u =
     let S = apart (a .x) (b .x) * apart (a .x) (b .x) + apart (a .y) (b .y) * apart (a .y) (b .y) in
     let dx = sub binary64 (b .x) (a .x) in
     let dy = sub binary64 (b .y) (a .y) in
     let is : squares a b ≡ round binary64 false S (2 ^ 20) =
-    add-at binary64 (mul binary64 dx dx) (mul binary64 dy dy) (apart (a .x) (b .x) * apart (a .x) (b .x)) (apart (a .y) (b .y) * apart (a .y) (b .y)) (2 ^ 20) (lit< tt)
+    add-at binary64 (mul binary64 dx dx) (mul binary64 dy dy) (apart (a .x) (b .x) * apart (a .x) (b .x))
+    (apart (a .y) (b .y) * apart (a .y) (b .y)) (2 ^ 20) (lit< tt)
     (square-exact (a .x) (b .x) (and-l (onGrid (a .x)) (onGrid (a .y)) t) (and-l (onGrid (b .x)) (onGrid (b .y)) u))
     (square-exact (a .y) (b .y) (and-r (onGrid (a .x)) (onGrid (a .y)) t) (and-r (onGrid (b .x)) (onGrid (b .y)) u)) in
     subst (λ (z : Float). HasValue z false S (2 ^ 20)) (sym is) (small-twentieth S (squared-small a b t u))
@@ -182,7 +229,11 @@ in-steps x S h = steps-of binary64 x false (S * 2 ^ 1054) (scaled x h)
     scaled : (x : Float) → HasValue x false S (2 ^ 20) → HasValue x false (S * 2 ^ 1054) (2 ^ 1074)
     scaled nan h = h
     scaled (inf s) h = h
-    scaled (fin s m e) h = (h .0, sym (mul-assoc (m * up e) (2 ^ 20) (2 ^ 1054)) ∙ ap (λ (z : ℕ). z * 2 ^ 1054) (h .1) ∙ mul-right-comm S (down e) (2 ^ 1054))
+    scaled (fin s m e) h = (
+      h .0,
+      sym (mul-assoc (m * up e) (2 ^ 20) (2 ^ 1054)) ∙ ap (λ (z : ℕ). z * 2 ^ 1054) (h .1)
+          ∙ mul-right-comm S (down e) (2 ^ 1054),
+    )
 
 pub plain-real : (x : Float) → Plain binary64 x → T (hasRoot x)
 plain-real nan p = p .finite-one
@@ -203,11 +254,18 @@ grid-leg a b t u =
     let x = squares a b in
     let S = squaredLength a b in
     let v = squares-exact a b t u in
-    let held : T (fits binary64 x) = add-fits binary64 (mul binary64 (sub binary64 (b .x) (a .x)) (sub binary64 (b .x) (a .x))) (mul binary64 (sub binary64 (b .y) (a .y)) (sub binary64 (b .y) (a .y))) in
+    let held : T (fits binary64 x) =
+    add-fits binary64 (mul binary64 (sub binary64 (b .x) (a .x)) (sub binary64 (b .x) (a .x)))
+    (mul binary64 (sub binary64 (b .y) (a .y)) (sub binary64 (b .y) (a .y))) in
     let plus = value-plain binary64 x S (2 ^ 20) held v in
     let real = plain-real x plus in
     record {
-      plain = record { held = root-fits x real; finite-one = root-finite x held real; plus = root-sign x held real ∙ plus .plus };
+      plain = record {
+        held = root-fits x real;
+        finite-one = root-finite x held real;
+        plus =
+            root-sign x held real ∙ plus .plus;
+      };
       small = squared-small a b t u;
       within = grid-root x S held real (in-steps x S v) (squared-small a b t u);
     }

@@ -1,4 +1,5 @@
--- Points on the grid of 1/1024 mm, and the squared length of a leg between two of them, which is a whole number. Assumes nothing.
+-- Points on the grid of 1/1024 mm, and the squared length of a leg between two of them, which is a whole number.
+-- Assumes nothing.
 use mathlib.Core.Bool.{Bool, true, false, _&&_, Bool·beq, cond}
 use mathlib.Core.List.{List, [], _∷_}
 use Prim.Native.Nat.{ℕ, _+_, _-_, _*_, _/_, _%_}

@@ -1,4 +1,5 @@
--- Where each field of a card stands, on any bytes: s is the card, k a contour, j a vertex, q a pair, each from 0. Assumes nothing.
+-- Where each field of a card stands, on any bytes: s is the card, k a contour, j a vertex, q a pair, each from 0.
+-- Assumes nothing.
 use mathlib.Core.List.{List}
 use Prim.Native.Nat.{ℕ, _+_, _*_, _/_, _%_}
 use lib.ListN.{length}

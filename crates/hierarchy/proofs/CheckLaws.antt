@@ -22,25 +22,41 @@ use Rattle.hierarchy.specs.Sort.{sortedBy}
 use Rattle.keep.specs.Keep.{keepsPairs}
 use Rattle.keep.specs.Legal.{EachOnce, Legal}
 use Rattle.keep.proofs.OrderLaws.{keeps-legal, legal-keeps}
-use Rattle.hierarchy.specs.Questions.{pairsCheck, verdictOf, pairListOf, idsOf, orderOf, validSequence, topologicalSort}
+use Rattle.hierarchy.specs.Questions.{pairsCheck, verdictOf, pairListOf, idsOf, orderOf, validSequence}
+use Rattle.hierarchy.specs.Questions.{topologicalSort}
 
 module _ (contours : ℕ) (pairs : List ℕ) where
-  pub check-contours : CONTOURS < contours → Check.Refused (record { number = 4; place = 1 }) ≡ pairsCheck contours pairs
+  pub check-contours : CONTOURS < contours
+      → Check.Refused (record { number = 4; place = 1 }) ≡ pairsCheck contours pairs
   unfolding pairsCheck firstRefusal
   check-contours h = rw (lt-ltb CONTOURS contours h)
 
-  pub check-pairs : contours ≤ CONTOURS → PAIRS < length pairs / 2 + length pairs % 2 → Check.Refused (record { number = 4; place = 2 }) ≡ pairsCheck contours pairs
+  pub check-pairs : contours ≤ CONTOURS → PAIRS < length pairs / 2 + length pairs % 2
+      → Check.Refused (record { number = 4; place = 2 }) ≡ pairsCheck contours pairs
   unfolding pairsCheck firstRefusal
   check-pairs h l = rw (le-ltb CONTOURS contours h, lt-ltb PAIRS (length pairs / 2 + length pairs % 2) l)
 
   pub check-half : contours ≤ CONTOURS → length pairs / 2 + length pairs % 2 ≤ PAIRS → length pairs % 2 ≡ 1 →
       Check.Refused (record { number = 10; place = length pairs / 2 }) ≡ pairsCheck contours pairs
   unfolding pairsCheck firstRefusal
-  check-half h l o = rw (le-ltb CONTOURS contours h, le-ltb PAIRS (length pairs / 2 + length pairs % 2) l, eq-eqb (length pairs % 2) 1 o)
+  check-half h l o =
+      rw (
+        le-ltb CONTOURS contours h,
+        le-ltb PAIRS (length pairs / 2 + length pairs % 2) l,
+        eq-eqb (length pairs % 2)
+            1 o,
+      )
 
-  pub check-fine : contours ≤ CONTOURS → length pairs / 2 + length pairs % 2 ≤ PAIRS → (length pairs % 2 ≡ 1 → ⊥) → Check.Fine ≡ pairsCheck contours pairs
+  pub check-fine : contours ≤ CONTOURS → length pairs / 2 + length pairs % 2 ≤ PAIRS → (length pairs % 2 ≡ 1 → ⊥)
+      → Check.Fine ≡ pairsCheck contours pairs
   unfolding pairsCheck firstRefusal
-  check-fine h l e = rw (le-ltb CONTOURS contours h, le-ltb PAIRS (length pairs / 2 + length pairs % 2) l, ne-eqb (length pairs % 2) 1 e)
+  check-fine h l e =
+      rw (
+        le-ltb CONTOURS contours h,
+        le-ltb PAIRS (length pairs / 2 + length pairs % 2) l,
+        ne-eqb (length pairs % 2)
+            1 e,
+      )
 
 -- what passes is within the limits
 pub record Small (contours : ℕ) (pairs : List ℕ) : Type 0 where
@@ -64,13 +80,15 @@ fine-small contours pairs e = ⊎-elim
 -- ---- an answer with a list: the first check refuses it, or it is what the list says
 
 module _ (check due : Check) (is : check ≡ due) (l : List ℕ) where
-  pub ids-refused : (r : Refusal) → check ≡ Check.Refused r → _≡_ {A = Ids} (record { check = check; ids = replicate PAIRS 0; count = 0 }) (idsOf due l)
+  pub ids-refused : (r : Refusal) → check ≡ Check.Refused r
+      → _≡_ {A = Ids} (record { check = check; ids = replicate PAIRS 0; count = 0 }) (idsOf due l)
   ids-refused r e = rw (← is, e)
 
   pub ids-fine : (a : Ids) → check ≡ Check.Fine → a ≡ idsOf Check.Fine l → a ≡ idsOf due l
   ids-fine a e p = p ∙ ap (λ (z : Check). idsOf z l) (sym e ∙ is)
 
-  pub pair-list-refused : (r : Refusal) → check ≡ Check.Refused r → _≡_ {A = PairList} (record { check = check; ids = replicate (2 * PAIRS) 0; count = 0 }) (pairListOf due l)
+  pub pair-list-refused : (r : Refusal) → check ≡ Check.Refused r
+      → _≡_ {A = PairList} (record { check = check; ids = replicate (2 * PAIRS) 0; count = 0 }) (pairListOf due l)
   pair-list-refused r e = rw (← is, e)
 
   pub pair-list-fine : (a : PairList) → check ≡ Check.Fine → a ≡ pairListOf Check.Fine l → a ≡ pairListOf due l
@@ -87,10 +105,12 @@ module _ (check due : Check) (is : check ≡ due) (b : Bool) where
 
 -- the checks pass, and then there are too many ids, or not
 module _ (contours : ℕ) (pairs ids : List ℕ) (check : Check) (is : check ≡ pairsCheck contours pairs) where
-  pub valid-long : check ≡ Check.Fine → CONTOURS < length ids → Verdict.Refused (record { number = 15; place = length ids }) ≡ validSequence contours pairs ids
+  pub valid-long : check ≡ Check.Fine → CONTOURS < length ids
+      → Verdict.Refused (record { number = 15; place = length ids }) ≡ validSequence contours pairs ids
   valid-long e h = rw (← is, e, lt-ltb CONTOURS (length ids) h)
 
-  pub valid-told : (a : Bool) → check ≡ Check.Fine → length ids ≤ CONTOURS → a ≡ keepsPairs ids pairs → Verdict.Is a ≡ validSequence contours pairs ids
+  pub valid-told : (a : Bool) → check ≡ Check.Fine → length ids ≤ CONTOURS → a ≡ keepsPairs ids pairs
+      → Verdict.Is a ≡ validSequence contours pairs ids
   valid-told a e h p = rw (← is, e, le-ltb CONTOURS (length ids) h, p)
 
   pub valid-refused : (r : Refusal) → check ≡ Check.Refused r → Verdict.Refused r ≡ validSequence contours pairs ids
@@ -99,22 +119,28 @@ module _ (contours : ℕ) (pairs ids : List ℕ) (check : Check) (is : check ≡
 -- ---- the topological order: refused by the first checks, then for a cycle
 
 module _ (contours : ℕ) (pairs : List ℕ) (check : Check) (is : check ≡ pairsCheck contours pairs) where
-  pub sort-refused : (r : Refusal) → check ≡ Check.Refused r → _≡_ {A = Order} (record { check = check; positions = replicate CONTOURS 0; count = 0 }) (topologicalSort contours pairs)
+  pub sort-refused : (r : Refusal) → check ≡ Check.Refused r
+      → _≡_ {A = Order} (record { check = check; positions = replicate CONTOURS 0; count = 0 })
+      (topologicalSort contours pairs)
   sort-refused r e = rw (← is, e)
 
   module _ (found : Found) (at : found ≡ firstOnCycle contours pairs) (e : check ≡ Check.Fine) where
     pub sort-cycle : (k : ℕ) (a : Check) → found ≡ Found.At k → a ≡ Check.Refused (record { number = 12; place = k })
-        → _≡_ {A = Order} (record { check = a; positions = replicate CONTOURS 0; count = 0 }) (topologicalSort contours pairs)
+        → _≡_ {A = Order} (record { check = a; positions = replicate CONTOURS 0; count = 0 })
+        (topologicalSort contours pairs)
     sort-cycle k a f r = rw (r, ← is, e, ← at, f)
 
-    pub sort-told : (a : Order) → found ≡ Found.Absent → a ≡ orderOf Check.Fine (sortedBy contours pairs) → a ≡ topologicalSort contours pairs
+    pub sort-told : (a : Order) → found ≡ Found.Absent → a ≡ orderOf Check.Fine (sortedBy contours pairs)
+        → a ≡ topologicalSort contours pairs
     sort-told a f p = p ∙ rw (← is, e, ← at, f)
 
 -- a sequence of each position once is valid exactly where it is a legal order
-pub valid-exactly : (contours : ℕ) (pairs order : List ℕ) → Check.Fine ≡ pairsCheck contours pairs → EachOnce contours order →
+pub valid-exactly : (contours : ℕ) (pairs order : List ℕ) → Check.Fine ≡ pairsCheck contours pairs
+    → EachOnce contours order →
     (validSequence contours pairs order ≡ Verdict.Is true) ↔ Legal contours pairs order
 valid-exactly contours pairs order fine each = (
-  (λ e. keeps-legal contours order each pairs (let s : Verdict.Is (keepsPairs order pairs) ≡ Verdict.Is true = told ∙ e in cc)),
+  (λ e. keeps-legal contours order each pairs (let s : Verdict.Is (keepsPairs order pairs) ≡ Verdict.Is true =
+      told ∙ e in cc)),
   (λ legal. sym told ∙ ap Verdict.Is (legal-keeps contours order each pairs legal)),
 )
   where

@@ -1,4 +1,5 @@
--- A list held in the first entries of an array, the rest 0; and how the numbers picked from pairs fill one. Assumes nothing.
+-- A list held in the first entries of an array, the rest 0; and how the numbers picked from pairs fill one. Assumes
+-- nothing.
 use mathlib.Core.Bool.{Bool, true, false}
 use mathlib.Core.Path.{_≡_, refl, sym, ap, _∙_}
 use mathlib.Core.List.{List, [], _∷_, _++_, append-assoc, append-nil}
@@ -29,26 +30,33 @@ filled-more n items count l x h f = record {
 -- ---- numbers picked from the pairs
 
 -- what is picked so far, with what is still to be picked, is the whole
-pub record PickPart (n : ℕ) (test : Pair → Bool) (pick : Pair → ℕ) (pairs : List ℕ) (at : ℕ) (items : List ℕ) (count : ℕ) : Type 0 where
+pub record PickPart (n : ℕ) (test : Pair → Bool) (pick : Pair → ℕ) (pairs : List ℕ) (at : ℕ) (items : List ℕ)
+    (count : ℕ) : Type 0 where
   pub sofar : List ℕ
   pub filled : Filled n items count sofar
   pub left : sofar ++ picked test pick (paired (drop at pairs)) ≡ picked test pick (paired pairs)
   pub within : at ≤ length pairs
   pub few : count * 2 ≤ at
 
-pub pick-none : (n : ℕ) (test : Pair → Bool) (pick : Pair → ℕ) (pairs : List ℕ) → PickPart n test pick pairs 0 (replicate n 0) 0
-pick-none n test pick pairs = record { sofar = []; filled = filled-none n; left = refl; within = omega arith; few = omega arith }
+pub pick-none : (n : ℕ) (test : Pair → Bool) (pick : Pair → ℕ) (pairs : List ℕ)
+    → PickPart n test pick pairs 0 (replicate n 0) 0
+pick-none n test pick pairs =
+    record { sofar = []; filled = filled-none n; left = refl; within = omega arith; few = omega arith }
 
-module _ (n : ℕ) (test : Pair → Bool) (pick : Pair → ℕ) (pairs : List ℕ) (at : ℕ) (items : List ℕ) (count : ℕ) (more : at + 1 < length pairs) (part : PickPart n test pick pairs at items count) where
-  picked-walk : part .sofar ++ picked test pick (pairAt pairs at ∷ paired (drop (at + 2) pairs)) ≡ picked test pick (paired pairs)
+module _ (n : ℕ) (test : Pair → Bool) (pick : Pair → ℕ) (pairs : List ℕ) (at : ℕ) (items : List ℕ) (count : ℕ)
+    (more : at + 1 < length pairs) (part : PickPart n test pick pairs at items count) where
+  picked-walk : part .sofar ++ picked test pick (pairAt pairs at ∷ paired (drop (at + 2) pairs))
+      ≡ picked test pick (paired pairs)
   picked-walk = rw (paired-more pairs at more) at (part .left)
 
-  pub pick-yes : count < n → test (pairAt pairs at) ≡ true → PickPart n test pick pairs (at + 2) (set items count (pick (pairAt pairs at))) (count + 1)
+  pub pick-yes : count < n → test (pairAt pairs at) ≡ true
+      → PickPart n test pick pairs (at + 2) (set items count (pick (pairAt pairs at))) (count + 1)
   unfolding picked
   pick-yes h t = record {
     sofar = part .sofar ++ (pick (pairAt pairs at) ∷ []);
     filled = filled-more n items count (part .sofar) (pick (pairAt pairs at)) h (part .filled);
-    left = append-assoc (part .sofar) (pick (pairAt pairs at) ∷ []) (picked test pick (paired (drop (at + 2) pairs))) ∙ (rw t at picked-walk);
+    left = append-assoc (part .sofar) (pick (pairAt pairs at) ∷ []) (picked test pick (paired (drop (at + 2) pairs)))
+        ∙ (rw t at picked-walk);
     within = omega arith;
     few = omega (arith, part .few);
   }
@@ -63,21 +71,29 @@ module _ (n : ℕ) (test : Pair → Bool) (pick : Pair → ℕ) (pairs : List �
     few = omega (arith, part .few);
   }
 
-pub pick-all : (n : ℕ) (test : Pair → Bool) (pick : Pair → ℕ) (pairs : List ℕ) (at : ℕ) (items : List ℕ) (count : ℕ) → length pairs ≤ at + 1 →
+pub pick-all : (n : ℕ) (test : Pair → Bool) (pick : Pair → ℕ) (pairs : List ℕ) (at : ℕ) (items : List ℕ) (count : ℕ)
+    → length pairs ≤ at + 1 →
     PickPart n test pick pairs at items count → Filled n items count (picked test pick (paired pairs))
 unfolding picked
 pick-all n test pick pairs at items count all part =
-    let e : part .sofar ≡ picked test pick (paired pairs) = sym (append-nil (part .sofar)) ∙ (rw (paired-end pairs at all) at (part .left)) in
+    let e : part .sofar ≡ picked test pick (paired pairs) =
+    sym (append-nil (part .sofar)) ∙ (rw (paired-end pairs at all) at (part .left)) in
     rw (← e) (part .filled)
 
-pub ids-of : (items : List ℕ) (count : ℕ) (l : List ℕ) → Filled PAIRS items count l → _≡_ {A = Rattle.hierarchy.specs.declared.Ids.Ids} (record { check = Check.Fine; ids = items; count = count }) (idsOf Check.Fine l)
+pub ids-of : (items : List ℕ) (count : ℕ) (l : List ℕ) → Filled PAIRS items count l
+    → _≡_ {A = Rattle.hierarchy.specs.declared.Ids.Ids}
+    (record { check = Check.Fine; ids = items; count = count }) (idsOf Check.Fine l)
 ids-of items count l f = rw (f .holds, f .counts)
 
 -- ---- the first entries of a list, one after the other
 
-pub copy-more : (n : ℕ) (items : List ℕ) (l : List ℕ) (i : ℕ) → i < length l → i < n → Filled n items i (take i l) → Filled n (set items i (getD l i 0)) (i + 1) (take (i + 1) l)
-copy-more n items l i h small f = rw (add-one i, take-suc l i 0 h, ← add-one i) (filled-more n items i (take i l) (getD l i 0) small f)
+pub copy-more : (n : ℕ) (items : List ℕ) (l : List ℕ) (i : ℕ) → i < length l → i < n → Filled n items i (take i l)
+    → Filled n (set items i (getD l i 0)) (i + 1) (take (i + 1) l)
+copy-more n items l i h small f =
+    rw (add-one i, take-suc l i 0 h, ← add-one i) (filled-more n items i (take i l) (getD l i 0) small f)
 
-pub pairs-of : (items : List ℕ) (l : List ℕ) (i whole : ℕ) → length l ≤ i → Filled (2 * PAIRS) items i (take i l) → whole ≡ length l / 2 →
-    _≡_ {A = Rattle.hierarchy.specs.declared.PairList.PairList} (record { check = Check.Fine; ids = items; count = whole }) (pairListOf Check.Fine l)
+pub pairs-of : (items : List ℕ) (l : List ℕ) (i whole : ℕ) → length l ≤ i → Filled (2 * PAIRS) items i (take i l)
+    → whole ≡ length l / 2 →
+    _≡_ {A = Rattle.hierarchy.specs.declared.PairList.PairList}
+    (record { check = Check.Fine; ids = items; count = whole }) (pairListOf Check.Fine l)
 pairs-of items l i whole all f e = rw (f .holds, take-all i l all, e)

@@ -8,15 +8,18 @@ use native.Mathlib.Numerals.{add-one}
 use native.Mathlib.Omega.{arith}
 use lib.Dec.{eqb, ltb}
 use borrow.Author.Tests.{eq-eqb, ne-eqb, lt-ltb, le-ltb}
-use lib.ListN.{length, getD, set, take, drop, replicate, length-set, length-append, length-replicate, length-drop, take-append-drop}
-use lib.Seq.{getD-set-same, getD-set-other, take-suc, take-suc-set, take-at, take-all, drop-cons, getD-take, take-append-le, drop-append-le}
+use lib.ListN.{length, getD, set, take, drop, replicate, length-set, length-append, length-replicate, length-drop}
+use lib.ListN.{take-append-drop}
+use lib.Seq.{getD-set-same, getD-set-other, take-suc, take-suc-set, take-at, take-all, drop-cons, getD-take}
+use lib.Seq.{take-append-le, drop-append-le}
 use Rattle.closure.specs.Limits.{CONTOURS}
 use Rattle.closure.specs.Pairs.{Pair, paired, both}
 use Rattle.closure.proofs.PairLaws.{same-or, lt-or, pairAt, paired-more, paired-end}
 use Rattle.answer.specs.Room.{padded}
 use Rattle.answer.proofs.RoomLaws.{padded-length}
 use Rattle.hierarchy.specs.Fill.{Filled}
-use Rattle.hierarchy.specs.Sort.{Kahn, heldBack, tallied, freeBelow, untaken, loosened, released, frontTaken, queueTaken, sortedBy}
+use Rattle.hierarchy.specs.Sort.{Kahn, heldBack, tallied, freeBelow, untaken, loosened, released, frontTaken}
+use Rattle.hierarchy.specs.Sort.{queueTaken, sortedBy}
 use Rattle.hierarchy.specs.Code.{heldCount, standing, firstTaken, Roomy, Stands}
 use Rattle.answer.specs.declared.Check.{Check}
 use Rattle.hierarchy.specs.declared.Order.{Order}
@@ -28,7 +31,8 @@ both-yes n p hb ha = rw (lt-ltb (p .before) n hb, lt-ltb (p .after) n ha)
 
 pub both-no : (n : ℕ) (p : Pair) → (p .before < n → p .after < n → ⊥) → both n p ≡ false
 both-no n p out = ⊎-elim
-    (λ (h : p .before < n). ⊎-elim (λ (l : p .after < n). absurd (out h l)) (λ (l : n ≤ p .after). rw (lt-ltb (p .before) n h, le-ltb (p .after) n l)) (lt-or (p .after) n))
+    (λ (h : p .before < n). ⊎-elim (λ (l : p .after < n). absurd (out h l))
+    (λ (l : n ≤ p .after). rw (lt-ltb (p .before) n h, le-ltb (p .after) n l)) (lt-or (p .after) n))
     (λ (h : n ≤ p .before). rw (le-ltb (p .before) n h)) (lt-or (p .before) n)
 
 -- ---- the tally
@@ -47,35 +51,48 @@ pub record TallyPart (n : ℕ) (pairs : List ℕ) (at : ℕ) (w : List ℕ) : Ty
   pub left : tallied n (paired (drop at pairs)) w ≡ tallied n (paired pairs) (replicate CONTOURS 0)
 
 pub tally-none : (n : ℕ) (pairs : List ℕ) → TallyPart n pairs 0 (replicate CONTOURS 0)
-tally-none n pairs = record { size = length-replicate {A = ℕ} CONTOURS 0; within = omega arith; small = λ a. omega (arith, zeros CONTOURS a); left = refl }
+tally-none n pairs =
+    record {
+      size = length-replicate {A = ℕ} CONTOURS 0;
+      within = omega arith;
+      small =
+          λ a. omega (arith, zeros CONTOURS a);
+      left = refl;
+    }
 
-module _ (n : ℕ) (pairs : List ℕ) (at : ℕ) (w : List ℕ) (more : at + 1 < length pairs) (part : TallyPart n pairs at w) where
-  tally-walk : tallied n (paired (drop (at + 2) pairs)) (cond (both n (pairAt pairs at)) (heldBack w (getD pairs (at + 1) 0)) w) ≡ tallied n (paired pairs) (replicate CONTOURS 0)
-  unfolding tallied
-  tally-walk = rw (paired-more pairs at more) at (part .left)
+module _ (n : ℕ) (pairs : List ℕ) (at : ℕ) (w : List ℕ) (more : at + 1 < length pairs) (part : TallyPart n pairs at w)
+  where
+    tally-walk : tallied n (paired (drop (at + 2) pairs))
+        (cond (both n (pairAt pairs at)) (heldBack w (getD pairs (at + 1) 0)) w)
+        ≡ tallied n (paired pairs) (replicate CONTOURS 0)
+    unfolding tallied
+    tally-walk = rw (paired-more pairs at more) at (part .left)
 
-  tally-small : (a : ℕ) → a < CONTOURS → (x : ℕ) → getD (heldBack w a) x 0 ≤ at + 2
-  tally-small a h x = ⊎-elim
-      (λ (e : x ≡ a). rw (e, getD-set-same w a (getD w a 0 + 1) 0 (omega (arith, part .size))) (omega (arith, part .small a)))
-      (λ (d : x ≡ a → ⊥). rw (getD-set-other w a x (getD w a 0 + 1) 0 d) (omega (arith, part .small x))) (same-or x a)
+    tally-small : (a : ℕ) → a < CONTOURS → (x : ℕ) → getD (heldBack w a) x 0 ≤ at + 2
+    tally-small a h x = ⊎-elim
+        (λ (e : x ≡ a). rw (e, getD-set-same w a (getD w a 0 + 1) 0 (omega (arith, part .size)))
+        (omega (arith, part .small a)))
+        (λ (d : x ≡ a → ⊥). rw (getD-set-other w a x (getD w a 0 + 1) 0 d) (omega (arith, part .small x))) (same-or x a)
 
-  pub tally-hit : (b a : ℕ) → b ≡ getD pairs at 0 → a ≡ getD pairs (at + 1) 0 → b < n → a < n → n ≤ CONTOURS → TallyPart n pairs (at + 2) (set w a (getD w a 0 + 1))
-  tally-hit b a p q hb ha low = record {
-    size = length-set w a (getD w a 0 + 1) ∙ part .size;
-    within = omega arith;
-    small = tally-small a (omega arith);
-    left = rw q (rw (both-yes n (pairAt pairs at) (rw p at hb) (rw q at ha)) at tally-walk);
-  }
+    pub tally-hit : (b a : ℕ) → b ≡ getD pairs at 0 → a ≡ getD pairs (at + 1) 0 → b < n → a < n → n ≤ CONTOURS
+        → TallyPart n pairs (at + 2) (set w a (getD w a 0 + 1))
+    tally-hit b a p q hb ha low = record {
+      size = length-set w a (getD w a 0 + 1) ∙ part .size;
+      within = omega arith;
+      small = tally-small a (omega arith);
+      left = rw q (rw (both-yes n (pairAt pairs at) (rw p at hb) (rw q at ha)) at tally-walk);
+    }
 
-  pub tally-miss : (getD pairs at 0 < n → getD pairs (at + 1) 0 < n → ⊥) → TallyPart n pairs (at + 2) w
-  tally-miss out = record {
-    size = part .size;
-    within = omega arith;
-    small = λ a. omega (arith, part .small a);
-    left = rw (both-no n (pairAt pairs at) out) at tally-walk;
-  }
+    pub tally-miss : (getD pairs at 0 < n → getD pairs (at + 1) 0 < n → ⊥) → TallyPart n pairs (at + 2) w
+    tally-miss out = record {
+      size = part .size;
+      within = omega arith;
+      small = λ a. omega (arith, part .small a);
+      left = rw (both-no n (pairAt pairs at) out) at tally-walk;
+    }
 
-pub tally-all : (n : ℕ) (pairs : List ℕ) (at : ℕ) (w : List ℕ) → length pairs ≤ at + 1 → TallyPart n pairs at w → w ≡ tallied n (paired pairs) (replicate CONTOURS 0)
+pub tally-all : (n : ℕ) (pairs : List ℕ) (at : ℕ) (w : List ℕ) → length pairs ≤ at + 1 → TallyPart n pairs at w
+    → w ≡ tallied n (paired pairs) (replicate CONTOURS 0)
 unfolding tallied
 tally-all n pairs at w all part = rw (paired-end pairs at all) at (part .left)
 
@@ -90,13 +107,15 @@ pub free-none : (w : List ℕ) (n : ℕ) (order : List ℕ) → order ≡ replic
 unfolding freeBelow
 free-none w n order e = record { within = omega arith; few = omega arith; filled = rw e (filled-none CONTOURS) }
 
-module _ (w : List ℕ) (n k : ℕ) (order : List ℕ) (count : ℕ) (low : n ≤ CONTOURS) (more : k < n) (part : FreePart w n k order count) where
+module _ (w : List ℕ) (n k : ℕ) (order : List ℕ) (count : ℕ) (low : n ≤ CONTOURS) (more : k < n)
+    (part : FreePart w n k order count) where
   pub free-yes : getD w k 0 ≡ 0 → FreePart w n (k + 1) (set order count k) (count + 1)
   unfolding freeBelow
   free-yes e = record {
     within = omega arith;
     few = omega (arith, part .few);
-    filled = rw (add-one k, eq-eqb (getD w k 0) 0 e) (filled-more CONTOURS order count (freeBelow w k) k (omega (arith, part .few)) (part .filled));
+    filled = rw (add-one k, eq-eqb (getD w k 0) 0 e)
+        (filled-more CONTOURS order count (freeBelow w k) k (omega (arith, part .few)) (part .filled));
   }
 
   pub free-no : (getD w k 0 ≡ 0 → ⊥) → FreePart w n (k + 1) order count
@@ -107,8 +126,10 @@ module _ (w : List ℕ) (n k : ℕ) (order : List ℕ) (count : ℕ) (low : n �
     filled = rw (add-one k, ne-eqb (getD w k 0) 0 d, append-nil (freeBelow w k)) (part .filled);
   }
 
-pub free-all : (w : List ℕ) (n k : ℕ) (order : List ℕ) (count : ℕ) → n ≤ k → FreePart w n k order count → Filled CONTOURS order count (freeBelow w n)
-free-all w n k order count all part = let e : k ≡ n = omega (arith, part .within) in subst (λ (z : ℕ). Filled CONTOURS order count (freeBelow w z)) e (part .filled)
+pub free-all : (w : List ℕ) (n k : ℕ) (order : List ℕ) (count : ℕ) → n ≤ k → FreePart w n k order count
+    → Filled CONTOURS order count (freeBelow w n)
+free-all w n k order count all part = let e : k ≡ n =
+    omega (arith, part .within) in subst (λ (z : ℕ). Filled CONTOURS order count (freeBelow w z)) e (part .filled)
 
 -- ---- one position held back less
 
@@ -120,7 +141,8 @@ held-set : (w : List ℕ) (a v : ℕ) → a < length w → heldCount (set w a v)
 unfolding heldCount
 held-set [] a v h = absurd (omega arith)
 held-set (x ∷ w) zero v h = omega arith
-held-set (x ∷ w) (suc a) v h = let e : heldCount (set w a v) + held (getD w a 0) ≡ heldCount w + held v = held-set w a v (omega arith) in omega arith
+held-set (x ∷ w) (suc a) v h = let e : heldCount (set w a v) + held (getD w a 0) ≡ heldCount w + held v =
+    held-set w a v (omega arith) in omega arith
 
 held-no : (w : ℕ) → w ≡ 0 → held w ≡ 0
 held-no w e = rw (eq-eqb w 0 e)
@@ -159,7 +181,8 @@ module _ (w o : List ℕ) (k a : ℕ) (roomy : Roomy w o k) (ha : a < CONTOURS) 
       longer : take (k + 1) (set o k a) ≡ take k o ++ (a ∷ [])
       longer = rw (add-one k) (take-suc-set o k a (omega (arith, roomy-length w o k roomy, room-left e)))
 
-  pub loosen-one : (v : ℕ) → v ≡ getD w a 0 - 1 → (getD w a 0 ≡ 1 → ⊥) → Stands (loosened (standing w o k) a) (set w a v) o k
+  pub loosen-one : (v : ℕ) → v ≡ getD w a 0 - 1 → (getD w a 0 ≡ 1 → ⊥)
+      → Stands (loosened (standing w o k) a) (set w a v) o k
   unfolding loosened
   loosen-one v p d = record {
     roomy = record {
@@ -181,7 +204,8 @@ module _ (b a x n : ℕ) where
   pub counts-other : (b ≡ x → ⊥) → false ≡ (eqb b x && both n (record { before = b; after = a }))
   counts-other d = rw (ne-eqb b x d)
 
-  pub counts-low : (v w : ℕ) → b ≡ x → v ≡ b → w ≡ a → v < n → ltb w n ≡ (eqb b x && both n (record { before = b; after = a }))
+  pub counts-low : (v w : ℕ) → b ≡ x → v ≡ b → w ≡ a → v < n
+      → ltb w n ≡ (eqb b x && both n (record { before = b; after = a }))
   counts-low v w e p q h = rw (eq-eqb b x e, lt-ltb b n (omega arith), q)
 
   pub counts-high : (v : ℕ) → b ≡ x → v ≡ b → n ≤ v → false ≡ (eqb b x && both n (record { before = b; after = a }))
@@ -200,11 +224,13 @@ release-none n x pairs w o k roomy = record { within = omega arith; roomy = room
 module _ (n x : ℕ) (pairs : List ℕ) (at : ℕ) (s : Kahn) (w o : List ℕ) (k : ℕ) (r : Bool) (more : at + 1 < length pairs)
     (part : ReleasePart n x pairs at s w o k)
     (is : r ≡ (eqb (getD pairs at 0) x && both n (pairAt pairs at))) where
-  release-walk : released n x (paired (drop (at + 2) pairs)) (cond r (loosened (standing w o k) (getD pairs (at + 1) 0)) (standing w o k)) ≡ released n x (paired pairs) s
+  release-walk : released n x (paired (drop (at + 2) pairs))
+      (cond r (loosened (standing w o k) (getD pairs (at + 1) 0)) (standing w o k)) ≡ released n x (paired pairs) s
   unfolding released
   release-walk = rw is (rw (paired-more pairs at more) at (part .left))
 
-  pub release-hit : (a : ℕ) (w' o' : List ℕ) (k' : ℕ) → a ≡ getD pairs (at + 1) 0 → r ≡ true → Stands (loosened (standing w o k) a) w' o' k' → ReleasePart n x pairs (at + 2) s w' o' k'
+  pub release-hit : (a : ℕ) (w' o' : List ℕ) (k' : ℕ) → a ≡ getD pairs (at + 1) 0 → r ≡ true
+      → Stands (loosened (standing w o k) a) w' o' k' → ReleasePart n x pairs (at + 2) s w' o' k'
   release-hit a w' o' k' p t stands = record {
     within = omega arith;
     roomy = stands .roomy;
@@ -221,7 +247,8 @@ module _ (n x : ℕ) (pairs : List ℕ) (at : ℕ) (s : Kahn) (w o : List ℕ) (
       (λ (h : n ≤ a). absurd (let z : _≡_ {A = ℕ} 0 1 = cc (sym t ∙ is ∙ none h) in omega arith)) (lt-or a n)
     where
       none : n ≤ a → (eqb (getD pairs at 0) x && both n (pairAt pairs at)) ≡ false
-      none h = rw (both-no n (pairAt pairs at) (λ _ l. omega (arith, rw (← p) at l))) (and-false (eqb (getD pairs at 0) x))
+      none h = rw (both-no n (pairAt pairs at) (λ _ l. omega (arith, rw (← p) at l)))
+          (and-false (eqb (getD pairs at 0) x))
 
 pub release-all : (n x : ℕ) (pairs : List ℕ) (at : ℕ) (s : Kahn) (w o : List ℕ) (k : ℕ) → length pairs ≤ at + 1 →
     ReleasePart n x pairs at s w o k → Stands (released n x (paired pairs) s) w o k
@@ -282,7 +309,8 @@ queue-end (suc most) n i ps s h = rw (le-ltb 0 (length (drop i (s .queue))) (ome
 pub record QueuePart (n : ℕ) (pairs : List ℕ) (i : ℕ) (s : Kahn) (w o : List ℕ) (k : ℕ) : Type 0 where
   pub roomy : Roomy w o k
   pub left :
-      queueTaken (CONTOURS - i) n (paired pairs) (firstTaken i (standing w o k)) ≡ queueTaken CONTOURS n (paired pairs) s
+      queueTaken (CONTOURS - i) n (paired pairs) (firstTaken i (standing w o k))
+      ≡ queueTaken CONTOURS n (paired pairs) s
 
 pub queue-none : (n : ℕ) (pairs w o : List ℕ) (k : ℕ) → Roomy w o k → QueuePart n pairs 0 (standing w o k) w o k
 queue-none n pairs w o k roomy = record { roomy = roomy; left = refl }
@@ -334,14 +362,20 @@ unfolding freeBelow heldCount
 free-take w zero h = omega arith
 free-take w (suc n) h =
     let i : length (freeBelow w n) + heldCount (take n w) ≡ n = free-take w n (omega arith) in
-    let t : heldCount (take (suc n) w) ≡ heldCount (take n w) + held (getD w n 0) = ap heldCount (take-suc w n 0 h) ∙ held-append (take n w) (getD w n 0 ∷ []) ∙ ap (λ (z : ℕ). heldCount (take n w) + z) (held-one (getD w n 0)) in
+    let t : heldCount (take (suc n) w) ≡ heldCount (take n w) + held (getD w n 0) =
+    ap heldCount (take-suc w n 0 h) ∙ held-append (take n w) (getD w n 0 ∷ [])
+    ∙ ap (λ (z : ℕ). heldCount (take n w) + z) (held-one (getD w n 0)) in
     ⊎-elim
-    (λ (z : getD w n 0 ≡ 0). let f : length (freeBelow w (suc n)) ≡ length (freeBelow w n) + 1 = rw (eq-eqb (getD w n 0) 0 z) (length-append (freeBelow w n) (n ∷ [])) in omega (arith, held-no (getD w n 0) z))
-    (λ (z : getD w n 0 ≡ 0 → ⊥). let f : length (freeBelow w (suc n)) ≡ length (freeBelow w n) = rw (ne-eqb (getD w n 0) 0 z, append-nil (freeBelow w n)) in omega (arith, held-yes (getD w n 0) z)) (same-or (getD w n 0) 0)
+    (λ (z : getD w n 0 ≡ 0). let f : length (freeBelow w (suc n)) ≡ length (freeBelow w n) + 1 =
+    rw (eq-eqb (getD w n 0) 0 z) (length-append (freeBelow w n) (n ∷ [])) in omega (arith, held-no (getD w n 0) z))
+    (λ (z : getD w n 0 ≡ 0 → ⊥). let f : length (freeBelow w (suc n)) ≡ length (freeBelow w n) =
+    rw (ne-eqb (getD w n 0) 0 z, append-nil (freeBelow w n)) in omega (arith, held-yes (getD w n 0) z))
+    (same-or (getD w n 0) 0)
 
 free-room : (w : List ℕ) (n : ℕ) → n ≤ length w → length (freeBelow w n) + heldCount w ≤ length w
 free-room w n h =
-    let e : heldCount w ≡ heldCount (take n w) + heldCount (drop n w) = ap heldCount (sym (take-append-drop n w)) ∙ held-append (take n w) (drop n w) in
+    let e : heldCount w ≡ heldCount (take n w) + heldCount (drop n w) =
+    ap heldCount (sym (take-append-drop n w)) ∙ held-append (take n w) (drop n w) in
     omega (arith, free-take w n h, held-le (drop n w), length-drop n w)
 
 pub tallied-length : (n : ℕ) (ps : List Pair) (w : List ℕ) → length (tallied n ps w) ≡ length w
@@ -370,9 +404,11 @@ stands-first n pairs w o k low e f = record {
     size = ap length e ∙ tallied-length n (paired pairs) (replicate CONTOURS 0)
 
     is : take k o ≡ freeBelow w n
-    is = ap (take k) (f .holds) ∙ take-at (freeBelow w n) (replicate (CONTOURS - length (freeBelow w n)) 0) k (sym (f .counts))
+    is = ap (take k) (f .holds) ∙ take-at (freeBelow w n) (replicate (CONTOURS - length (freeBelow w n)) 0) k
+        (sym (f .counts))
 
-order-of : (items : List ℕ) (count : ℕ) (l : List ℕ) → Filled CONTOURS items count l → _≡_ {A = Order} (record { check = Check.Fine; positions = items; count = count }) (orderOf Check.Fine l)
+order-of : (items : List ℕ) (count : ℕ) (l : List ℕ) → Filled CONTOURS items count l
+    → _≡_ {A = Order} (record { check = Check.Fine; positions = items; count = count }) (orderOf Check.Fine l)
 order-of items count l f = rw (f .holds, f .counts)
 
 -- the whole order, as the code hands it back

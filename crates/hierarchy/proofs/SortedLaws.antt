@@ -18,15 +18,18 @@ use Rattle.answer.specs.declared.Found.{Found}
 use Rattle.answer.specs.Lowest.{lowest}
 use Rattle.answer.proofs.LowestLaws.{LowestAt, Nowhere, at-is, absent-is, search-through}
 use Rattle.closure.proofs.PairLaws.{same-or, lt-or, is-pair}
-use Rattle.closure.proofs.PathLaws.{or-cases, or-left, or-right, and-first, and-second, both-true, yes-or-no, true-false, linked-within, absent-exactly, linked-pair, pair-linked}
-use Rattle.hierarchy.specs.Sort.{Kahn, heldBack, tallied, freeBelow, untaken, loosened, released, queueTaken, sortedBy}
+use Rattle.closure.proofs.PathLaws.{or-cases, or-left, or-right, and-first, and-second, both-true, yes-or-no}
+use Rattle.closure.proofs.PathLaws.{true-false, linked-within, absent-exactly, linked-pair, pair-linked}
+use Rattle.hierarchy.specs.Sort.{Kahn, heldBack, tallied, freeBelow, untaken, loosened, released, queueTaken}
+use Rattle.hierarchy.specs.Sort.{sortedBy}
 use Rattle.hierarchy.specs.Code.{firstTaken}
 use Rattle.hierarchy.specs.declared.Order.{Order}
 use Rattle.hierarchy.specs.Questions.{pairsCheck, orderOf, topologicalSort}
 use Rattle.keep.specs.Legal.{Legal}
 use Rattle.hierarchy.proofs.CheckLaws.{fine-small, sort-cycle, sort-told}
 use Rattle.hierarchy.proofs.SortLaws.{both-yes, zeros, tallied-length, queue-step, queue-end}
-use Rattle.closure.proofs.CountLaws.{anyBelow, met, met-is, met-at, Different, met-not, different-few, all-many, Least, least}
+use Rattle.closure.proofs.CountLaws.{anyBelow, met, met-is, met-at, Different, met-not, different-few, all-many, Least}
+use Rattle.closure.proofs.CountLaws.{least}
 use Rattle.keep.proofs.OrderLaws.{legal-acyclic}
 
 -- ---- how many pairs pass a test
@@ -36,13 +39,16 @@ pairCount test [] = 0
 pairCount test (p ∷ more) = pairCount test more + cond (test p) 1 0
 
 -- where none passes, no pair of the list does
-count-zero : (test : Pair → Bool) (ps : List Pair) (b a : ℕ) → pairCount test ps ≡ 0 → someOf (isPair b a) ps ≡ true → test (record { before = b; after = a }) ≡ false
+count-zero : (test : Pair → Bool) (ps : List Pair) (b a : ℕ) → pairCount test ps ≡ 0 → someOf (isPair b a) ps ≡ true
+    → test (record { before = b; after = a }) ≡ false
 unfolding pairCount someOf
 count-zero test [] b a e t = let z : _≡_ {A = ℕ} 0 1 = cc in absurd (omega arith)
-count-zero test (p ∷ more) b a e t = go (or-cases (isPair b a p) (someOf (isPair b a) more) t) (yes-or-no (test p)) (count-zero test more b a)
+count-zero test (p ∷ more) b a e t =
+    go (or-cases (isPair b a p) (someOf (isPair b a) more) t) (yes-or-no (test p)) (count-zero test more b a)
   where
     go : (isPair b a p ≡ true) ⊎ (someOf (isPair b a) more ≡ true) → (test p ≡ true) ⊎ (test p ≡ false) →
-        (pairCount test more ≡ 0 → someOf (isPair b a) more ≡ true → test (record { before = b; after = a }) ≡ false) → test (record { before = b; after = a }) ≡ false
+        (pairCount test more ≡ 0 → someOf (isPair b a) more ≡ true → test (record { before = b; after = a }) ≡ false)
+        → test (record { before = b; after = a }) ≡ false
     go i (inl y) rec = let f : pairCount test more + 1 ≡ 0 = rw y at e in absurd (omega arith)
     go (inl i) (inr y) rec =
         let u : p .before ≡ b = eqb-true (p .before) b (and-first (eqb (p .before) b) (eqb (p .after) a) i) in
@@ -52,17 +58,30 @@ count-zero test (p ∷ more) b a e t = go (or-cases (isPair b a p) (someOf (isPa
     go (inr s) (inr y) rec = let f : pairCount test more + 0 ≡ 0 = rw y at e in rec (omega arith) s
 
 -- where some pass, one can be named
-count-some : (test : Pair → Bool) (ps : List Pair) → (pairCount test ps ≡ 0 → ⊥) → (p : Pair) × (someOf (isPair (p .before) (p .after)) ps ≡ true) × (test p ≡ true)
+count-some : (test : Pair → Bool) (ps : List Pair) → (pairCount test ps ≡ 0 → ⊥)
+    → (p : Pair) × (someOf (isPair (p .before) (p .after)) ps ≡ true) × (test p ≡ true)
 unfolding pairCount someOf
 count-some test [] d = absurd (d refl)
 count-some test (p ∷ more) d = go (yes-or-no (test p)) (count-some test more)
   where
-    go : (test p ≡ true) ⊎ (test p ≡ false) → ((pairCount test more ≡ 0 → ⊥) → (q : Pair) × (someOf (isPair (q .before) (q .after)) more ≡ true) × (test q ≡ true)) →
-        (q : Pair) × ((isPair (q .before) (q .after) p || someOf (isPair (q .before) (q .after)) more) ≡ true) × (test q ≡ true)
-    go (inl y) rec = (p, or-left (isPair (p .before) (p .after) p) (someOf (isPair (p .before) (p .after)) more) (is-pair (p .before) (p .after) (p .before) (p .after) refl refl), y)
+    go : (test p ≡ true) ⊎ (test p ≡ false)
+        → ((pairCount test more ≡ 0 → ⊥)
+        → (q : Pair) × (someOf (isPair (q .before) (q .after)) more ≡ true) × (test q ≡ true)) →
+        (q : Pair) × ((isPair (q .before) (q .after) p || someOf (isPair (q .before) (q .after)) more) ≡ true) ×
+        (test q ≡ true)
+    go (inl y) rec = (
+      p,
+      or-left (isPair (p .before) (p .after) p) (someOf (isPair (p .before) (p .after)) more)
+          (is-pair (p .before) (p .after) (p .before) (p .after) refl refl),
+      y,
+    )
     go (inr y) rec =
-        let f = rec (λ e. d (rw y (omega arith))) in
-        (f .0, or-right (isPair (f .0 .before) (f .0 .after) p) (someOf (isPair (f .0 .before) (f .0 .after)) more) (f .1), f .2)
+        let f = rec (λ e. d (rw y (omega arith))) in (
+          f .0,
+          or-right (isPair (f .0 .before) (f .0 .after) p) (someOf (isPair (f .0 .before) (f .0 .after)) more)
+              (f .1),
+          f .2,
+        )
 
 -- a pair holds a back while its first is not done
 abbrev holds : ℕ → (ℕ → Bool) → ℕ → Pair → Bool
@@ -73,24 +92,32 @@ abbrev goes : ℕ → ℕ → ℕ → Pair → Bool
 goes n x a p = both n p && (eqb (p .after) a && eqb (p .before) x)
 
 -- once x is done too, its pairs hold nothing back
-count-split : (n a x : ℕ) (old new : ℕ → Bool) → old x ≡ false → ((b : ℕ) → new b ≡ (old b || eqb x b)) → (ps : List Pair) →
+count-split : (n a x : ℕ) (old new : ℕ → Bool) → old x ≡ false → ((b : ℕ) → new b ≡ (old b || eqb x b))
+    → (ps : List Pair) →
     pairCount (holds n old a) ps ≡ pairCount (holds n new a) ps + pairCount (goes n x a) ps
 unfolding pairCount
 count-split n a x old new e is [] = omega arith
 count-split n a x old new e is (p ∷ more) =
-    let rec : pairCount (holds n old a) more ≡ pairCount (holds n new a) more + pairCount (goes n x a) more = count-split n a x old new e is more in
+    let rec : pairCount (holds n old a) more ≡ pairCount (holds n new a) more + pairCount (goes n x a) more =
+    count-split n a x old new e is more in
     let one : cond (holds n old a p) 1 0 ≡ cond (holds n new a p) 1 0 + cond (goes n x a p) 1 0 = ⊎-elim
-    (λ (s : p .before ≡ x). same (both n p) (eqb (p .after) a) (old (p .before)) (new (p .before)) (eqb (p .before) x) (rw s e) (is (p .before) ∙ rw (eq-eqb x (p .before) (sym s)) (mathlib.Core.Bool.or-true (old (p .before)))) (eq-eqb (p .before) x s))
-    (λ (d : p .before ≡ x → ⊥). other (both n p) (eqb (p .after) a) (old (p .before)) (new (p .before)) (eqb (p .before) x) (is (p .before) ∙ rw (ne-eqb x (p .before) (λ z. d (sym z))) (or-false (old (p .before)))) (ne-eqb (p .before) x d))
+    (λ (s : p .before ≡ x). same (both n p) (eqb (p .after) a) (old (p .before)) (new (p .before)) (eqb (p .before) x)
+    (rw s e) (is (p .before) ∙ rw (eq-eqb x (p .before) (sym s)) (mathlib.Core.Bool.or-true (old (p .before))))
+    (eq-eqb (p .before) x s))
+    (λ (d : p .before ≡ x → ⊥). other (both n p) (eqb (p .after) a) (old (p .before)) (new (p .before))
+    (eqb (p .before) x) (is (p .before) ∙ rw (ne-eqb x (p .before) (λ z. d (sym z))) (or-false (old (p .before))))
+    (ne-eqb (p .before) x d))
     (same-or (p .before) x) in
     omega arith
   where
-    same : (c y o m g : Bool) → o ≡ false → m ≡ true → g ≡ true → cond (c && (y && not o)) 1 0 ≡ cond (c && (y && not m)) 1 0 + cond (c && (y && g)) 1 0
+    same : (c y o m g : Bool) → o ≡ false → m ≡ true → g ≡ true
+        → cond (c && (y && not o)) 1 0 ≡ cond (c && (y && not m)) 1 0 + cond (c && (y && g)) 1 0
     same true true o m g p q r = rw (p, q, r) (omega arith)
     same true false o m g p q r = omega arith
     same false y o m g p q r = omega arith
 
-    other : (c y o m g : Bool) → m ≡ o → g ≡ false → cond (c && (y && not o)) 1 0 ≡ cond (c && (y && not m)) 1 0 + cond (c && (y && g)) 1 0
+    other : (c y o m g : Bool) → m ≡ o → g ≡ false
+        → cond (c && (y && not o)) 1 0 ≡ cond (c && (y && not m)) 1 0 + cond (c && (y && g)) 1 0
     other true true o m g p q = rw (p, q) (omega arith)
     other true false o m g p q = omega arith
     other false y o m g p q = omega arith
@@ -116,23 +143,29 @@ push-met : (o : List ℕ) (x a : ℕ) → met (o ++ (x ∷ [])) (length (o ++ (x
 unfolding anyBelow
 push-met o x a = rw (push-length o x, push-new o x, met-same (o ++ (x ∷ [])) o (length o) a (push-old o x))
 
-push-different : (n : ℕ) (o : List ℕ) (x : ℕ) → Different n o (length o) → x < n → met o (length o) x ≡ false → Different n (o ++ (x ∷ [])) (length (o ++ (x ∷ [])))
+push-different : (n : ℕ) (o : List ℕ) (x : ℕ) → Different n o (length o) → x < n → met o (length o) x ≡ false
+    → Different n (o ++ (x ∷ [])) (length (o ++ (x ∷ [])))
 push-different n o x d h f = rw (push-length o x) (record { within = within; once = once })
   where
     split : (p : ℕ) → p < suc (length o) → (p ≡ length o) ⊎ (p < length o)
     split p i = eq-or-lt-of-le (le-of-suc-le-suc i)
 
     within : (p : ℕ) → p < suc (length o) → getD (o ++ (x ∷ [])) p 0 < n
-    within p i = ⊎-elim (λ (e : p ≡ length o). rw (e, push-new o x) h) (λ (l : p < length o). rw (push-old o x p l) (d .within p l)) (split p i)
+    within p i =
+        ⊎-elim (λ (e : p ≡ length o). rw (e, push-new o x) h)
+        (λ (l : p < length o). rw (push-old o x p l) (d .within p l)) (split p i)
 
     never : (p : ℕ) → p < length o → getD o p 0 ≡ x → ⊥
     never p l e = true-false (met-is o (length o) x p l e) f
 
-    once : (p q : ℕ) → p < suc (length o) → q < suc (length o) → getD (o ++ (x ∷ [])) p 0 ≡ getD (o ++ (x ∷ [])) q 0 → p ≡ q
+    once : (p q : ℕ) → p < suc (length o) → q < suc (length o) → getD (o ++ (x ∷ [])) p 0 ≡ getD (o ++ (x ∷ [])) q 0
+        → p ≡ q
     once p q i j e = ⊎-elim
         (λ (u : p ≡ length o). ⊎-elim (λ (v : q ≡ length o). u ∙ sym v)
-        (λ (v : q < length o). absurd (never q v (sym (push-old o x q v) ∙ sym e ∙ ap (λ (z : ℕ). getD (o ++ (x ∷ [])) z 0) u ∙ push-new o x))) (split q j))
-        (λ (u : p < length o). ⊎-elim (λ (v : q ≡ length o). absurd (never p u (sym (push-old o x p u) ∙ e ∙ ap (λ (z : ℕ). getD (o ++ (x ∷ [])) z 0) v ∙ push-new o x)))
+        (λ (v : q < length o). absurd (never q v (sym (push-old o x q v) ∙ sym e
+        ∙ ap (λ (z : ℕ). getD (o ++ (x ∷ [])) z 0) u ∙ push-new o x))) (split q j))
+        (λ (u : p < length o). ⊎-elim (λ (v : q ≡ length o). absurd
+        (never p u (sym (push-old o x p u) ∙ e ∙ ap (λ (z : ℕ). getD (o ++ (x ∷ [])) z 0) v ∙ push-new o x)))
         (λ (v : q < length o). d .once p q u v (sym (push-old o x p u) ∙ e ∙ push-old o x q v)) (split q j)) (split p i)
 
 -- ---- the positions that are free at first
@@ -142,7 +175,9 @@ record Free (w : List ℕ) (k : ℕ) (o : List ℕ) : Type 0 where
   different : Different k o (length o)
 
 below-next : (a k : ℕ) → (a ≡ k → ⊥) → ltb a (suc k) ≡ ltb a k
-below-next a k d = ⊎-elim (λ (h : a < k). lt-ltb a (suc k) (omega arith) ∙ sym (lt-ltb a k h)) (λ (h : k ≤ a). le-ltb a (suc k) (omega arith) ∙ sym (le-ltb a k h)) (lt-or a k)
+below-next a k d =
+    ⊎-elim (λ (h : a < k). lt-ltb a (suc k) (omega arith) ∙ sym (lt-ltb a k h))
+    (λ (h : k ≤ a). le-ltb a (suc k) (omega arith) ∙ sym (le-ltb a k h)) (lt-or a k)
 
 wider : (k : ℕ) (o : List ℕ) (m : ℕ) → Different k o m → Different (suc k) o m
 wider k o m d = record { within = λ p h. let l : getD o p 0 < k = d .within p h in omega arith; once = d .once }
@@ -156,21 +191,27 @@ free-first w zero = record {
 free-first w (suc k) = ⊎-elim
     (λ (z : getD w k 0 ≡ 0). rw (eq-eqb (getD w k 0) 0 z) (record {
       listed = λ a. push-met (freeBelow w k) k a ∙ rw (free-first w k .listed a) (⊎-elim
-          (λ (e : a ≡ k). rw (e, eq-eqb (getD w k 0) 0 z, eq-eqb k k refl, lt-ltb k (suc k) (omega arith)) (mathlib.Core.Bool.or-true (ltb k k && true)))
-          (λ (d : a ≡ k → ⊥). rw (ne-eqb k a (λ s. d (sym s)), below-next a k d) (or-false (ltb a k && eqb (getD w a 0) 0))) (same-or a k));
-      different = push-different (suc k) (freeBelow w k) k (wider k (freeBelow w k) (length (freeBelow w k)) (free-first w k .different)) (omega arith) (free-first w k .listed k ∙ rw (le-ltb k k (omega arith)));
+          (λ (e : a ≡ k). rw (e, eq-eqb (getD w k 0) 0 z, eq-eqb k k refl, lt-ltb k (suc k) (omega arith))
+          (mathlib.Core.Bool.or-true (ltb k k && true)))
+          (λ (d : a ≡ k → ⊥). rw (ne-eqb k a (λ s. d (sym s)), below-next a k d)
+          (or-false (ltb a k && eqb (getD w a 0) 0))) (same-or a k));
+      different =
+          push-different (suc k) (freeBelow w k) k
+          (wider k (freeBelow w k) (length (freeBelow w k)) (free-first w k .different)) (omega arith)
+          (free-first w k .listed k ∙ rw (le-ltb k k (omega arith)));
     }))
     (λ (z : getD w k 0 ≡ 0 → ⊥). rw (ne-eqb (getD w k 0) 0 z, append-nil (freeBelow w k)) (record {
       listed = λ a. free-first w k .listed a ∙ ⊎-elim
-          (λ (e : a ≡ k). rw (e, ne-eqb (getD w k 0) 0 z) (mathlib.Core.Bool.and-false (ltb k k) ∙ sym (mathlib.Core.Bool.and-false (ltb k (suc k)))))
+          (λ (e : a ≡ k). rw (e, ne-eqb (getD w k 0) 0 z)
+          (mathlib.Core.Bool.and-false (ltb k k) ∙ sym (mathlib.Core.Bool.and-false (ltb k (suc k)))))
           (λ (d : a ≡ k → ⊥). rw (below-next a k d)) (same-or a k);
       different = wider k (freeBelow w k) (length (freeBelow w k)) (free-first w k .different);
     })) (same-or (getD w k 0) 0)
 
 -- ---- what holds while the pairs of one position are walked
 
--- every pair into a holds it back while its first is not done, and those from x that are still to be walked do so too; the order has the positions that nothing holds
--- back, each once, and each after all that is linked to it
+-- every pair into a holds it back while its first is not done, and those from x that are still to be walked do so too;
+-- the order has the positions that nothing holds back, each once, and each after all that is linked to it
 record Mid (n : ℕ) (pairs : List ℕ) (done : ℕ → Bool) (x : ℕ) (rest : List Pair) (w o : List ℕ) : Type 0 where
   size : length w ≡ CONTOURS
   counts : (a : ℕ) → a < n → getD w a 0 ≡ pairCount (holds n done a) (paired pairs) + pairCount (goes n x a) rest
@@ -179,8 +220,10 @@ record Mid (n : ℕ) (pairs : List ℕ) (done : ℕ → Bool) (x : ℕ) (rest : 
   early : (p : ℕ) → p < length o → (b : ℕ) → linked n pairs b (getD o p 0) ≡ true → (q : ℕ) × (q < p) × (getD o q 0 ≡ b)
   known : (b : ℕ) → done b ≡ true → (q : ℕ) × (q < length o) × (getD o q 0 ≡ b)
 
-module _ (n : ℕ) (small : n ≤ CONTOURS) (pairs : List ℕ) (done : ℕ → Bool) (x : ℕ) (p : Pair) (rest : List Pair) (w o : List ℕ) (mid : Mid n pairs done x (p ∷ rest) w o) where
-  count-step : (a : ℕ) → a < n → getD w a 0 ≡ pairCount (holds n done a) (paired pairs) + (pairCount (goes n x a) rest + cond (goes n x a p) 1 0)
+module _ (n : ℕ) (small : n ≤ CONTOURS) (pairs : List ℕ) (done : ℕ → Bool) (x : ℕ) (p : Pair) (rest : List Pair)
+    (w o : List ℕ) (mid : Mid n pairs done x (p ∷ rest) w o) where
+  count-step : (a : ℕ) → a < n
+      → getD w a 0 ≡ pairCount (holds n done a) (paired pairs) + (pairCount (goes n x a) rest + cond (goes n x a p) 1 0)
   unfolding pairCount
   count-step a h = mid .counts a h
 
@@ -210,11 +253,16 @@ module _ (n : ℕ) (small : n ≤ CONTOURS) (pairs : List ℕ) (done : ℕ → B
 
     low : into < n
     unfolding into
-    low = ltb-true (p .after) n (and-second (ltb (p .before) n) (ltb (p .after) n) (and-second (eqb (p .before) x) (both n p) t))
+    low = ltb-true (p .after) n (and-second (ltb (p .before) n) (ltb (p .after) n)
+        (and-second (eqb (p .before) x) (both n p) t))
 
     this-goes : goes n x into p ≡ true
     unfolding into
-    this-goes = both-true (both n p) (eqb (p .after) (p .after) && eqb (p .before) x) (and-second (eqb (p .before) x) (both n p) t) (both-true (eqb (p .after) (p .after)) (eqb (p .before) x) (eq-eqb (p .after) (p .after) refl) (and-first (eqb (p .before) x) (both n p) t))
+    this-goes =
+        both-true (both n p) (eqb (p .after) (p .after) && eqb (p .before) x)
+        (and-second (eqb (p .before) x) (both n p) t)
+        (both-true (eqb (p .after) (p .after)) (eqb (p .before) x) (eq-eqb (p .after) (p .after) refl)
+        (and-first (eqb (p .before) x) (both n p) t))
 
     other-goes : (a : ℕ) → (a ≡ into → ⊥) → goes n x a p ≡ false
     unfolding into
@@ -229,11 +277,13 @@ module _ (n : ℕ) (small : n ≤ CONTOURS) (pairs : List ℕ) (done : ℕ → B
     v : ℕ
     v = getD w into 0 - 1
 
-    counts-on : (a : ℕ) → a < n → getD (set w into v) a 0 ≡ pairCount (holds n done a) (paired pairs) + pairCount (goes n x a) rest
+    counts-on : (a : ℕ) → a < n
+        → getD (set w into v) a 0 ≡ pairCount (holds n done a) (paired pairs) + pairCount (goes n x a) rest
     unfolding v
     counts-on a h = ⊎-elim
         (λ (e : a ≡ into). rw (e, getD-set-same w into (getD w into 0 - 1) 0 in-waits) (omega (arith, here)))
-        (λ (d : a ≡ into → ⊥). rw (getD-set-other w into a (getD w into 0 - 1) 0 d) (count-step a h ∙ rw (other-goes a d) (omega arith))) (same-or a into)
+        (λ (d : a ≡ into → ⊥). rw (getD-set-other w into a (getD w into 0 - 1) 0 d)
+        (count-step a h ∙ rw (other-goes a d) (omega arith))) (same-or a into)
 
     -- held back by others still
     mid-still : (getD w into 0 ≡ 1 → ⊥) → Mid n pairs done x rest (set w into v) o
@@ -242,7 +292,9 @@ module _ (n : ℕ) (small : n ≤ CONTOURS) (pairs : List ℕ) (done : ℕ → B
       size = length-set w into v ∙ mid .size;
       counts = counts-on;
       listed = λ a h. mid .listed a h ∙ ⊎-elim
-          (λ (e : a ≡ into). rw (e, getD-set-same w into (getD w into 0 - 1) 0 in-waits) (ne-eqb (getD w into 0) 0 (omega (arith, here)) ∙ sym (ne-eqb (getD w into 0 - 1) 0 (omega (arith, here)))))
+          (λ (e : a ≡ into). rw (e, getD-set-same w into (getD w into 0 - 1) 0 in-waits)
+          (ne-eqb (getD w into 0) 0 (omega (arith, here))
+          ∙ sym (ne-eqb (getD w into 0 - 1) 0 (omega (arith, here)))))
           (λ (c : a ≡ into → ⊥). rw (getD-set-other w into a (getD w into 0 - 1) 0 c)) (same-or a into);
       different = mid .different;
       early = mid .early;
@@ -256,24 +308,34 @@ module _ (n : ℕ) (small : n ≤ CONTOURS) (pairs : List ℕ) (done : ℕ → B
       size = length-set w into v ∙ mid .size;
       counts = counts-on;
       listed = λ a h. push-met o into a ∙ ⊎-elim
-          (λ (e : a ≡ into). rw (e, getD-set-same w into (getD w into 0 - 1) 0 in-waits, eq-eqb into into refl, one) (mathlib.Core.Bool.or-true (met o (length o) into)))
-          (λ (c : a ≡ into → ⊥). rw (getD-set-other w into a (getD w into 0 - 1) 0 c, ne-eqb into a (λ s. c (sym s))) (or-false (met o (length o) a) ∙ mid .listed a h)) (same-or a into);
-      different = push-different n o into (mid .different) low (mid .listed into low ∙ ne-eqb (getD w into 0) 0 (omega arith));
+          (λ (e : a ≡ into). rw (e, getD-set-same w into (getD w into 0 - 1) 0 in-waits, eq-eqb into into refl, one)
+          (mathlib.Core.Bool.or-true (met o (length o) into)))
+          (λ (c : a ≡ into → ⊥). rw (getD-set-other w into a (getD w into 0 - 1) 0 c, ne-eqb into a (λ s. c (sym s)))
+          (or-false (met o (length o) a) ∙ mid .listed a h)) (same-or a into);
+      different =
+          push-different n o into (mid .different) low (mid .listed into low ∙ ne-eqb (getD w into 0) 0 (omega arith));
       early = early;
-      known = λ b e. let f = mid .known b e in (f .0, omega (arith, f .1, push-length o into), push-old o into (f .0) (f .1) ∙ f .2);
+      known = λ b e. let f =
+          mid .known b e in (f .0, omega (arith, f .1, push-length o into), push-old o into (f .0) (f .1) ∙ f .2);
     }
       where
         first : (b : ℕ) → linked n pairs b into ≡ true → (q : ℕ) × (q < length o) × (getD o q 0 ≡ b)
-        first b l = mid .known b (⊎-elim (λ (y : done b ≡ true). y) (λ (y : done b ≡ false). absurd (true-false (still y) none)) (yes-or-no (done b)))
+        first b l =
+            mid .known b (⊎-elim (λ (y : done b ≡ true). y)
+            (λ (y : done b ≡ false). absurd (true-false (still y) none)) (yes-or-no (done b)))
           where
             none : holds n done into (record { before = b; after = into }) ≡ false
-            none = count-zero (holds n done into) (paired pairs) b into (omega (arith, here)) (pair-linked n pairs b into l)
+            none = count-zero (holds n done into) (paired pairs) b into (omega (arith, here))
+                (pair-linked n pairs b into l)
 
             still : done b ≡ false → holds n done into (record { before = b; after = into }) ≡ true
             still y = let r = linked-within n pairs b into l in
-                both-true (both n (record { before = b; after = into })) (eqb into into && not (done b)) (both-yes n (record { before = b; after = into }) (r .0) (r .1)) (rw (eq-eqb into into refl, y))
+                both-true (both n (record { before = b; after = into })) (eqb into into && not (done b))
+                (both-yes n (record { before = b; after = into }) (r .0) (r .1)) (rw (eq-eqb into into refl, y))
 
-        early : (q : ℕ) → q < length (o ++ (into ∷ [])) → (b : ℕ) → linked n pairs b (getD (o ++ (into ∷ [])) q 0) ≡ true → (r : ℕ) × (r < q) × (getD (o ++ (into ∷ [])) r 0 ≡ b)
+        early : (q : ℕ) → q < length (o ++ (into ∷ [])) → (b : ℕ)
+            → linked n pairs b (getD (o ++ (into ∷ [])) q 0) ≡ true
+            → (r : ℕ) × (r < q) × (getD (o ++ (into ∷ [])) r 0 ≡ b)
         early q h b l = go (eq-or-lt-of-le (le-of-suc-le-suc (rw (push-length o into) at h)))
           where
             go : (q ≡ length o) ⊎ (q < length o) → (r : ℕ) × (r < q) × (getD (o ++ (into ∷ [])) r 0 ≡ b)
@@ -292,7 +354,12 @@ record Grown (o k : List ℕ) : Type 0 where
   kept : (q : ℕ) → q < length o → getD k q 0 ≡ getD o q 0
 
 grown-on : (o k l : List ℕ) → Grown o k → Grown k l → Grown o l
-grown-on o k l f g = record { longer = omega (arith, f .longer, g .longer); kept = λ q h. g .kept q (omega (arith, f .longer)) ∙ f .kept q h }
+grown-on o k l f g =
+    record {
+      longer = omega (arith, f .longer, g .longer);
+      kept =
+          λ q h. g .kept q (omega (arith, f .longer)) ∙ f .kept q h;
+    }
 
 record Walked (n : ℕ) (pairs : List ℕ) (done : ℕ → Bool) (x : ℕ) (rest : List Pair) (o : List ℕ)
     (s : Kahn) : Type 0 where
@@ -326,10 +393,12 @@ walk-all : (n : ℕ) → n ≤ CONTOURS → (pairs : List ℕ) (done : ℕ → B
     Mid n pairs done x rest (s .waits) (s .queue) →
     Walked n pairs done x [] (s .queue) (released n x rest s)
 unfolding released
-walk-all n small pairs done x [] s mid = record { mid = mid; grown = record { longer = omega arith; kept = λ q h. refl } }
+walk-all n small pairs done x [] s mid =
+    record { mid = mid; grown = record { longer = omega arith; kept = λ q h. refl } }
 walk-all n small pairs done x (p ∷ rest) s mid =
     let one = walk-one n small pairs done x p rest s mid in
-    let all = walk-all n small pairs done x rest (cond (eqb (p .before) x && both n p) (loosened s (p .after)) s) (one .mid) in
+    let all = walk-all n small pairs done x rest (cond (eqb (p .before) x && both n p) (loosened s (p .after)) s)
+    (one .mid) in
     record { mid = all .mid; grown = grown-on _ _ _ (one .grown) (all .grown) }
 
 -- ---- one position after the other
@@ -340,7 +409,8 @@ record Outer (n : ℕ) (pairs : List ℕ) (i : ℕ) (s : Kahn) : Type 0 where
   mid : Mid n pairs (met (s .queue) i) 0 [] (s .waits) (s .queue)
 
 -- with no pairs left to walk it does not matter whose they were
-whose : (n : ℕ) (pairs : List ℕ) (done other : ℕ → Bool) (x y : ℕ) (w o : List ℕ) → ((b : ℕ) → done b ≡ other b) → Mid n pairs done x [] w o → Mid n pairs other y [] w o
+whose : (n : ℕ) (pairs : List ℕ) (done other : ℕ → Bool) (x y : ℕ) (w o : List ℕ) → ((b : ℕ) → done b ≡ other b)
+    → Mid n pairs done x [] w o → Mid n pairs other y [] w o
 unfolding pairCount
 whose n pairs done other x y w o same mid = subst (λ (d : ℕ → Bool). Mid n pairs d y [] w o) (fun-ext same) (record {
   size = mid .size;
@@ -410,18 +480,27 @@ outer-all n small pairs (suc most) i s h outer = ⊎-elim
 
 -- ---- how it stands at first
 
-tallied-counts : (n : ℕ) → n ≤ CONTOURS → (none : ℕ → Bool) → ((b : ℕ) → none b ≡ false) → (a : ℕ) → a < n → (ps : List Pair) (w : List ℕ) → length w ≡ CONTOURS →
+tallied-counts : (n : ℕ) → n ≤ CONTOURS → (none : ℕ → Bool) → ((b : ℕ) → none b ≡ false) → (a : ℕ) → a < n
+    → (ps : List Pair) (w : List ℕ) → length w ≡ CONTOURS →
     getD (tallied n ps w) a 0 ≡ getD w a 0 + pairCount (holds n none a) ps
 unfolding tallied pairCount
 tallied-counts n small none no' a h [] w size = omega arith
 tallied-counts n small none no' a h (p ∷ ps) w size = ⊎-elim
     (λ (t : both n p ≡ true). rw (t, no' (p .before)) (
     let low : p .after < n = ltb-true (p .after) n (and-second (ltb (p .before) n) (ltb (p .after) n) t) in
-    let rec : getD (tallied n ps (heldBack w (p .after))) a 0 ≡ getD (heldBack w (p .after)) a 0 + pairCount (holds n none a) ps = tallied-counts n small none no' a h ps (heldBack w (p .after)) (length-set w (p .after) (getD w (p .after) 0 + 1) ∙ size) in
+    let rec : getD (tallied n ps (heldBack w (p .after))) a 0
+    ≡ getD (heldBack w (p .after)) a 0 + pairCount (holds n none a) ps =
+    tallied-counts n small none no' a h ps (heldBack w (p .after))
+    (length-set w (p .after) (getD w (p .after) 0 + 1) ∙ size) in
     ⊎-elim
-    (λ (e : p .after ≡ a). let g : getD (heldBack w (p .after)) a 0 ≡ getD w a 0 + 1 = rw e (getD-set-same w a (getD w a 0 + 1) 0 (omega arith)) in rw (eq-eqb (p .after) a e) (omega arith))
-    (λ (d : p .after ≡ a → ⊥). let g : getD (heldBack w (p .after)) a 0 ≡ getD w a 0 = getD-set-other w (p .after) a (getD w (p .after) 0 + 1) 0 (λ s. d (sym s)) in rw (ne-eqb (p .after) a d) (omega arith)) (same-or (p .after) a)))
-    (λ (f : both n p ≡ false). rw f (let rec : getD (tallied n ps w) a 0 ≡ getD w a 0 + pairCount (holds n none a) ps = tallied-counts n small none no' a h ps w size in omega arith)) (yes-or-no (both n p))
+    (λ (e : p .after ≡ a). let g : getD (heldBack w (p .after)) a 0 ≡ getD w a 0 + 1 =
+    rw e (getD-set-same w a (getD w a 0 + 1) 0 (omega arith)) in rw (eq-eqb (p .after) a e) (omega arith))
+    (λ (d : p .after ≡ a → ⊥). let g : getD (heldBack w (p .after)) a 0 ≡ getD w a 0 =
+    getD-set-other w (p .after) a (getD w (p .after) 0 + 1) 0 (λ s. d (sym s)) in rw (ne-eqb (p .after) a d)
+    (omega arith)) (same-or (p .after) a)))
+    (λ (f : both n p ≡ false). rw f (let rec : getD (tallied n ps w) a 0
+    ≡ getD w a 0 + pairCount (holds n none a) ps = tallied-counts n small none no' a h ps w size in omega arith))
+    (yes-or-no (both n p))
 
 outer-first : (n : ℕ) → n ≤ CONTOURS → (pairs : List ℕ) → Outer n pairs 0 (untaken n (paired pairs))
 unfolding untaken anyBelow pairCount
@@ -447,10 +526,15 @@ outer-first n small pairs = record {
     free = free-first w n
 
     count : (a : ℕ) → a < n → getD w a 0 ≡ pairCount (holds n (λ _. false) a) (paired pairs)
-    count a h = tallied-counts n small (λ _. false) (λ _. refl) a h (paired pairs) (replicate CONTOURS 0) (length-replicate {A = ℕ} CONTOURS 0) ∙ rw (zeros CONTOURS a) (omega arith)
+    count a h =
+        tallied-counts n small (λ _. false) (λ _. refl) a h (paired pairs) (replicate CONTOURS 0)
+        (length-replicate {A = ℕ} CONTOURS 0) ∙ rw (zeros CONTOURS a) (omega arith)
 
-    early : (p : ℕ) → p < length o → (b : ℕ) → linked n pairs b (getD o p 0) ≡ true → (q : ℕ) × (q < p) × (getD o q 0 ≡ b)
-    early p h b l = absurd (true-false held (count-zero (holds n (λ _. false) a) (paired pairs) b a (sym (count a low) ∙ zero') (pair-linked n pairs b a l)))
+    early : (p : ℕ) → p < length o → (b : ℕ) → linked n pairs b (getD o p 0) ≡ true
+        → (q : ℕ) × (q < p) × (getD o q 0 ≡ b)
+    early p h b l =
+        absurd (true-false held (count-zero (holds n (λ _. false) a) (paired pairs) b a (sym (count a low) ∙ zero')
+        (pair-linked n pairs b a l)))
       where
         a : ℕ
         a = getD o p 0
@@ -459,10 +543,13 @@ outer-first n small pairs = record {
         low = free .different .within p h
 
         zero' : getD w a 0 ≡ 0
-        zero' = eqb-true (getD w a 0) 0 (and-second (ltb a n) (eqb (getD w a 0) 0) (sym (free .listed a) ∙ met-is o (length o) a p h refl))
+        zero' = eqb-true (getD w a 0) 0 (and-second (ltb a n) (eqb (getD w a 0) 0)
+            (sym (free .listed a) ∙ met-is o (length o) a p h refl))
 
         held : holds n (λ _. false) a (record { before = b; after = a }) ≡ true
-        held = let r = linked-within n pairs b a l in both-true (both n (record { before = b; after = a })) (eqb a a && true) (both-yes n (record { before = b; after = a }) (r .0) (r .1)) (rw (eq-eqb a a refl))
+        held = let r =
+            linked-within n pairs b a l in both-true (both n (record { before = b; after = a })) (eqb a a && true)
+            (both-yes n (record { before = b; after = a }) (r .0) (r .1)) (rw (eq-eqb a a refl))
 
 -- ---- the whole order
 
@@ -489,7 +576,10 @@ module _ (n : ℕ) (small : n ≤ CONTOURS) (pairs : List ℕ) (free : Acyclic n
       missing b = not (met (end .queue) (length (end .queue)) b)
 
       never : (m : ℕ) × Least n (linked n pairs) (linked-within n pairs) free missing m → ⊥
-      never (m, l) = l .none (q .0 .before) low (and-second (eqb (q .0 .after) m) (missing (q .0 .before)) (and-second (both n (q .0)) (eqb (q .0 .after) m && missing (q .0 .before)) (q .2))) (rw same at (linked-pair n pairs (q .0 .before) (q .0 .after) low (rw same (l .within)) (q .1)))
+      never (m, l) =
+          l .none (q .0 .before) low (and-second (eqb (q .0 .after) m) (missing (q .0 .before))
+          (and-second (both n (q .0)) (eqb (q .0 .after) m && missing (q .0 .before)) (q .2)))
+          (rw same at (linked-pair n pairs (q .0 .before) (q .0 .after) low (rw same (l .within)) (q .1)))
         where
           waits : getD (end .waits) m 0 ≡ 0 → ⊥
           waits = eqb-false (getD (end .waits) m 0) 0
@@ -501,10 +591,12 @@ module _ (n : ℕ) (small : n ≤ CONTOURS) (pairs : List ℕ) (free : Acyclic n
               (λ e. waits (whole .mid .counts m (l .within) ∙ rw e (omega arith)))
 
           low : q .0 .before < n
-          low = ltb-true (q .0 .before) n (and-first (ltb (q .0 .before) n) (ltb (q .0 .after) n) (and-first (both n (q .0)) (eqb (q .0 .after) m && missing (q .0 .before)) (q .2)))
+          low = ltb-true (q .0 .before) n (and-first (ltb (q .0 .before) n) (ltb (q .0 .after) n)
+              (and-first (both n (q .0)) (eqb (q .0 .after) m && missing (q .0 .before)) (q .2)))
 
           same : q .0 .after ≡ m
-          same = eqb-true (q .0 .after) m (and-first (eqb (q .0 .after) m) (missing (q .0 .before)) (and-second (both n (q .0)) (eqb (q .0 .after) m && missing (q .0 .before)) (q .2)))
+          same = eqb-true (q .0 .after) m (and-first (eqb (q .0 .after) m) (missing (q .0 .before))
+              (and-second (both n (q .0)) (eqb (q .0 .after) m && missing (q .0 .before)) (q .2)))
 
   full : length (end .queue) ≡ n
   full = omega (
@@ -522,7 +614,8 @@ module _ (n : ℕ) (small : n ≤ CONTOURS) (pairs : List ℕ) (free : Acyclic n
     };
     before = λ p q h i l.
         let f = whole .mid .early q (omega (arith, full)) (getD (end .queue) p 0) l in
-        let e : f .0 ≡ p = whole .mid .different .once (f .0) p (omega (arith, f .1, full)) (omega (arith, full)) (f .2) in
+        let e : f .0 ≡ p =
+        whole .mid .different .once (f .0) p (omega (arith, f .1, full)) (omega (arith, full)) (f .2) in
         omega (arith, f .1);
   }
 
@@ -537,40 +630,62 @@ module _ (n : ℕ) (small : n ≤ CONTOURS) (pairs : List ℕ) (free : Acyclic n
 -- ---- the theorems
 
 -- a legal order exists exactly where no position reaches itself
-pub legal-exactly : (n : ℕ) → n ≤ CONTOURS → (pairs : List ℕ) → ((order : List ℕ) × Legal n pairs order) ↔ Acyclic n pairs
-legal-exactly n small pairs = ((λ some. legal-acyclic n pairs (some .0) (some .1)), (λ free. (sortedBy n pairs, sorted-legal n small pairs free)))
+pub legal-exactly : (n : ℕ) → n ≤ CONTOURS → (pairs : List ℕ)
+    → ((order : List ℕ) × Legal n pairs order) ↔ Acyclic n pairs
+legal-exactly n small pairs =
+    ((λ some. legal-acyclic n pairs (some .0) (some .1)), (λ free. (sortedBy n pairs, sorted-legal n small pairs free)))
 
 module _ (contours : ℕ) (pairs : List ℕ) (fine : Check.Fine ≡ pairsCheck contours pairs) where
   limit : contours ≤ CONTOURS
   limit = fine-small contours pairs fine .few
 
   first-on : firstOnCycle contours pairs ≡ lowest (onCycle contours pairs) contours
-  first-on = let e : min contours CONTOURS ≡ contours = omega (arith, limit) in ap (λ (m : ℕ). lowest (onCycle m pairs) m) e
+  first-on = let e : min contours CONTOURS ≡ contours =
+      omega (arith, limit) in ap (λ (m : ℕ). lowest (onCycle m pairs) m) e
 
   -- where no position reaches itself, the question is answered with a legal order
-  pub sort-answers : Acyclic contours pairs → (topologicalSort contours pairs ≡ orderOf Check.Fine (sortedBy contours pairs)) × Legal contours pairs (sortedBy contours pairs)
-  sort-answers free = (sym (sort-told contours pairs Check.Fine fine Found.Absent (sym (first-on ∙ absent-exactly contours pairs .1 free)) refl (orderOf Check.Fine (sortedBy contours pairs)) refl refl), sorted-legal contours limit pairs free)
+  pub sort-answers : Acyclic contours pairs
+      → (topologicalSort contours pairs ≡ orderOf Check.Fine (sortedBy contours pairs)) × Legal contours pairs
+      (sortedBy contours pairs)
+  sort-answers free = (
+    sym (sort-told contours pairs Check.Fine fine Found.Absent
+        (sym (first-on ∙ absent-exactly contours pairs .1 free)) refl (orderOf Check.Fine (sortedBy contours pairs))
+        refl refl),
+    sorted-legal contours limit pairs free,
+  )
 
   -- where k is the lowest position that reaches itself, it is refused 12 at k
-  pub sort-refuses : (k : ℕ) → LowestAt (onCycle contours pairs) contours k → (topologicalSort contours pairs) .check ≡ Check.Refused (record { number = 12; place = k })
+  pub sort-refuses : (k : ℕ) → LowestAt (onCycle contours pairs) contours k
+      → (topologicalSort contours pairs) .check ≡ Check.Refused (record { number = 12; place = k })
   sort-refuses k at =
       ap (λ (r : Order). r .check)
-      (sym (sort-cycle contours pairs Check.Fine fine (Found.At k) (sym (first-on ∙ at-is (onCycle contours pairs) contours k at)) refl
+      (sym (sort-cycle contours pairs Check.Fine fine (Found.At k)
+      (sym (first-on ∙ at-is (onCycle contours pairs) contours k at)) refl
       k _ refl refl))
 
   -- refused 12 exactly where there is no legal order
-  pub refused-exactly : ((k : ℕ) × ((topologicalSort contours pairs) .check ≡ Check.Refused (record { number = 12; place = k }))) ↔ (((order : List ℕ) × Legal contours pairs order) → ⊥)
+  pub refused-exactly : ((k : ℕ) × ((topologicalSort contours pairs) .check
+      ≡ Check.Refused (record { number = 12; place = k }))) ↔ (((order : List ℕ) × Legal contours pairs order) → ⊥)
   refused-exactly = (to, from)
     where
-      to : (k : ℕ) × ((topologicalSort contours pairs) .check ≡ Check.Refused (record { number = 12; place = k })) → ((order : List ℕ) × Legal contours pairs order) → ⊥
+      to : (k : ℕ) × ((topologicalSort contours pairs) .check ≡ Check.Refused (record { number = 12; place = k }))
+          → ((order : List ℕ) × Legal contours pairs order) → ⊥
       to (k, e) (order, legal) =
-          let f : (topologicalSort contours pairs) .check ≡ Check.Fine = ap (λ (r : Order). r .check) (sort-answers (legal-acyclic contours pairs order legal) .0) in
+          let f : (topologicalSort contours pairs) .check ≡ Check.Fine =
+          ap (λ (r : Order). r .check) (sort-answers (legal-acyclic contours pairs order legal) .0) in
           let z : _≡_ {A = ℕ} 0 1 = cc in
           omega arith
 
-      from : (((order : List ℕ) × Legal contours pairs order) → ⊥) → (k : ℕ) × ((topologicalSort contours pairs) .check ≡ Check.Refused (record { number = 12; place = k }))
+      from : (((order : List ℕ) × Legal contours pairs order) → ⊥)
+          → (k : ℕ) × ((topologicalSort contours pairs) .check ≡ Check.Refused (record { number = 12; place = k }))
       from none = go (search-through (onCycle contours pairs) contours)
         where
-          go : ((k : ℕ) × LowestAt (onCycle contours pairs) contours k) ⊎ Nowhere (onCycle contours pairs) contours → (k : ℕ) × ((topologicalSort contours pairs) .check ≡ Check.Refused (record { number = 12; place = k }))
+          go : ((k : ℕ) × LowestAt (onCycle contours pairs) contours k) ⊎ Nowhere (onCycle contours pairs) contours
+              → (k : ℕ) × ((topologicalSort contours pairs) .check ≡ Check.Refused (record { number = 12; place = k }))
           go (inl (k, at)) = (k, sort-refuses k at)
-          go (inr no') = absurd (none (sortedBy contours pairs, sorted-legal contours limit pairs (absent-exactly contours pairs .0 (absent-is (onCycle contours pairs) contours no'))))
+          go (inr no') =
+              absurd (none (
+                sortedBy contours pairs,
+                sorted-legal contours limit pairs
+                    (absent-exactly contours pairs .0 (absent-is (onCycle contours pairs) contours no')),
+              ))

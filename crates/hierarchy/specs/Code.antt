@@ -1,4 +1,5 @@
--- How the code holds Kahn's order: the positions taken and then the queue in one array, the waits in another. Assumes nothing.
+-- How the code holds Kahn's order: the positions taken and then the queue in one array, the waits in another. Assumes
+-- nothing.
 use mathlib.Core.Bool.{cond}
 use mathlib.Core.List.{List, [], _∷_}
 use mathlib.Core.Path.{_≡_}

@@ -1,4 +1,5 @@
--- The questions on a list of pairs: what is refused, with which number and at which place, and what is answered. Assumes nothing.
+-- The questions on a list of pairs: what is refused, with which number and at which place, and what is answered.
+-- Assumes nothing.
 use mathlib.Core.Bool.{Bool, cond}
 use mathlib.Core.List.{List, [], _∷_}
 use Prim.Native.Nat.{ℕ, _+_, _*_, _/_, _%_}
@@ -28,11 +29,13 @@ unfolding firstRefusal
 pairsCheck contours pairs =
     firstRefusal
     (refuseIf (ltb CONTOURS contours) 4 1
-    ∷ (refuseIf (ltb PAIRS (length pairs / 2 + length pairs % 2)) 4 2 ∷ (refuseIf (eqb (length pairs % 2) 1) 10 (length pairs / 2) ∷ [])))
+    ∷ (refuseIf (ltb PAIRS (length pairs / 2 + length pairs % 2)) 4 2
+    ∷ (refuseIf (eqb (length pairs % 2) 1) 10 (length pairs / 2) ∷ [])))
 
 -- then too many ids asked about
 abbrev pub validCheck : ℕ → List ℕ → List ℕ → Check
-validCheck contours pairs ids = orElse (pairsCheck contours pairs) (refuseIf (ltb CONTOURS (length ids)) 15 (length ids))
+validCheck contours pairs ids =
+    orElse (pairsCheck contours pairs) (refuseIf (ltb CONTOURS (length ids)) 15 (length ids))
 
 -- or then a cycle, at the lowest position on one
 abbrev pub sortCheck : ℕ → List ℕ → Check
@@ -85,7 +88,8 @@ violatesOf contours pairs a b = verdictOf (pairsCheck contours pairs) (someOf (i
 
 -- the ids that pairs put before this one
 abbrev pub predecessorsOf : ℕ → List ℕ → ℕ → Ids
-predecessorsOf contours pairs id = idsOf (pairsCheck contours pairs) (picked (endsAt id) (λ p. p .before) (paired pairs))
+predecessorsOf contours pairs id =
+    idsOf (pairsCheck contours pairs) (picked (endsAt id) (λ p. p .before) (paired pairs))
 
 -- the ids that pairs put after this one
 abbrev pub successorsOf : ℕ → List ℕ → ℕ → Ids

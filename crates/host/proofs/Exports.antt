@@ -16,7 +16,8 @@ use Rattle.answer.proofs.CodeLaws.{code-number, code-place}
 use Rattle.answer.specs.Lowest.{refuseIf}
 use Rattle.fields.specs.Layout.{contoursOf}
 use Rattle.card.specs.Verdict.{checkOf}
-use Rattle.card_laws.specs.Table.{Given, one, two, three, four, five, three-later, six, seven, eight, nine, ten, eleven, twelve}
+use Rattle.card_laws.specs.Table.{Given, one, two, three, four, five, three-later, six, seven, eight, nine, ten, eleven}
+use Rattle.card_laws.specs.Table.{twelve}
 use Rattle.card_laws.proofs.Verdicts.{exactly}
 use Rattle.table.proofs.PlaceLaws.{square-small}
 use Rattle.instance.proofs.FineLaws.{few-candidates}
@@ -32,9 +33,12 @@ module _ (s room : List ℕ) (table : List Float) (moves bits : ℕ) where
 
   whole : Check → Bool → Bool → Left
   whole c a b =
-      touredUnless (firstRefusal (c ∷ firstRefusal (refuseIf a 13 (contoursOf s) ∷ refuseIf b 13 (countOn s * countOn s) ∷ []) ∷ [])) (toured s room table) room table
+      touredUnless (firstRefusal (c
+      ∷ firstRefusal (refuseIf a 13 (contoursOf s) ∷ refuseIf b 13 (countOn s * countOn s) ∷ []) ∷ []))
+      (toured s room table) room table
 
-  same : (c : Check) (a b : Bool) → (c ≡ Fine → b ≡ false) → host c a ≡ asTold (whole c a b .answer) (whole c a b .room) moves bits
+  same : (c : Check) (a b : Bool) → (c ≡ Fine → b ≡ false)
+      → host c a ≡ asTold (whole c a b .answer) (whole c a b .room) moves bits
   unfolding host whole firstRefusal
   same (Refused q) a b h = refl
   same Fine true b h = refl
@@ -45,7 +49,8 @@ module _ (s room : List ℕ) (table : List Float) (moves bits : ℕ) where
   unfolding host hostTour hostCheck
   host-is = refl
 
-  tour-is : tourOf s room table ≡ whole (checkOf s) (ltb (length room) (contoursOf s)) (ltb (length table) (countOn s * countOn s))
+  tour-is : tourOf s room table ≡ whole (checkOf s) (ltb (length room) (contoursOf s))
+      (ltb (length table) (countOn s * countOn s))
   unfolding whole tourOf tourCheck roomCheck
   tour-is = refl
 
@@ -76,14 +81,22 @@ zero-fine s (Refused r) e z =
     absurd (omega arith)
 
 coded : Coded
-coded = record { good = λ s. (zero-fine s (checkOf s) refl, λ e. ap codeOf e); number = code-number; place = code-place }
+coded = record {
+  good = λ s. (zero-fine s (checkOf s) refl, λ e. ap codeOf e);
+  number = code-number;
+  place =
+      code-place;
+}
 
-toured-so : (s : List ℕ) → TourTold s
+-- the exported tour is the tour of the question
+pub toured-so : (s : List ℕ) → TourTold s
 toured-so s room table moves bits large =
     rw (tour-is s room table moves bits)
     (host-is s room table moves bits
-    ∙ same s room table moves bits (checkOf s) (ltb (length room) (contoursOf s)) (ltb (length table) (countOn s * countOn s))
-    (λ fine. le-ltb (length table) (countOn s * countOn s) (let few = square-small (countOn s) (few-candidates s fine) in omega arith)))
+    ∙ same s room table moves bits (checkOf s) (ltb (length room) (contoursOf s))
+    (ltb (length table) (countOn s * countOn s))
+    (λ fine. le-ltb (length table) (countOn s * countOn s)
+    (let few = square-small (countOn s) (few-candidates s fine) in omega arith)))
 
 pub claim : Claim
 claim = (coded, toured-so)

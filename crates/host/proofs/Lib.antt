@@ -1,3 +1,3 @@
-pub mod HostLaws
 pub mod Exports
+pub mod HostLaws
 pub mod Unique

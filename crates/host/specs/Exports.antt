@@ -1,5 +1,6 @@
--- What a C or Rust host is told. Its one number is 0 exactly for a good card and else holds the refusal's number and place; and its tour is
--- what the tour's question answers with a table as large as the library's own: so each demand holds of the exports as well. Assumes nothing.
+-- What a C or Rust host is told. Its one number is 0 exactly for a good card and else holds the refusal's number and
+-- place; and its tour is what the tour's question answers with a table as large as the library's own: so each demand
+-- holds of the exports as well. Assumes nothing.
 use mathlib.Core.Path.{_≡_}
 use mathlib.Core.Logic.{_↔_}
 use mathlib.Core.List.{List}
@@ -16,7 +17,8 @@ use Rattle.tour.specs.declared.Toured.the-variants as answer
 use Rattle.tour.specs.Tour.{tourOf}
 use Rattle.host.specs.Hosts.{Hosted, hosted, hostTour}
 
--- an answer as a host is told it: 0 with the trials and the length's bits, or the refusal's number with both left as they were
+-- an answer as a host is told it: 0 with the trials and the length's bits, or the refusal's number with both left as
+-- they were
 abbrev pub asTold : Toured → List ℕ → ℕ → ℕ → Hosted
 asTold (answer.Done o) room moves bits = hosted 0 room (o .moves) (toBits binary64 (o .length))
 asTold (answer.Refused r) room moves bits = hosted (codeOf (check.Refused r)) room moves bits

@@ -33,7 +33,8 @@ hostCheck s entries = firstRefusal (checkOf s ∷ refuseIf (ltb entries (contour
 
 -- accepted: 0, the tour at the front of its room, the trials, and the bits of the length; a refusal keeps them all
 abbrev pub hostedUnless : Check → List ℕ → List ℕ → ℕ → ℕ → Hosted
-hostedUnless Fine s room moves bits = hosted 0 (placed (tourOn s) room) (outcomeOn s .moves) (toBits binary64 (outcomeOn s .length))
+hostedUnless Fine s room moves bits =
+    hosted 0 (placed (tourOn s) room) (outcomeOn s .moves) (toBits binary64 (outcomeOn s .length))
 hostedUnless (Refused r) s room moves bits = hosted (codeOf (Refused r)) room moves bits
 
 unfoldable pub hostTour : List ℕ → List ℕ → ℕ → ℕ → Hosted

@@ -2,10 +2,12 @@
 use mathlib.Core.Bool.{Bool, true, false, not, cond, _&&_, _||_}
 use mathlib.Core.Path.{_≡_, refl, sym, ap, subst, _∙_}
 use Prim.Native.Nat.{ℕ, zero, suc, _+_, _-_, _*_, _^_, _≤_, _<_}
-use native.Mathlib.Nat.{le-trans, le-of-eq, le-of-lt, mul-comm, mul-assoc, mul-left-comm, mul-pos, mul-le-mul-right, le-of-mul-le-mul-right, zero-mul}
+use native.Mathlib.Nat.{le-trans, le-of-eq, le-of-lt, mul-comm, mul-assoc, mul-left-comm, mul-pos, mul-le-mul-right}
+use native.Mathlib.Nat.{le-of-mul-le-mul-right, zero-mul}
 use native.Mathlib.Omega.{arith}
 use lib.Dec.{T, ltb, eqb, ltb→lt, nltb→le, eqb→eq, eqb-refl}
-use lib.Ieee.{Float, nan, inf, fin, Format, binary64, prec, emax, low, up, down, below, level, odd, units, round, neg, sum, add, sub, lt, le, fits}
+use lib.Ieee.{Float, nan, inf, fin, Format, binary64, prec, emax, low, up, down, below, level, odd, units, round, neg}
+use lib.Ieee.{sum, add, sub, lt, le, fits}
 use lib.Ieee.Exact.{HasValue, round-exact}
 use lib.Ieee.Fits.{down-pos, and-i, and-l, and-r, round-is}
 use lib.Ieee.Order.{le-of-values, round-mono}
@@ -36,14 +38,16 @@ eqb-of a b e = subst (λ (z : ℕ). T (eqb a z)) e (eqb-refl a)
 
 at-most : (s : Bool) (a : ℕ) (t : Bool) (b : ℕ) → T (below s a t b || level s a t b) → AtMost s a t b
 at-most false a false b h =
-    either (ltb a b) (eqb a b && true) (a ≤ b) (λ k. le-of-lt (ltb→lt a b k)) (λ k. le-of-eq (eqb→eq a b (and-l (eqb a b) true k))) h
+    either (ltb a b) (eqb a b && true) (a ≤ b) (λ k. le-of-lt (ltb→lt a b k))
+    (λ k. le-of-eq (eqb→eq a b (and-l (eqb a b) true k))) h
 at-most false a true b h =
     let e : a ≡ b = eqb→eq a b (and-l (eqb a b) (eqb a 0) h) in
     let z : a ≡ 0 = eqb→eq a 0 (and-r (eqb a b) (eqb a 0) h) in
     (z, sym e ∙ z)
 at-most true a false b h = tt
 at-most true a true b h =
-    either (ltb b a) (eqb a b && true) (b ≤ a) (λ k. le-of-lt (ltb→lt b a k)) (λ k. le-of-eq (sym (eqb→eq a b (and-l (eqb a b) true k)))) h
+    either (ltb b a) (eqb a b && true) (b ≤ a) (λ k. le-of-lt (ltb→lt b a k))
+    (λ k. le-of-eq (sym (eqb→eq a b (and-l (eqb a b) true k)))) h
 
 ordered : (a b : ℕ) → a ≤ b → T (ltb a b || (eqb a b && true))
 ordered a b h = go (ltb a b) refl
@@ -141,7 +145,8 @@ le-trans-float (fin s a p) (fin t b q) (inf true) h k = absurd k
 le-trans-float (fin s a p) (fin t b q) (inf false) h k = tt
 le-trans-float (fin s a p) (fin t b q) (fin u c r) h k =
     tested s (a * up p * down r) u (c * up r * down p)
-    (at-most-trans s (a * up p) (down p) t (b * up q) (down q) u (c * up r) (down r) (down-pos p) (down-pos q) (down-pos r)
+    (at-most-trans s (a * up p) (down p) t (b * up q) (down q) u (c * up r) (down r) (down-pos p) (down-pos q)
+    (down-pos r)
     (at-most s (a * up p * down q) t (b * up q * down p) h) (at-most t (b * up q * down r) u (c * up r * down q) k))
 
 pub lt→le : (x y : Float) → lt x y ≡ true → T (le x y)
@@ -173,7 +178,8 @@ units-below f q k m e = go (ltb (q * 2 ^ k) (2 ^ (low f + suc (emax f))))
     go false = inf-below m e
 
 round-below : (f : Format) (a c m : ℕ) (e : ℤ) → T (le (round f true a c) (fin false m e))
-round-below f a c m e = subst (λ (z : Float). T (le z (fin false m e))) (sym (round-is f true a c)) (units-below f _ _ m e)
+round-below f a c m e =
+    subst (λ (z : Float). T (le z (fin false m e))) (sym (round-is f true a c)) (units-below f _ _ m e)
 
 -- a minus goes to the front of a rounding
 odd-neg : (d q k l : ℕ) → odd d true q k l ≡ neg (odd d false q k l)
@@ -185,7 +191,9 @@ units-neg : (f : Format) (q k : ℕ) → units f true q k ≡ neg (units f false
 unfolding units neg
 units-neg f q k = go (ltb (q * 2 ^ k) (2 ^ (low f + suc (emax f))))
   where
-    go : (b : Bool) → cond b (odd (suc (prec f)) true q k (low f)) (inf true) ≡ neg (cond b (odd (suc (prec f)) false q k (low f)) (inf false))
+    go : (b : Bool)
+        → cond b (odd (suc (prec f)) true q k (low f)) (inf true)
+        ≡ neg (cond b (odd (suc (prec f)) false q k (low f)) (inf false))
     go true = odd-neg (suc (prec f)) q k (low f)
     go false = refl
 
@@ -222,10 +230,13 @@ module _ (m : ℕ) (e : ℤ) (w : ℕ) (held : T (fits binary64 (fin false m e))
   own : HasValue (round binary64 false (m * up e * w) (down e * w)) false (m * up e * w) (down e * w)
   own = go (steps-held binary64 (fin false m e) held tt)
     where
-      go : Held binary64 (stepsIn binary64 (fin false m e)) → HasValue (round binary64 false (m * up e * w) (down e * w)) false (m * up e * w) (down e * w)
+      go : Held binary64 (stepsIn binary64 (fin false m e))
+          → HasValue (round binary64 false (m * up e * w) (down e * w)) false (m * up e * w) (down e * w)
       go n =
-          let v : m * up e * 2 ^ low binary64 ≡ stepsIn binary64 (fin false m e) * down e = steps-value binary64 (fin false m e) held tt .1 in
-          let l : m * up e * w * 2 ^ low binary64 ≡ m * up e * 2 ^ low binary64 * w = simp (mul-assoc, mul-comm, mul-left-comm) in
+          let v : m * up e * 2 ^ low binary64 ≡ stepsIn binary64 (fin false m e) * down e =
+          steps-value binary64 (fin false m e) held tt .1 in
+          let l : m * up e * w * 2 ^ low binary64 ≡ m * up e * 2 ^ low binary64 * w =
+          simp (mul-assoc, mul-comm, mul-left-comm) in
           let r : stepsIn binary64 (fin false m e) * down e * w ≡ n .j * 2 ^ n .i * (down e * w) =
           mul-assoc (stepsIn binary64 (fin false m e)) (down e) w ∙ ap (λ (z : ℕ). z * (down e * w)) (n .is) in
           round-exact binary64 false (m * up e * w) (down e * w) (n .j) (n .i) (mul-pos (down-pos e) pos) (n .small)
@@ -236,10 +247,14 @@ module _ (m : ℕ) (e : ℤ) (w : ℕ) (held : T (fits binary64 (fin false m e))
   same-size = simp (mul-assoc, mul-comm, mul-left-comm)
 
   own-above : T (le (round binary64 false (m * up e * w) (down e * w)) (fin false m e))
-  own-above = le-of-values _ (fin false m e) (m * up e * w) (down e * w) (m * up e) (down e) (mul-pos (down-pos e) pos) (down-pos e) own (refl, refl) (le-of-eq same-size)
+  own-above =
+      le-of-values _ (fin false m e) (m * up e * w) (down e * w) (m * up e) (down e) (mul-pos (down-pos e) pos)
+      (down-pos e) own (refl, refl) (le-of-eq same-size)
 
   own-below : T (le (fin false m e) (round binary64 false (m * up e * w) (down e * w)))
-  own-below = le-of-values (fin false m e) _ (m * up e) (down e) (m * up e * w) (down e * w) (down-pos e) (mul-pos (down-pos e) pos) (refl, refl) own (le-of-eq (sym same-size))
+  own-below =
+      le-of-values (fin false m e) _ (m * up e) (down e) (m * up e * w) (down e * w) (down-pos e)
+      (mul-pos (down-pos e) pos) (refl, refl) own (le-of-eq (sym same-size))
 
 no-sign : (m : ℕ) (e : ℤ) → T (fits binary64 (fin true m e)) → T (fits binary64 (fin false m e))
 unfolding fits
@@ -247,28 +262,35 @@ no-sign zero e t = t
 no-sign (suc m) e t = t
 
 -- less something that is not below zero, a value of the format is not more
-pub less-off : (c : Float) (M : ℕ) (E : ℤ) → T (fits binary64 c) → T (le c c) → T (le (sub binary64 c (fin false M E)) c)
+pub less-off : (c : Float) (M : ℕ) (E : ℤ) → T (fits binary64 c) → T (le c c)
+    → T (le (sub binary64 c (fin false M E)) c)
 unfolding sub add neg sum
 less-off nan M E t n = n
 less-off (inf s) M E t n = n
 less-off (fin false m e) M E t n = go (ltb (m * up e * down E) (M * up E * down e))
   where
     go : (b : Bool)
-        → T (le (cond b (round binary64 true (M * up E * down e - m * up e * down E) (down e * down E)) (round binary64 false (m * up e * down E - M * up E * down e) (down e * down E))) (fin false m e))
+        → T (le (cond b (round binary64 true (M * up E * down e - m * up e * down E) (down e * down E))
+        (round binary64 false (m * up e * down E - M * up E * down e) (down e * down E))) (fin false m e))
     go true = round-below binary64 (M * up E * down e - m * up e * down E) (down e * down E) m e
     go false =
         le-trans-float _ (round binary64 false (m * up e * down E) (down e * down E)) (fin false m e)
-        (round-mono binary64 (m * up e * down E - M * up E * down e) (down e * down E) (m * up e * down E) (down e * down E) (mul-pos (down-pos e) (down-pos E)) (mul-pos (down-pos e) (down-pos E))
+        (round-mono binary64 (m * up e * down E - M * up E * down e) (down e * down E) (m * up e * down E)
+        (down e * down E) (mul-pos (down-pos e) (down-pos E)) (mul-pos (down-pos e) (down-pos E))
         (mul-le-mul-right (down e * down E) (omega arith)))
         (own-above m e (down E) t (down-pos E))
 less-off (fin true m e) M E t n =
-    let more : T (le (round binary64 false (m * up e * down E) (down e * down E)) (round binary64 false (m * up e * down E + M * up E * down e) (down e * down E))) =
-    round-mono binary64 (m * up e * down E) (down e * down E) (m * up e * down E + M * up E * down e) (down e * down E) (mul-pos (down-pos e) (down-pos E)) (mul-pos (down-pos e) (down-pos E))
+    let more : T (le (round binary64 false (m * up e * down E) (down e * down E))
+    (round binary64 false (m * up e * down E + M * up E * down e) (down e * down E))) =
+    round-mono binary64 (m * up e * down E) (down e * down E) (m * up e * down E + M * up E * down e)
+    (down e * down E) (mul-pos (down-pos e) (down-pos E)) (mul-pos (down-pos e) (down-pos E))
     (mul-le-mul-right (down e * down E) (omega arith)) in
     let all : T (le (fin false m e) (round binary64 false (m * up e * down E + M * up E * down e) (down e * down E))) =
     le-trans-float (fin false m e) _ _ (own-below m e (down E) (no-sign m e t) (down-pos E)) more in
-    let turned : T (le (neg (round binary64 false (m * up e * down E + M * up E * down e) (down e * down E))) (fin true m e)) = le-neg (fin false m e) _ all in
-    subst (λ (z : Float). T (le z (fin true m e))) (sym (round-neg binary64 (m * up e * down E + M * up E * down e) (down e * down E))) turned
+    let turned : T (le (neg (round binary64 false (m * up e * down E + M * up E * down e) (down e * down E)))
+    (fin true m e)) = le-neg (fin false m e) _ all in
+    subst (λ (z : Float). T (le z (fin true m e)))
+    (sym (round-neg binary64 (m * up e * down E + M * up E * down e) (down e * down E))) turned
 
 -- whatever stands in an order is a number, and level with itself
 pub le-self : (x y : Float) → T (le x y) → T (le x x)

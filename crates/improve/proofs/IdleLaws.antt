@@ -20,7 +20,8 @@ each-idle step idle (suc k) a s e = let q : step a s ≡ s = idle a s e in rw q 
 pub halt : (step : ℕ → State → State) (end a : ℕ) (s next whole : State) → Idle step
     → onwards step end a s ≡ whole → a < end → step a s ≡ next → next .cut ≡ true → next ≡ whole
 halt step end a s next whole idle so-far h e cut =
-    sym (each-idle step idle (end - (a + 1)) (a + 1) next cut) ∙ begin step end (a + 1) next ∙ carry step end a s next whole so-far h e
+    sym (each-idle step idle (end - (a + 1)) (a + 1) next cut) ∙ begin step end (a + 1) next
+    ∙ carry step end a s next whole so-far h e
 
 -- loops whose steps do the same
 pub each-same : (f g : ℕ → State → State) → ((a : ℕ) (s : State) → f a s ≡ g a s) → (k a : ℕ) (s : State)

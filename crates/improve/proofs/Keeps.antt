@@ -1,4 +1,5 @@
--- What every trial keeps, the search keeps: the one induction over a search from which its laws follow. Assumes nothing.
+-- What every trial keeps, the search keeps: the one induction over a search from which its laws follow. Assumes
+-- nothing.
 use mathlib.Core.Bool.{Bool, true, false, not, cond, _&&_}
 use mathlib.Core.List.{List}
 use mathlib.Core.Path.{_≡_, refl, sym, subst}
@@ -8,21 +9,24 @@ use lib.Dec.{eqb}
 use lib.ListN.{length, getD}
 use lib.Seq.{set-getD}
 use Rattle.table.proofs.EachLaws.{each-keeps}
-use Rattle.improve.specs.Search.{Chart, State, ownerOf, atLimit, stopped, tried, givenBack, swap, alternative, turn, flip, reversal, row, fresh, pass, repeated, begun, worthwhile, searched}
+use Rattle.improve.specs.Search.{Chart, State, ownerOf, atLimit, stopped, tried, givenBack, swap, alternative}
+use Rattle.improve.specs.Search.{turn, flip, reversal, row, fresh, pass, repeated, begun, worthwhile, searched}
 use Rattle.improve.specs.After.{Offers}
 
 -- ---- what is asked of a property
 
 -- a search with another tour: the one that a rejected candidate gives back
 abbrev pub backed : ℕ → ℕ → State → State
-backed p held s = record { tour = givenBack p held (s .tour); cost = s .cost; better = s .better; moves = s .moves; cut = s .cut }
+backed p held s =
+    record { tour = givenBack p held (s .tour); cost = s .cost; better = s .better; moves = s .moves; cut = s .cut }
 
 -- a trial may begin
 pub record May (limit : ℕ) (s : State) : Type 0 where
   pub goes : s .cut ≡ false
   pub room : atLimit limit (s .moves) ≡ false
 
--- a property P of searches over a tour of n, with a second one that holds during the turn of a position: the steps of a search keep them
+-- a property P of searches over a tour of n, with a second one that holds during the turn of a position: the steps of a
+-- search keep them
 pub record Carries (chart : Chart) (limit n : ℕ) (P : State → Type 0) (Turn : ℕ → ℕ → State → Type 0) : Type 0 where
   pub stops : (s : State) → atLimit limit (s .moves) ≡ true → P s → P (stopped s)
   pub begins : (s : State) → P s → P (fresh s)
@@ -33,12 +37,14 @@ pub record Carries (chart : Chart) (limit n : ℕ) (P : State → Type 0) (Turn 
       → Turn p held (swap chart p held a s)
   pub leaves : (p held : ℕ) (s : State) → Turn p held s → P s
 
-tried-keeps : (Q : State → Type 0) (limit : ℕ) (trial : State → State) (s : State) → Q s → (atLimit limit (s .moves) ≡ true → Q (stopped s))
+tried-keeps : (Q : State → Type 0) (limit : ℕ) (trial : State → State) (s : State) → Q s
+    → (atLimit limit (s .moves) ≡ true → Q (stopped s))
     → (May limit s → Q (trial s)) → Q (tried limit trial s)
 unfolding tried
 tried-keeps Q limit trial s q z t = go (s .cut) refl (atLimit limit (s .moves)) refl
   where
-    go : (c : Bool) → s .cut ≡ c → (l : Bool) → atLimit limit (s .moves) ≡ l → Q (cond c s (cond l (stopped s) (trial s)))
+    go : (c : Bool) → s .cut ≡ c → (l : Bool) → atLimit limit (s .moves) ≡ l
+        → Q (cond c s (cond l (stopped s) (trial s)))
     go true e l f = q
     go false e true f = z f
     go false e false f = t (record { goes = e; room = f })
@@ -133,7 +139,14 @@ keeps-carries chart limit n P keeps = record {
   where
     back : (p : ℕ) (s : State) → P s → P (backed p (getD (s .tour) p 0) s)
     back p s q =
-        subst (λ (x : List ℕ). P (record { tour = x; cost = s .cost; better = s .better; moves = s .moves; cut = s .cut })) (sym (set-getD (s .tour) p 0)) q
+        subst (λ (x : List ℕ). P (record {
+          tour = x;
+          cost = s .cost;
+          better = s .better;
+          moves = s .moves;
+          cut =
+              s .cut;
+        })) (sym (set-getD (s .tour) p 0)) q
 
 -- what every trial keeps, the search keeps
 pub search-keeps : (chart : Chart) (most limit : ℕ) (tour : List ℕ) (P : State → Type 0)

@@ -1,5 +1,6 @@
--- A search never hands back a tour that is longer than the one handed in, as evaluation has it: by the one induction over a search,
--- since an accepted tour is shorter than what was accepted before, and a tour given back was held before. Assumes nothing.
+-- A search never hands back a tour that is longer than the one handed in, as evaluation has it: by the one induction
+-- over a search, since an accepted tour is shorter than what was accepted before, and a tour given back was held
+-- before. Assumes nothing.
 use mathlib.Core.Bool.{Bool, true, false, cond, _&&_}
 use mathlib.Core.List.{List, [], _∷_}
 use mathlib.Core.Path.{_≡_, refl, sym, subst}
@@ -13,7 +14,8 @@ use lib.ListN.{length, set}
 use lib.Seq.{set-set}
 use Rattle.table.specs.Evaluate.{homeAt, addLeg, lengthOf}
 use Rattle.table.specs.Walk.{legs, walk}
-use Rattle.improve.specs.Search.{Chart, State, lengthIn, legal, margin, shorter, judged, swap, reversed, flip, searched}
+use Rattle.improve.specs.Search.{Chart, State, lengthIn, legal, margin, shorter, judged, swap, reversed, flip}
+use Rattle.improve.specs.Search.{searched}
 use Rattle.improve.proofs.FloatOrder.{le-trans-float, lt→le, less-off, le-self}
 use Rattle.improve.proofs.Keeps.{Keeps, search-keeps}
 
@@ -23,12 +25,14 @@ use Rattle.improve.proofs.Keeps.{Keeps, search-keeps}
 abbrev pub HomeFits : List Float → Type 0
 HomeFits home = (a : ℕ) → T (fits binary64 (homeAt home a))
 
-legs-fit : (table : List Float) (t : ℕ) (total : Float) (at : ℕ) (rest : List ℕ) → T (fits binary64 total) → T (fits binary64 (legs (addLeg table t) total at rest))
+legs-fit : (table : List Float) (t : ℕ) (total : Float) (at : ℕ) (rest : List ℕ) → T (fits binary64 total)
+    → T (fits binary64 (legs (addLeg table t) total at rest))
 unfolding legs
 legs-fit table t total at [] h = h
 legs-fit table t total at (b ∷ rest) h = legs-fit table t (addLeg table t total at b) b rest (add-fits binary64 total _)
 
-pub length-fits : (home table : List Float) (t : ℕ) (tour : List ℕ) → HomeFits home → T (fits binary64 (lengthOf home table t tour))
+pub length-fits : (home table : List Float) (t : ℕ) (tour : List ℕ) → HomeFits home
+    → T (fits binary64 (lengthOf home table t tour))
 unfolding lengthOf walk fits ofBits ofFields odd
 length-fits home table t [] h = tt
 length-fits home table t (a ∷ rest) h = legs-fit table t (homeAt home a) a rest (h a)
@@ -42,7 +46,9 @@ margin-is = refl
 pub shorter-le : (x c : Float) → T (fits binary64 c) → T (le c c) → shorter x c ≡ true → T (le x c)
 unfolding shorter
 shorter-le x c h n e =
-    let off : T (le (sub binary64 c margin) c) = subst (λ (z : Float). T (le (sub binary64 c z) c)) (sym margin-is) (less-off c 0x1b_7cdf_d9d7_bdbb (negsuc 85) h n) in
+    let off : T (le (sub binary64 c margin) c) =
+    subst (λ (z : Float). T (le (sub binary64 c z) c)) (sym margin-is)
+    (less-off c 0x1b_7cdf_d9d7_bdbb (negsuc 85) h n) in
     le-trans-float x (sub binary64 c margin) c (lt→le x (sub binary64 c margin) e) off
 
 -- ---- the search
@@ -74,7 +80,8 @@ module _ (chart : Chart) (limit n : ℕ) (L : Float) (home : HomeFits (chart .ho
   first-of true b e = refl
   first-of false b e = e
 
-  back-again : (accepted : Bool) (tour : List ℕ) (p held a : ℕ) → set (cond accepted (set tour p a) (set tour p held)) p held ≡ set tour p held
+  back-again : (accepted : Bool) (tour : List ℕ) (p held a : ℕ)
+      → set (cond accepted (set tour p a) (set tour p held)) p held ≡ set tour p held
   back-again true tour p held a = set-set tour p a held
   back-again false tour p held a = set-set tour p held held
 

@@ -22,9 +22,18 @@ pub order-more : (owner tour order : List ℕ) (i v : ℕ) → i < length tour �
     → take i order ≡ contours owner (take i tour) → take (i + 1) (set order i v) ≡ contours owner (take (i + 1) tour)
 unfolding contours
 order-more owner tour order i v h g e so-far =
-    rw (add-one i, take-suc-set order i v g, take-suc tour i 0 h, contours-append owner (take i tour) (getD tour i 0 ∷ []), so-far, e)
+    rw (
+      add-one i,
+      take-suc-set order i v g,
+      take-suc tour i 0 h,
+      contours-append owner (take i tour)
+          (getD tour i 0 ∷ []),
+      so-far,
+      e,
+    )
 
-pub order-whole : (owner tour order : List ℕ) (i : ℕ) → length tour ≤ i → i ≤ length tour → take i order ≡ contours owner (take i tour)
+pub order-whole : (owner tour order : List ℕ) (i : ℕ) → length tour ≤ i → i ≤ length tour
+    → take i order ≡ contours owner (take i tour)
     → take (length tour) order ≡ contours owner tour
 order-whole owner tour order i h g so-far =
     let e : i ≡ length tour = omega arith in

@@ -13,7 +13,8 @@ use Rattle.closure.specs.Limits.{CONTOURS}
 use Rattle.table.proofs.EachLaws.{onwards, arrive}
 use Rattle.table.specs.Each.{each}
 use Rattle.improve.specs.Code.{unpaired, going, stateOf, Reached}
-use Rattle.improve.specs.Search.{Chart, State, lengthIn, turn, reversal, row, pass, repeated, begun, worthwhile, searched}
+use Rattle.improve.specs.Search.{Chart, State, lengthIn, turn, reversal, row, pass, repeated, begun, worthwhile}
+use Rattle.improve.specs.Search.{searched}
 use Rattle.improve.specs.declared.Progress.{Progress}
 use Rattle.improve.proofs.IdleLaws.{each-idle, halt}
 use Rattle.improve.proofs.TrialLaws.{ended, row-idle, reversal-idle, turns-read, goes-on}
@@ -81,7 +82,8 @@ module _ (chart : Chart) (limit n most done : ℕ) (tour : List ℕ) (cost : Flo
         after-turns s e = ap (each (row chart limit n) (n - 1) 0) (goes-on after r _ turned goes) ∙ sym e
 
         -- left among the reversals
-        pub cut-in-rows : (held : List ℕ) (c : Float) (b : Bool) (m : ℕ) (i j : ℕ) (held' : List ℕ) (c' : Float) (b' : Bool) (m' : ℕ)
+        pub cut-in-rows : (held : List ℕ) (c : Float) (b : Bool) (m : ℕ) (i j : ℕ) (held' : List ℕ) (c' : Float)
+            (b' : Bool) (m' : ℕ)
             → onwards (row chart limit n) (n - 1) i (going held c b m)
             ≡ each (row chart limit n) (n - 1) 0 (going after (r .cost) (r .better) (r .moves))
             → i < n - 1
@@ -125,9 +127,12 @@ row-is chart limit n i s after e = sym e
 pub reached : (s whole : State) → s ≡ whole → Reached (s .moves) (s .tour) whole
 reached s whole e = record { counted = ap (λ (x : State). x .moves) e; held = ap (λ (x : State). x .tour) e }
 
--- the count of trials stays far below what its type holds: passes are counted in 32 bits, and a pass has under 2^17 trials
-pub moves-fit : (done passes before turned i rows j cells n : ℕ) → done < passes → passes < 2 ^ 32 → n ≤ 255 → i + 1 < n → j < n
-    → before ≤ 131072 * done → turned ≤ before + 65280 → rows ≤ turned + 256 * i → cells + i + 2 ≤ rows + j → cells + 1 < 2 ^ 64
+-- the count of trials stays far below what its type holds: passes are counted in 32 bits, and a pass has under 2^17
+-- trials
+pub moves-fit : (done passes before turned i rows j cells n : ℕ) → done < passes → passes < 2 ^ 32 → n ≤ 255
+    → i + 1 < n → j < n
+    → before ≤ 131072 * done → turned ≤ before + 65280 → rows ≤ turned + 256 * i → cells + i + 2 ≤ rows + j
+    → cells + 1 < 2 ^ 64
 moves-fit done passes before turned i rows j cells n a b c d e f g h k = omega arith
 
 -- ---- whether there is anything to do

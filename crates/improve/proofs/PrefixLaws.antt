@@ -9,9 +9,11 @@ use borrow.Author.Tests.{lt-ltb, leb-true, le-leb}
 use lib.Dec.{ltb, eqb}
 use lib.ListN.{length, getD}
 use Rattle.table.specs.Each.{each}
-use Rattle.improve.specs.Search.{Chart, State, ownerOf, judged, atLimit, stopped, tried, swap, alternative, turn, flip, reversal, row, fresh, pass, repeated, begun, worthwhile, searched}
+use Rattle.improve.specs.Search.{Chart, State, ownerOf, judged, atLimit, stopped, tried, swap, alternative, turn}
+use Rattle.improve.specs.Search.{flip, reversal, row, fresh, pass, repeated, begun, worthwhile, searched}
 use Rattle.improve.specs.After.{Level, Offers, After, here, swapped, flipped}
-use Rattle.improve.proofs.Keeps.{Carries, alternative-carries, turn-carries, reversal-carries, repeated-carries, Keeps, search-keeps}
+use Rattle.improve.proofs.Keeps.{Carries, alternative-carries, turn-carries, reversal-carries, repeated-carries}
+use Rattle.improve.proofs.Keeps.{Keeps, search-keeps}
 use Rattle.improve.proofs.PassLaws.{repeat-cut}
 use Rattle.improve.proofs.TourLaws.{moves-at-most}
 use Rattle.improve.proofs.TrialLaws.{alternative-idle, turn-idle, reversal-idle}
@@ -85,7 +87,8 @@ module _ (chart : Chart) (M L n : ℕ) (looser : Looser M L) where
       go true b e d f = inl refl
       go false true e true f = inl refl
       go false true e false f = inr (refl, more (stopped s) (record { tour = refl; cost = refl; moves = refl }))
-      go false false e true f = let z : _≡_ {A = Bool} true false = sym (looser (s .moves) f) ∙ e in absurd (true≢false z)
+      go false false e true f = let z : _≡_ {A = Bool} true false =
+          sym (looser (s .moves) f) ∙ e in absurd (true≢false z)
       go false false e false f = inl refl
 
   -- of two searches of which the first has ended, the first stays and the second goes on
@@ -97,10 +100,18 @@ module _ (chart : Chart) (M L n : ℕ) (looser : Looser M L) where
   -- a trial has been made, wherever the flags stand
   one-swap : (p held a : ℕ) → p < n → Offers chart held a → (s w : State) → Level s w
       → Later chart n w (swap chart p held a s)
-  one-swap p held a h o s w l = (0, swapped p held a h o (here (record { tour = sym (l .tour); cost = sym (l .cost); moves = sym (l .moves) })) (level-refl _))
+  one-swap p held a h o s w l = (
+    0,
+    swapped p held a h o (here (record { tour = sym (l .tour); cost = sym (l .cost); moves = sym (l .moves) }))
+        (level-refl _),
+  )
 
   one-flip : (i j : ℕ) → i < j → j < n → (s w : State) → Level s w → Later chart n w (flip chart i j s)
-  one-flip i j h g s w l = (0, flipped i j h g (here (record { tour = sym (l .tour); cost = sym (l .cost); moves = sym (l .moves) })) (level-refl _))
+  one-flip i j h g s w l = (
+    0,
+    flipped i j h g (here (record { tour = sym (l .tour); cost = sym (l .cost); moves = sym (l .moves) }))
+        (level-refl _),
+  )
 
   alternative-same : (p held a : ℕ) → p < n → Offers chart held a → (s : State)
       → Twin chart n (alternative chart M p held a s) (alternative chart L p held a s)
@@ -185,7 +196,8 @@ module _ (chart : Chart) (M L n : ℕ) (looser : Looser M L) where
       apart (repeated chart M n (suc k)) (repeated chart L n (suc k)) u v (repeat-cut chart M n (suc k) u (w .0))
       (repeated-carries chart L n _ _ (later-carries chart L n u) (suc k) v) w
 
--- a search with a limit and one with a looser limit: they are the same, or the first was cut and the second went on from there
+-- a search with a limit and one with a looser limit: they are the same, or the first was cut and the second went on
+-- from there
 pub search-twin : (chart : Chart) (most M L : ℕ) (tour : List ℕ) → Looser M L
     → Twin chart (length tour) (searched chart most M tour) (searched chart most L tour)
 unfolding searched
@@ -205,7 +217,11 @@ unfolding swap flip judged
 at-limit-when-cut chart limit n = record {
   stops = λ s l q c. l;
   begins = λ s q. q;
-  swaps = λ p held a s h o m q b. (λ c. absurd (true≢false (sym c ∙ m .goes)), λ c. absurd (true≢false (sym c ∙ m .goes)));
+  swaps = λ p held a s h o m q b. (
+    λ c. absurd (true≢false (sym c ∙ m .goes)),
+    λ c. absurd
+        (true≢false (sym c ∙ m .goes)),
+  );
   flips = λ i j s h g m q c. absurd (true≢false (sym c ∙ m .goes));
 }
 

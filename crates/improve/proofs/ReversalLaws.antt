@@ -16,7 +16,8 @@ unfolding rev
 length-rev b = length-reverse b
 
 -- a list with a stretch b between a and c: that stretch is reversed
-pub turned-parts : (a b c : List ℕ) (f t : ℕ) → length a ≡ f → length a + length b ≡ t → turned f t (a ++ (b ++ c)) ≡ a ++ (rev b ++ c)
+pub turned-parts : (a b c : List ℕ) (f t : ℕ) → length a ≡ f → length a + length b ≡ t
+    → turned f t (a ++ (b ++ c)) ≡ a ++ (rev b ++ c)
 unfolding turned slice
 turned-parts a b c f t ef et =
     rw (
@@ -72,30 +73,36 @@ turned-twice f t l h g = go (parts f t l h g)
         let a = p .front in
         let b = p .middle in
         let c = p .back in
-        let once : turned f t l ≡ a ++ (rev b ++ c) = ap (turned f t) (p .joined) ∙ turned-parts a b c f t (p .starts) (p .ends) in
+        let once : turned f t l ≡ a ++ (rev b ++ c) =
+        ap (turned f t) (p .joined) ∙ turned-parts a b c f t (p .starts) (p .ends) in
         let n : length (rev b) ≡ length b = length-rev b in
-        let again : turned f t (a ++ (rev b ++ c)) ≡ a ++ (rev (rev b) ++ c) = turned-parts a (rev b) c f t (p .starts) (rw n (p .ends)) in
+        let again : turned f t (a ++ (rev b ++ c)) ≡ a ++ (rev (rev b) ++ c) =
+        turned-parts a (rev b) c f t (p .starts) (rw n (p .ends)) in
         ap (turned f t) once ∙ again ∙ ap (λ (x : List ℕ). a ++ (x ++ c)) (rev-rev b) ∙ sym (p .joined)
 
 -- ---- stretches apart from one another
 
-apart : (a b c d e : List ℕ) (f t g u : ℕ) → length a ≡ f → length a + length b ≡ t → length (a ++ (b ++ c)) ≡ g → length (a ++ (b ++ c)) + length d ≡ u
+apart : (a b c d e : List ℕ) (f t g u : ℕ) → length a ≡ f → length a + length b ≡ t → length (a ++ (b ++ c)) ≡ g
+    → length (a ++ (b ++ c)) + length d ≡ u
     → turned f t (turned g u ((a ++ (b ++ c)) ++ (d ++ e))) ≡ turned g u (turned f t ((a ++ (b ++ c)) ++ (d ++ e)))
 apart a b c d e f t g u ef et eg eu =
     let w : length (a ++ (rev b ++ c)) ≡ length (a ++ (b ++ c)) = simp (length-append, length-rev) in
     let one : turned g u ((a ++ (b ++ c)) ++ (d ++ e)) ≡ a ++ (b ++ (c ++ (rev d ++ e))) =
     turned-parts (a ++ (b ++ c)) d e g u eg eu ∙ simp append-assoc in
     let two : turned f t ((a ++ (b ++ c)) ++ (d ++ e)) ≡ (a ++ (rev b ++ c)) ++ (d ++ e) =
-    ap (turned f t) (regroup a b c (d ++ e)) ∙ turned-parts a b (c ++ (d ++ e)) f t ef et ∙ sym (regroup a (rev b) c (d ++ e)) in
+    ap (turned f t) (regroup a b c (d ++ e)) ∙ turned-parts a b (c ++ (d ++ e)) f t ef et
+    ∙ sym (regroup a (rev b) c (d ++ e)) in
     ap (turned f t) one
     ∙ turned-parts a b (c ++ (rev d ++ e)) f t ef et
-    ∙ sym (ap (turned g u) two ∙ turned-parts (a ++ (rev b ++ c)) d e g u (w ∙ eg) (rw w eu) ∙ regroup a (rev b) c (rev d ++ e))
+    ∙ sym (ap (turned g u) two ∙ turned-parts (a ++ (rev b ++ c)) d e g u (w ∙ eg) (rw w eu)
+    ∙ regroup a (rev b) c (rev d ++ e))
   where
     regroup : (x y z v : List ℕ) → (x ++ (y ++ z)) ++ v ≡ x ++ (y ++ (z ++ v))
     regroup x y z v = simp append-assoc
 
 -- stretches that do not meet may be reversed in either order
-pub turned-apart : (f t g u : ℕ) (l : List ℕ) → f ≤ t → t ≤ g → g ≤ u → u ≤ length l → turned f t (turned g u l) ≡ turned g u (turned f t l)
+pub turned-apart : (f t g u : ℕ) (l : List ℕ) → f ≤ t → t ≤ g → g ≤ u → u ≤ length l
+    → turned f t (turned g u l) ≡ turned g u (turned f t l)
 turned-apart f t g u l ft tg gu ul = go (parts g u l gu ul)
   where
     go : Parts g u l → turned f t (turned g u l) ≡ turned g u (turned f t l)
@@ -106,11 +113,13 @@ turned-apart f t g u l ft tg gu ul = go (parts g u l gu ul)
             let e : l ≡ (q .front ++ (q .middle ++ q .back)) ++ (p .middle ++ p .back) =
             p .joined ∙ ap (λ (x : List ℕ). x ++ (p .middle ++ p .back)) (q .joined) in
             rw e
-            (apart (q .front) (q .middle) (q .back) (p .middle) (p .back) f t g u (q .starts) (q .ends) (rw (← q .joined) (p .starts)) (rw (← q .joined) (p .ends)))
+            (apart (q .front) (q .middle) (q .back) (p .middle) (p .back) f t g u (q .starts) (q .ends)
+            (rw (← q .joined) (p .starts)) (rw (← q .joined) (p .ends)))
 
 -- ---- a stretch within another
 
-nested : (a b c d e : List ℕ) (f t g u x y : ℕ) → length a ≡ f → length a + length (b ++ (c ++ d)) ≡ t → length (a ++ b) ≡ g → length (a ++ b) + length c ≡ u
+nested : (a b c d e : List ℕ) (f t g u x y : ℕ) → length a ≡ f → length a + length (b ++ (c ++ d)) ≡ t
+    → length (a ++ b) ≡ g → length (a ++ b) + length c ≡ u
     → length (a ++ rev d) ≡ x → length (a ++ rev d) + length (rev c) ≡ y
     → turned f t (turned g u (a ++ ((b ++ (c ++ d)) ++ e))) ≡ turned x y (turned f t (a ++ ((b ++ (c ++ d)) ++ e)))
 nested a b c d e f t g u x y ef et eg eu ex ey =
@@ -118,7 +127,8 @@ nested a b c d e f t g u x y ef et eg eu ex ey =
     let one : turned g u (a ++ ((b ++ (c ++ d)) ++ e)) ≡ a ++ ((b ++ (rev c ++ d)) ++ e) =
     ap (turned g u) (inward a b c d e) ∙ turned-parts (a ++ b) c (d ++ e) g u eg eu ∙ sym (inward a b (rev c) d e) in
     let two : turned f t (a ++ ((b ++ (c ++ d)) ++ e)) ≡ (a ++ rev d) ++ (rev c ++ (rev b ++ e)) =
-    turned-parts a (b ++ (c ++ d)) e f t ef et ∙ ap (λ (z : List ℕ). a ++ (z ++ e)) (flipped b c d) ∙ mirrored a (rev d) (rev c) (rev b) e in
+    turned-parts a (b ++ (c ++ d)) e f t ef et ∙ ap (λ (z : List ℕ). a ++ (z ++ e)) (flipped b c d)
+    ∙ mirrored a (rev d) (rev c) (rev b) e in
     ap (turned f t) one
     ∙ turned-parts a (b ++ (rev c ++ d)) e f t ef (rw m et)
     ∙ ap (λ (z : List ℕ). a ++ (z ++ e)) (flipped b (rev c) d)
@@ -142,14 +152,17 @@ turned-nested f g u t l fg gu ut tl = go (parts f t l (omega arith) tl)
     go : Parts f t l → turned f t (turned g u l) ≡ turned (f + t - u) (f + t - g) (turned f t l)
     go p = within (parts (g - f) (u - f) (p .middle) (omega arith) (omega (arith, p .starts, p .ends)))
       where
-        within : Parts (g - f) (u - f) (p .middle) → turned f t (turned g u l) ≡ turned (f + t - u) (f + t - g) (turned f t l)
+        within : Parts (g - f) (u - f) (p .middle)
+            → turned f t (turned g u l) ≡ turned (f + t - u) (f + t - g) (turned f t l)
         within q =
             let a = p .front in
             let b = q .front in
             let c = q .middle in
             let d = q .back in
-            let e : l ≡ a ++ ((b ++ (c ++ d)) ++ p .back) = p .joined ∙ ap (λ (z : List ℕ). a ++ (z ++ p .back)) (q .joined) in
-            let n : length (p .middle) ≡ length b + (length c + length d) = ap length (q .joined) ∙ simp length-append in
+            let e : l ≡ a ++ ((b ++ (c ++ d)) ++ p .back) =
+            p .joined ∙ ap (λ (z : List ℕ). a ++ (z ++ p .back)) (q .joined) in
+            let n : length (p .middle) ≡ length b + (length c + length d) =
+            ap length (q .joined) ∙ simp length-append in
             rw e
             (nested a b c d (p .back) f t g u (f + t - u) (f + t - g) (p .starts) (rw (← q .joined) (p .ends))
             (simp length-append (omega (arith, p .starts, q .starts)))

@@ -1,5 +1,5 @@
--- What a search never does to its tour: it loses or doubles no contour, and it turns no pair round. And it makes no more trials than
--- it may. Each by the one induction over a search. Assumes nothing.
+-- What a search never does to its tour: it loses or doubles no contour, and it turns no pair round. And it makes no
+-- more trials than it may. Each by the one induction over a search. Assumes nothing.
 use mathlib.Core.Bool.{Bool, true, false, cond, _&&_}
 use mathlib.Core.List.{List, [], _∷_, _++_}
 use mathlib.Core.Path.{_≡_, refl, sym, ap, _∙_}
@@ -12,7 +12,8 @@ use lib.Seq.{set-set}
 use Rattle.bytes.proofs.Laws.{rev-append}
 use Rattle.bytes.specs.Bytes.{rev}
 use Rattle.keep.specs.Keep.{keepsPairs}
-use Rattle.improve.specs.Search.{Chart, State, lengthIn, ownerOf, contours, legal, shorter, judged, atLimit, swap, turned, reversed, flip, searched}
+use Rattle.improve.specs.Search.{Chart, State, lengthIn, ownerOf, contours, legal, shorter, judged, atLimit, swap}
+use Rattle.improve.specs.Search.{turned, reversed, flip, searched}
 use Rattle.improve.specs.After.{Offers}
 use Rattle.improve.proofs.Keeps.{Keeps, search-keeps}
 use Rattle.improve.proofs.ReversalLaws.{Parts, parts, turned-parts, length-turned}
@@ -44,7 +45,8 @@ tour-keeps chart limit n T keeps = record {
     either true u v = u
     either false u v = v
 
-    again : (p held a : ℕ) (s : State) (b : Bool) → T (set (s .tour) p held) → T (set (cond b (set (s .tour) p a) (set (s .tour) p held)) p held)
+    again : (p held a : ℕ) (s : State) (b : Bool) → T (set (s .tour) p held)
+        → T (set (cond b (set (s .tour) p a) (set (s .tour) p held)) p held)
     again p held a s true w = rw (set-set (s .tour) p a held) w
     again p held a s false w = rw (set-set (s .tour) p held held) w
 
@@ -92,7 +94,8 @@ met owner x tour = times x (contours owner tour)
 met-append : (owner : List ℕ) (x : ℕ) (a b : List ℕ) → met owner x (a ++ b) ≡ met owner x a + met owner x b
 unfolding met times contours
 met-append owner x [] b = omega arith
-met-append owner x (y ∷ a) b = let e : met owner x (a ++ b) ≡ met owner x a + met owner x b = met-append owner x a b in omega arith
+met-append owner x (y ∷ a) b = let e : met owner x (a ++ b) ≡ met owner x a + met owner x b =
+    met-append owner x a b in omega arith
 
 met-rev : (owner : List ℕ) (x : ℕ) (b : List ℕ) → met owner x (rev b) ≡ met owner x b
 unfolding rev
@@ -100,11 +103,13 @@ met-rev owner x [] = refl
 met-rev owner x (y ∷ b) =
     let e : rev (y ∷ b) ≡ rev b ++ (y ∷ []) = rev-append (y ∷ []) b in
     let h : met owner x (rev b) ≡ met owner x b = met-rev owner x b in
-    let l : met owner x (rev b ++ (y ∷ [])) ≡ met owner x (rev b) + met owner x (y ∷ []) = met-append owner x (rev b) (y ∷ []) in
+    let l : met owner x (rev b ++ (y ∷ [])) ≡ met owner x (rev b) + met owner x (y ∷ []) =
+    met-append owner x (rev b) (y ∷ []) in
     let r : met owner x (y ∷ b) ≡ met owner x (y ∷ []) + met owner x b = met-append owner x (y ∷ []) b in
     ap (met owner x) e ∙ omega arith
 
-met-turned : (owner : List ℕ) (x f t : ℕ) (l : List ℕ) → f ≤ t → t ≤ length l → met owner x (turned f t l) ≡ met owner x l
+met-turned : (owner : List ℕ) (x f t : ℕ) (l : List ℕ) → f ≤ t → t ≤ length l
+    → met owner x (turned f t l) ≡ met owner x l
 met-turned owner x f t l h g = go (parts f t l h g)
   where
     go : Parts f t l → met owner x (turned f t l) ≡ met owner x l
@@ -112,8 +117,10 @@ met-turned owner x f t l h g = go (parts f t l h g)
         let a = p .front in
         let b = p .middle in
         let c = p .back in
-        let e : turned f t l ≡ a ++ (rev b ++ c) = ap (turned f t) (p .joined) ∙ turned-parts a b c f t (p .starts) (p .ends) in
-        let u : met owner x (a ++ (rev b ++ c)) ≡ met owner x a + met owner x (rev b ++ c) = met-append owner x a (rev b ++ c) in
+        let e : turned f t l ≡ a ++ (rev b ++ c) =
+        ap (turned f t) (p .joined) ∙ turned-parts a b c f t (p .starts) (p .ends) in
+        let u : met owner x (a ++ (rev b ++ c)) ≡ met owner x a + met owner x (rev b ++ c) =
+        met-append owner x a (rev b ++ c) in
         let v : met owner x (rev b ++ c) ≡ met owner x (rev b) + met owner x c = met-append owner x (rev b) c in
         let w : met owner x (rev b) ≡ met owner x b = met-rev owner x b in
         let y : met owner x (a ++ (b ++ c)) ≡ met owner x a + met owner x (b ++ c) = met-append owner x a (b ++ c) in
@@ -155,7 +162,8 @@ alike chart n from grouped = record {
   };
 }
 
--- the search hands back a tour over the very contours of the one handed in, each as often: once, where each stood there once
+-- the search hands back a tour over the very contours of the one handed in, each as often: once, where each stood there
+-- once
 pub contours-kept : (chart : Chart) (most limit : ℕ) (tour : List ℕ) → Grouped (chart .owner) (chart .first)
     → Shuffled (contours (chart .owner) (searched chart most limit tour .tour)) (contours (chart .owner) tour)
 contours-kept chart most limit tour grouped =

@@ -12,7 +12,8 @@ use lib.ListN.{length, getD, set, take, drop}
 use Rattle.bytes.specs.Bytes.{rev, slice}
 use Rattle.table.specs.Each.{each}
 use Rattle.improve.specs.Code.{unpaired, distances, Judged, Taken, going, stateOf}
-use Rattle.improve.specs.Search.{Chart, State, lengthIn, legal, shorter, judged, atLimit, tried, ownerOf, givenBack, swap, alternative, turn, turned, reversed, flip, reversal, row}
+use Rattle.improve.specs.Search.{Chart, State, lengthIn, legal, shorter, judged, atLimit, tried, ownerOf}
+use Rattle.improve.specs.Search.{givenBack, swap, alternative, turn, turned, reversed, flip, reversal, row}
 use Rattle.improve.specs.declared.Progress.{Progress}
 use Rattle.improve.specs.declared.Tried.{Tried}
 use Rattle.improve.proofs.IdleLaws.{Idle, each-idle, each-same}
@@ -57,15 +58,19 @@ unfolding tried
 tried-stops limit trial tour cost better moves e = rw e
 
 tried-goes : (limit : ℕ) (trial : State → State) (tour : List ℕ) (cost : Float) (better : Bool) (moves : ℕ)
-    → atLimit limit moves ≡ false → tried limit trial (going tour cost better moves) ≡ trial (going tour cost better moves)
+    → atLimit limit moves ≡ false
+    → tried limit trial (going tour cost better moves) ≡ trial (going tour cost better moves)
 unfolding tried
 tried-goes limit trial tour cost better moves e = rw e
 
-judged-is : (accepted : Bool) (new : List ℕ) (length : Float) (back tour after : List ℕ) (cost : Float) (better : Bool) (moves : ℕ) (r : Tried)
+judged-is : (accepted : Bool) (new : List ℕ) (length : Float) (back tour after : List ℕ) (cost : Float)
+    (better : Bool) (moves : ℕ) (r : Tried)
     → Judged accepted new length back cost r after
-    → judged accepted new length back (going tour cost better moves) ≡ going after (r .cost) (better || r .accepted) (moves + 1)
+    → judged accepted new length back (going tour cost better moves)
+    ≡ going after (r .cost) (better || r .accepted) (moves + 1)
 unfolding judged
-judged-is accepted new length back tour after cost better moves r w = rw (w .accepts, w .counts, w .holds, add-one moves)
+judged-is accepted new length back tour after cost better moves r w =
+    rw (w .accepts, w .counts, w .holds, add-one moves)
 
 -- the candidate held when the turn began is passed over
 pub alternative-held : (chart : Chart) (limit p held a : ℕ) (s : State) → a ≡ held
@@ -147,43 +152,51 @@ pub turns-read : (chart : Chart) (limit n : ℕ) (s : State)
 turns-read chart limit n s = each-same _ _ (turn-reads chart limit) n 0 s
 
 -- a search that has not ended goes on
-pub goes-on : (tour : List ℕ) (r : Progress) (s : State) → stateOf tour r ≡ s → r .cut ≡ false → s ≡ going tour (r .cost) (r .better) (r .moves)
+pub goes-on : (tour : List ℕ) (r : Progress) (s : State) → stateOf tour r ≡ s → r .cut ≡ false
+    → s ≡ going tour (r .cost) (r .better) (r .moves)
 goes-on tour r s e h = sym e ∙ rw h
 
 -- ---- how a trial is judged
 
 -- a tour that is shorter is accepted
-pub accepts : (new : List ℕ) (back : List ℕ) (length measured cost : Float) (flag : Bool) → measured ≡ length → flag ≡ shorter measured cost → flag ≡ true
+pub accepts : (new : List ℕ) (back : List ℕ) (length measured cost : Float) (flag : Bool) → measured ≡ length
+    → flag ≡ shorter measured cost → flag ≡ true
     → Judged (shorter length cost) new length back cost (record { cost = measured; accepted = true }) new
 accepts new back length measured cost flag m e q =
     let t : shorter length cost ≡ true = ap (λ (x : Float). shorter x cost) (sym m) ∙ sym e ∙ q in
     record { accepts = sym t; counts = rw (t, m); holds = rw t }
 
 -- any other is not, and the tour goes back
-pub rejects : (new : List ℕ) (back after : List ℕ) (length measured cost : Float) (flag : Bool) → measured ≡ length → flag ≡ shorter measured cost → flag ≡ false
+pub rejects : (new : List ℕ) (back after : List ℕ) (length measured cost : Float) (flag : Bool) → measured ≡ length
+    → flag ≡ shorter measured cost → flag ≡ false
     → after ≡ back → Judged (shorter length cost) new length back cost (record { cost = cost; accepted = false }) after
 rejects new back after length measured cost flag m e q h =
     let t : shorter length cost ≡ false = ap (λ (x : Float). shorter x cost) (sym m) ∙ sym e ∙ q in
     record { accepts = sym t; counts = rw t; holds = rw (t, h) }
 
 -- a reversed tour that is shorter and legal is accepted
-pub weighs-in : (length measured cost : Float) (kept flag lawful : Bool) → measured ≡ length → flag ≡ shorter measured cost → flag ≡ true
-    → lawful ≡ kept → lawful ≡ true → Taken (shorter length cost && kept) length cost (record { cost = measured; accepted = true })
+pub weighs-in : (length measured cost : Float) (kept flag lawful : Bool) → measured ≡ length
+    → flag ≡ shorter measured cost → flag ≡ true
+    → lawful ≡ kept → lawful ≡ true
+    → Taken (shorter length cost && kept) length cost (record { cost = measured; accepted = true })
 weighs-in length measured cost kept flag lawful m e q l k =
     let t : shorter length cost ≡ true = ap (λ (x : Float). shorter x cost) (sym m) ∙ sym e ∙ q in
     let u : kept ≡ true = sym l ∙ k in
     record { accepts = rw (t, u); counts = rw (t, u, m) }
 
 -- one that is shorter and not legal is not
-pub weighs-illegal : (length measured cost : Float) (kept flag lawful : Bool) → measured ≡ length → flag ≡ shorter measured cost → flag ≡ true
-    → lawful ≡ kept → lawful ≡ false → Taken (shorter length cost && kept) length cost (record { cost = cost; accepted = false })
+pub weighs-illegal : (length measured cost : Float) (kept flag lawful : Bool) → measured ≡ length
+    → flag ≡ shorter measured cost → flag ≡ true
+    → lawful ≡ kept → lawful ≡ false
+    → Taken (shorter length cost && kept) length cost (record { cost = cost; accepted = false })
 weighs-illegal length measured cost kept flag lawful m e q l k =
     let t : shorter length cost ≡ true = ap (λ (x : Float). shorter x cost) (sym m) ∙ sym e ∙ q in
     let u : kept ≡ false = sym l ∙ k in
     record { accepts = rw (t, u); counts = rw (t, u) }
 
 -- nor is one that is not shorter
-pub weighs-out : (length measured cost : Float) (kept flag : Bool) → measured ≡ length → flag ≡ shorter measured cost → flag ≡ false
+pub weighs-out : (length measured cost : Float) (kept flag : Bool) → measured ≡ length → flag ≡ shorter measured cost
+    → flag ≡ false
     → Taken (shorter length cost && kept) length cost (record { cost = cost; accepted = false })
 weighs-out length measured cost kept flag m e q =
     let t : shorter length cost ≡ false = ap (λ (x : Float). shorter x cost) (sym m) ∙ sym e ∙ q in
@@ -200,20 +213,25 @@ unfolding turned
 flipped-is i j tour = rw (add-one i, add-one j)
 
 module _ (long : List ℕ → Float) (kept : List ℕ → Bool) (i j : ℕ) (tour after : List ℕ) (cost : Float) (r : Tried)
-    (turns : after ≡ flipped i j tour) (weighed : Taken (shorter (long after) cost && kept after) (long after) cost r) where
-  -- accepted, it is held
-  pub reversal-held : r .accepted ≡ true
-      → Judged (shorter (long (reversed i j tour)) cost && kept (reversed i j tour)) (reversed i j tour) (long (reversed i j tour)) tour cost r after
-  reversal-held q =
-      let e : after ≡ reversed i j tour = turns ∙ flipped-is i j tour in
-      let t : (shorter (long after) cost && kept after) ≡ true = sym (weighed .accepts) ∙ q in
-      rw (← e) (record { accepts = weighed .accepts; counts = weighed .counts; holds = rw t })
+    (turns : after ≡ flipped i j tour) (weighed : Taken (shorter (long after) cost && kept after) (long after) cost r)
+  where
+    -- accepted, it is held
+    pub reversal-held : r .accepted ≡ true
+        → Judged (shorter (long (reversed i j tour)) cost && kept (reversed i j tour)) (reversed i j tour)
+        (long (reversed i j tour)) tour cost r after
+    reversal-held q =
+        let e : after ≡ reversed i j tour = turns ∙ flipped-is i j tour in
+        let t : (shorter (long after) cost && kept after) ≡ true = sym (weighed .accepts) ∙ q in
+        rw (← e) (record { accepts = weighed .accepts; counts = weighed .counts; holds = rw t })
 
-  -- rejected, the stretch is reversed again, and the tour is as it was
-  pub reversal-back : (undone : List ℕ) → i < j → j < length tour → undone ≡ flipped i j after → r .accepted ≡ false
-      → Judged (shorter (long (reversed i j tour)) cost && kept (reversed i j tour)) (reversed i j tour) (long (reversed i j tour)) tour cost r undone
-  reversal-back undone h g u q =
-      let e : after ≡ reversed i j tour = turns ∙ flipped-is i j tour in
-      let t : (shorter (long after) cost && kept after) ≡ false = sym (weighed .accepts) ∙ q in
-      let b : undone ≡ tour = u ∙ flipped-is i j after ∙ ap (reversed i j) e ∙ turned-twice (suc i) (suc j) tour (omega arith) (omega arith) in
-      rw (← e) (record { accepts = weighed .accepts; counts = weighed .counts; holds = rw (t, b) })
+    -- rejected, the stretch is reversed again, and the tour is as it was
+    pub reversal-back : (undone : List ℕ) → i < j → j < length tour → undone ≡ flipped i j after → r .accepted ≡ false
+        → Judged (shorter (long (reversed i j tour)) cost && kept (reversed i j tour)) (reversed i j tour)
+        (long (reversed i j tour)) tour cost r undone
+    reversal-back undone h g u q =
+        let e : after ≡ reversed i j tour = turns ∙ flipped-is i j tour in
+        let t : (shorter (long after) cost && kept after) ≡ false = sym (weighed .accepts) ∙ q in
+        let b : undone ≡ tour =
+        u ∙ flipped-is i j after ∙ ap (reversed i j) e
+        ∙ turned-twice (suc i) (suc j) tour (omega arith) (omega arith) in
+        rw (← e) (record { accepts = weighed .accepts; counts = weighed .counts; holds = rw (t, b) })

@@ -15,8 +15,8 @@ pub record Offers (chart : Chart) (held a : ℕ) : Type 0 where
   pub from : getD (chart .first) (ownerOf (chart .owner) held) 0 ≤ a
   pub to : a < getD (chart .first) (suc (ownerOf (chart .owner) held)) 0
 
--- v is what s, a search over a tour of n, has come to after k trials: each puts a candidate of the contour held at a position of the tour, or
--- reverses a stretch within it
+-- v is what s, a search over a tour of n, has come to after k trials: each puts a candidate of the contour held at a
+-- position of the tour, or reverses a stretch within it
 pub data After (chart : Chart) (n : ℕ) (s : State) : ℕ → State → Type 0 where
   here : {v : State} → Level s v → After chart n s 0 v
   swapped : {k : ℕ} {u v : State} (p held a : ℕ) → p < n → Offers chart held a → After chart n s k u

@@ -30,7 +30,8 @@ abbrev pub stateOf : List ℕ → Progress → State
 stateOf tour s = record { tour = tour; cost = s .cost; better = s .better; moves = s .moves; cut = s .cut }
 
 -- how a trial ends: accepted or not, with the length that counts and the tour that is held after it
-pub record Judged (accepted : Bool) (new : List ℕ) (length : Float) (back : List ℕ) (cost : Float) (r : Tried) (tour : List ℕ) : Type 0 where
+pub record Judged (accepted : Bool) (new : List ℕ) (length : Float) (back : List ℕ) (cost : Float) (r : Tried)
+    (tour : List ℕ) : Type 0 where
   pub accepts : r .accepted ≡ accepted
   pub counts : r .cost ≡ cond accepted length cost
   pub holds : tour ≡ cond accepted new back

@@ -11,8 +11,9 @@ use Rattle.keep.specs.Keep.{keepsPairs}
 use Rattle.table.specs.Evaluate.{lengthOf}
 use Rattle.table.specs.Each.{each}
 
--- what a search reads: the distances from home and between the t candidates, the contour that each candidate belongs to,
--- the number of each contour's first candidate with the number of all at the end, and which contours come before which
+-- what a search reads: the distances from home and between the t candidates, the contour that each candidate belongs
+-- to, the number of each contour's first candidate with the number of all at the end, and which contours come before
+-- which
 pub record Chart : Type 0 where
   pub home : List Float
   pub table : List Float
@@ -21,8 +22,8 @@ pub record Chart : Type 0 where
   pub first : List ℕ
   pub pairs : List ℕ
 
--- where a search stands: the tour held, the length last accepted, whether this pass accepted a trial, the trials so far,
--- and whether the limit has ended the search
+-- where a search stands: the tour held, the length last accepted, whether this pass accepted a trial, the trials so
+-- far, and whether the limit has ended the search
 pub record State : Type 0 where
   pub tour : List ℕ
   pub cost : Float
@@ -58,7 +59,8 @@ shorter new current = lt new (sub binary64 current margin)
 
 -- ---- one trial
 
--- what a trial leaves behind: the new tour and its length where it is accepted, else the tour given back; it counts either way
+-- what a trial leaves behind: the new tour and its length where it is accepted, else the tour given back; it counts
+-- either way
 unfoldable pub judged : Bool → List ℕ → Float → List ℕ → State → State
 judged accepted new length back s = record {
   tour = cond accepted new back;
@@ -152,7 +154,8 @@ repeated chart limit n (suc k) s =
 abbrev pub begun : Chart → List ℕ → State
 begun chart tour = record { tour = tour; cost = lengthIn chart tour; better = true; moves = 0; cut = false }
 
--- there is something to improve: a pass is allowed, and the tour has three contours or more (and no more than a card has)
+-- there is something to improve: a pass is allowed, and the tour has three contours or more (and no more than a card
+-- has)
 abbrev pub worthwhile : ℕ → ℕ → Bool
 worthwhile most n = ltb 0 most && (leb 3 n && leb n CONTOURS)
 

@@ -1,4 +1,5 @@
--- On a card that is fine nothing is cut off: all contours are gathered, each with all its vertices and at least one candidate. Assumes nothing.
+-- On a card that is fine nothing is cut off: all contours are gathered, each with all its vertices and at least one
+-- candidate. Assumes nothing.
 use mathlib.Core.Path.{_≡_, refl, sym, ap, _∙_}
 use mathlib.Core.List.{List}
 use Prim.Native.Nat.{ℕ, _≤_, _<_, _+_, min}
@@ -21,7 +22,8 @@ module _ (s : List ℕ) (fine : checkOf s ≡ Fine) where
   pub held-all : heldOf s ≡ contoursOf s
   held-all =
       let a = accepted s fine in
-      sym (all-held s (contoursOf s) (perContourOf s) refl refl (a .few-contours) (a .some-candidates) (a .few-candidates) (a .few-in-all))
+      sym (all-held s (contoursOf s) (perContourOf s) refl refl (a .few-contours) (a .some-candidates)
+      (a .few-candidates) (a .few-in-all))
 
   pub instance-is : instanceOf s ≡ heldAt s (contoursOf s)
   unfolding instanceOf
@@ -62,12 +64,18 @@ module _ (s : List ℕ) (fine : checkOf s ≡ Fine) where
 
   pub items-lent : take (instanceOf s .count) (instanceOf s .items) ≡ gathered s (contoursOf s)
   unfolding heldAt
-  items-lent = rw instance-is (padded-front candidateLimit blank (gathered s (contoursOf s)) (length (gathered s (contoursOf s))) refl)
+  items-lent =
+      rw instance-is (padded-front candidateLimit blank (gathered s (contoursOf s))
+      (length (gathered s (contoursOf s))) refl)
 
   pub owner-lent : take (instanceOf s .count) (instanceOf s .owner) ≡ owners s (contoursOf s)
   unfolding heldAt
-  owner-lent = rw instance-is (padded-front candidateLimit 0 (owners s (contoursOf s)) (length (gathered s (contoursOf s))) (owners-length s (contoursOf s)))
+  owner-lent =
+      rw instance-is (padded-front candidateLimit 0 (owners s (contoursOf s)) (length (gathered s (contoursOf s)))
+      (owners-length s (contoursOf s)))
 
   pub first-lent : take (instanceOf s .contours + 1) (instanceOf s .first) ≡ firsts s (contoursOf s)
   unfolding heldAt
-  first-lent = rw instance-is (padded-front (CONTOURS + 1) 0 (firsts s (contoursOf s)) (contoursOf s + 1) (firsts-length s (contoursOf s)))
+  first-lent =
+      rw instance-is (padded-front (CONTOURS + 1) 0 (firsts s (contoursOf s)) (contoursOf s + 1)
+      (firsts-length s (contoursOf s)))

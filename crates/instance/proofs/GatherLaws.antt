@@ -27,7 +27,8 @@ use Rattle.answer.specs.declared.CutDirectionPreference.{CutDirectionPreference
 use Rattle.candidates.specs.Direction.{directionOf}
 use Rattle.points.specs.Points.{points}
 use Rattle.points.specs.Numbers.{zero64}
-use Rattle.instance.specs.Gather.{verticesOf, outlineOf, wayOf, offersOf, gathered, owners, firsts, roomFor, heldOf}
+use Rattle.instance.specs.Gather.{verticesOf, outlineOf, wayOf, offersOf, gathered, owners, firsts, roomFor}
+use Rattle.instance.specs.Gather.{heldOf}
 use Rattle.answer.specs.Room.{padded}
 use Rattle.answer.proofs.RoomLaws.{padded-length, padded-front, padded-paste, padded-one, padded-two}
 use Rattle.instance.specs.Room.{flat, outlined, heldAt, joined, Roomy, instanceOf}
@@ -46,10 +47,12 @@ module _ (s : List ℕ) (n c : ℕ) (e : n ≡ contoursOf s) (f : c ≡ perConto
   too-many-each h g k = rw (← e, ← f, le-leb n CONTOURS h, lt-ltb 0 c g, lt-leb c perContourLimit k)
 
   pub too-many-candidates : n ≤ CONTOURS → 1 ≤ c → c ≤ perContourLimit → candidateLimit < n * c → 0 ≡ heldOf s
-  too-many-candidates h g k l = rw (← e, ← f, le-leb n CONTOURS h, lt-ltb 0 c g, le-leb c perContourLimit k, lt-leb (n * c) candidateLimit l)
+  too-many-candidates h g k l =
+      rw (← e, ← f, le-leb n CONTOURS h, lt-ltb 0 c g, le-leb c perContourLimit k, lt-leb (n * c) candidateLimit l)
 
   pub all-held : n ≤ CONTOURS → 1 ≤ c → c ≤ perContourLimit → n * c ≤ candidateLimit → n ≡ heldOf s
-  all-held h g k l = rw (← e, ← f, le-leb n CONTOURS h, lt-ltb 0 c g, le-leb c perContourLimit k, le-leb (n * c) candidateLimit l)
+  all-held h g k l =
+      rw (← e, ← f, le-leb n CONTOURS h, lt-ltb 0 c g, le-leb c perContourLimit k, le-leb (n * c) candidateLimit l)
 
 -- a product of so few fits
 pub few : (n c : ℕ) → n ≤ CONTOURS → c ≤ perContourLimit → n * c ≤ CONTOURS * perContourLimit
@@ -65,12 +68,20 @@ pub record Among (n c k : ℕ) : Type 0 where
 pub among : (n c k : ℕ) → k < cond (roomFor n c) n 0 → Among n c k
 among n c k = go (leb n CONTOURS) (ltb 0 c) (leb c perContourLimit) (leb (n * c) candidateLimit) refl refl refl
   where
-    go : (p q r t : Bool) → leb n CONTOURS ≡ p → ltb 0 c ≡ q → leb (n * c) candidateLimit ≡ t → k < cond (p && (q && (r && t))) n 0 → Among n c k
+    go : (p q r t : Bool) → leb n CONTOURS ≡ p → ltb 0 c ≡ q → leb (n * c) candidateLimit ≡ t
+        → k < cond (p && (q && (r && t))) n 0 → Among n c k
     go false q r t e f g h = absurd (omega arith)
     go true false r t e f g h = absurd (omega arith)
     go true true false t e f g h = absurd (omega arith)
     go true true true false e f g h = absurd (omega arith)
-    go true true true true e f g h = record { below = h; contours = leb-true n CONTOURS e; wanted = ltb-true 0 c f; fit = leb-true (n * c) candidateLimit g }
+    go true true true true e f g h =
+        record {
+          below = h;
+          contours = leb-true n CONTOURS e;
+          wanted = ltb-true 0 c f;
+          fit =
+              leb-true (n * c) candidateLimit g;
+        }
 
 -- ---- how many candidates
 
@@ -108,7 +119,8 @@ module _ (s : List ℕ) where
       simp length-append (omega arith)
 
   -- there is room for every contour that is gathered
-  pub room-for : (k : ℕ) → k < heldOf s → (k < CONTOURS) × (length (gathered s k) + length (offersOf s k) ≤ candidateLimit)
+  pub room-for : (k : ℕ) → k < heldOf s
+      → (k < CONTOURS) × (length (gathered s k) + length (offersOf s k) ≤ candidateLimit)
   unfolding gathered
   room-for k h =
       let a = among (contoursOf s) (perContourOf s) k h in
@@ -138,14 +150,17 @@ module _ (s : List ℕ) (k : ℕ) where
   unfolding verticesOf flat
   numbers-none = refl
 
-  pub numbers-more : (j : ℕ) (p : Point) (l : List Float) → j < vertexLimit → p ≡ pointAt s (vertexPlace k j) → l ≡ numbersAt j
+  pub numbers-more : (j : ℕ) (p : Point) (l : List Float) → j < vertexLimit → p ≡ pointAt s (vertexPlace k j)
+      → l ≡ numbersAt j
       → set (set l (2 * j) (p .x)) (2 * j + 1) (p .y) ≡ numbersAt (j + 1)
   unfolding verticesOf
   numbers-more j p l h e f =
       rw (f, add-one j, ← e, flat-more)
-      (padded-two (2 * vertexLimit) zero64 (flat (verticesOf s k j)) (p .x) (p .y) (2 * j) (flat-vertices j) (omega arith))
+      (padded-two (2 * vertexLimit) zero64 (flat (verticesOf s k j)) (p .x) (p .y) (2 * j) (flat-vertices j)
+      (omega arith))
 
-  pub numbers-all : (j : ℕ) (l : List Float) → l ≡ numbersAt j → j ≡ min (vertexCountOf s k) vertexLimit → record { numbers = l; count = 2 * j } ≡ outlined (outlineOf s k)
+  pub numbers-all : (j : ℕ) (l : List Float) → l ≡ numbersAt j → j ≡ min (vertexCountOf s k) vertexLimit
+      → record { numbers = l; count = 2 * j } ≡ outlined (outlineOf s k)
   unfolding outlined outlineOf
   numbers-all j l e f = rw (e, ← flat-vertices j, f)
 
@@ -159,13 +174,18 @@ next s k h g =
     let n = length l in
     let rest = replicate (perContourLimit - n) blank in
     let seam : take n (l ++ rest) ≡ l = take-append-seam l rest in
-    let items : paste (padded candidateLimit blank (gathered s k)) (length (gathered s k)) (l ++ rest) n ≡ padded candidateLimit blank (gathered s k ++ l) =
-    padded-paste candidateLimit blank (gathered s k) (l ++ rest) (length (gathered s k)) n refl (rw length-append (omega arith)) g
+    let items : paste (padded candidateLimit blank (gathered s k)) (length (gathered s k)) (l ++ rest) n
+    ≡ padded candidateLimit blank (gathered s k ++ l) =
+    padded-paste candidateLimit blank (gathered s k) (l ++ rest) (length (gathered s k)) n refl
+    (rw length-append (omega arith)) g
     ∙ rw seam in
-    let owner : paste (padded candidateLimit 0 (owners s k)) (length (gathered s k)) (replicate n k) n ≡ padded candidateLimit 0 (owners s k ++ replicate n k) =
-    padded-paste candidateLimit 0 (owners s k) (replicate n k) (length (gathered s k)) n (owners-length s k) (rw length-replicate (omega arith)) g
+    let owner : paste (padded candidateLimit 0 (owners s k)) (length (gathered s k)) (replicate n k) n
+    ≡ padded candidateLimit 0 (owners s k ++ replicate n k) =
+    padded-paste candidateLimit 0 (owners s k) (replicate n k) (length (gathered s k)) n (owners-length s k)
+    (rw length-replicate (omega arith)) g
     ∙ rw (take-all n (replicate n k) (rw length-replicate (omega arith))) in
-    let first : set (padded (CONTOURS + 1) 0 (firsts s k)) (k + 1) (length (gathered s k ++ l)) ≡ padded (CONTOURS + 1) 0 (firsts s k ++ (length (gathered s k ++ l) ∷ [])) =
+    let first : set (padded (CONTOURS + 1) 0 (firsts s k)) (k + 1) (length (gathered s k ++ l))
+    ≡ padded (CONTOURS + 1) 0 (firsts s k ++ (length (gathered s k ++ l) ∷ [])) =
     padded-one (CONTOURS + 1) 0 (firsts s k) (length (gathered s k ++ l)) (k + 1) (firsts-length s k) (omega arith) in
     let contours : k + 1 ≡ suc k = add-one k in
     rw (items, owner, ← length-append (gathered s k) l, first) (ap (λ (i : ℕ). record {
@@ -185,7 +205,8 @@ unfolding heldAt gathered owners firsts
 none-yet s = refl
 
 -- one more, as the code takes it
-pub joined-more : (s : List ℕ) (k : ℕ) (held r : Instance) (found : Candidates) → k < heldOf s → held ≡ heldAt s k → found ≡ filled (offersOf s k) → r ≡ joined held found k → r ≡ heldAt s (k + 1)
+pub joined-more : (s : List ℕ) (k : ℕ) (held r : Instance) (found : Candidates) → k < heldOf s → held ≡ heldAt s k
+    → found ≡ filled (offersOf s k) → r ≡ joined held found k → r ≡ heldAt s (k + 1)
 joined-more s k held r found h e f g = g ∙ rw (e, f) (one-more s k h)
 
 -- and all of them
@@ -194,7 +215,8 @@ unfolding instanceOf
 all-joined s k held e f = f ∙ ap (heldAt s) e
 
 -- there is room for it
-pub roomy : (s : List ℕ) (k : ℕ) (held : Instance) (found : Candidates) → k < heldOf s → held ≡ heldAt s k → found ≡ filled (offersOf s k) → Roomy held found k
+pub roomy : (s : List ℕ) (k : ℕ) (held : Instance) (found : Candidates) → k < heldOf s → held ≡ heldAt s k
+    → found ≡ filled (offersOf s k) → Roomy held found k
 unfolding heldAt filled
 roomy s k held found h e f =
     let l = offersOf s k in
@@ -224,34 +246,52 @@ module _ (ps : List Point) (o : Outline) (is : o ≡ outlined ps) where
   pub outline-within : o .count ≤ length (o .numbers)
   outline-within = let e = outline-count in let l = length-take (o .count) (o .numbers) in omega arith
 
-pub offers-are : (s : List ℕ) (k : ℕ) (o : Outline) (kind : ContourType) (exterior interior : CutDirectionPreference) (c : ℕ) (r : Candidates)
-    → o ≡ outlined (outlineOf s k) → kind ≡ asType (typeOf s k) → exterior ≡ asPreference (exteriorOf s) → interior ≡ asPreference (interiorOf s) → c ≡ perContourOf s
-    → r ≡ filled (candidatesOf (directionOf kind exterior interior) (points (take (o .count) (o .numbers))) c) → r ≡ filled (offersOf s k)
+pub offers-are : (s : List ℕ) (k : ℕ) (o : Outline) (kind : ContourType) (exterior interior : CutDirectionPreference)
+    (c : ℕ) (r : Candidates)
+    → o ≡ outlined (outlineOf s k) → kind ≡ asType (typeOf s k) → exterior ≡ asPreference (exteriorOf s)
+    → interior ≡ asPreference (interiorOf s) → c ≡ perContourOf s
+    → r ≡ filled (candidatesOf (directionOf kind exterior interior) (points (take (o .count) (o .numbers))) c)
+    → r ≡ filled (offersOf s k)
 unfolding offersOf
 offers-are s k o kind exterior interior c r is e f g h t =
-    let ps : points (take (o .count) (o .numbers)) ≡ outlineOf s k = ap points (outline-lent (outlineOf s k) o is) ∙ points-flat (outlineOf s k) in
+    let ps : points (take (o .count) (o .numbers)) ≡ outlineOf s k =
+    ap points (outline-lent (outlineOf s k) o is) ∙ points-flat (outlineOf s k) in
     t ∙ rw (ps, e, f, g, h)
 
 -- ---- one contour's candidates, copied
 
 module _ (held : Instance) (found : Candidates) (k : ℕ) (r : Roomy held found k) where
-  pub item-copied : (j : ℕ) (z : Candidate) (l : List Candidate) → j < found .count → l ≡ paste (held .items) (held .count) (found .items) j
+  pub item-copied : (j : ℕ) (z : Candidate) (l : List Candidate) → j < found .count
+      → l ≡ paste (held .items) (held .count) (found .items) j
       → set l (held .count + j) (getD (found .items) j z) ≡ paste (held .items) (held .count) (found .items) (j + 1)
   item-copied j z l h e =
       let a = r .room in
       let w = r .few in
-      rw (e, add-one j) (paste-suc (held .items) (held .count) (found .items) j z (rw (r .items-whole) (omega arith)) (rw (r .whole) (omega arith)))
+      rw (e, add-one j) (paste-suc (held .items) (held .count) (found .items) j z (rw (r .items-whole) (omega arith))
+      (rw (r .whole) (omega arith)))
 
-  pub owner-noted : (j : ℕ) (l : List ℕ) → j < found .count → l ≡ paste (held .owner) (held .count) (replicate (found .count) k) j
+  pub owner-noted : (j : ℕ) (l : List ℕ) → j < found .count
+      → l ≡ paste (held .owner) (held .count) (replicate (found .count) k) j
       → set l (held .count + j) k ≡ paste (held .owner) (held .count) (replicate (found .count) k) (j + 1)
   owner-noted j l h e =
       let a = r .room in
       let same : getD (replicate (found .count) k) j 0 ≡ k = getD-replicate (found .count) j k 0 h in
-      rw (e, add-one j) (ap (λ (x : ℕ). set (paste (held .owner) (held .count) (replicate (found .count) k) j) (held .count + j) x) (sym same)
-      ∙ paste-suc (held .owner) (held .count) (replicate (found .count) k) j 0 (rw (r .owner-whole) (omega arith)) (rw length-replicate h))
+      rw (e, add-one j) (ap (λ (x : ℕ). set (paste (held .owner) (held .count) (replicate (found .count) k) j)
+      (held .count + j) x) (sym same)
+      ∙ paste-suc (held .owner) (held .count) (replicate (found .count) k) j 0 (rw (r .owner-whole) (omega arith))
+      (rw length-replicate h))
 
   pub all-copied : (j : ℕ) (items : List Candidate) (owner : List ℕ) → j ≡ found .count
-      → items ≡ paste (held .items) (held .count) (found .items) j → owner ≡ paste (held .owner) (held .count) (replicate (found .count) k) j
-      → record { items = items; owner = owner; first = set (held .first) (k + 1) (held .count + found .count); contours = k + 1; count = held .count + found .count } ≡ joined held found k
+      → items ≡ paste (held .items) (held .count) (found .items) j
+      → owner ≡ paste (held .owner) (held .count) (replicate (found .count) k) j
+      → record {
+        items = items;
+        owner = owner;
+        first =
+            set (held .first) (k + 1) (held .count + found .count);
+        contours = k + 1;
+        count =
+            held .count + found .count;
+      } ≡ joined held found k
   unfolding joined
   all-copied j items owner e f g = rw (f, g, e)

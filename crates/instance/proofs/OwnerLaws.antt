@@ -19,7 +19,8 @@ module _ (s : List ℕ) where
   gathered-grows zero k h = let e : k ≡ 0 = omega arith in rw e (omega arith)
   gathered-grows (suc n) k h = go (eq-or-lt-of-le h) (gathered-grows n k)
     where
-      go : (k ≡ suc n) ⊎ (k < suc n) → (k ≤ n → length (gathered s k) ≤ length (gathered s n)) → length (gathered s k) ≤ length (gathered s n ++ offersOf s n)
+      go : (k ≡ suc n) ⊎ (k < suc n) → (k ≤ n → length (gathered s k) ≤ length (gathered s n))
+          → length (gathered s k) ≤ length (gathered s n ++ offersOf s n)
       go (inl e) earlier = rw e (omega arith)
       go (inr l) earlier =
           let a = earlier (le-of-suc-le-suc l) in
@@ -32,22 +33,33 @@ module _ (s : List ℕ) where
   first-at zero k h = let e : k ≡ 0 = omega arith in rw e
   first-at (suc n) k h = go (eq-or-lt-of-le h) (first-at n k)
     where
-      go : (k ≡ suc n) ⊎ (k < suc n) → (k ≤ n → getD (firsts s n) k 0 ≡ length (gathered s k)) → getD (firsts s n ++ (length (gathered s (suc n)) ∷ [])) k 0 ≡ length (gathered s k)
+      go : (k ≡ suc n) ⊎ (k < suc n) → (k ≤ n → getD (firsts s n) k 0 ≡ length (gathered s k))
+          → getD (firsts s n ++ (length (gathered s (suc n)) ∷ [])) k 0 ≡ length (gathered s k)
       go (inl e) earlier =
           let l = firsts-length s n in
-          getD-at (firsts s n) (length (gathered s (suc n))) [] 0 k (omega arith) ∙ ap (λ (i : ℕ). length (gathered s i)) (sym e)
+          getD-at (firsts s n) (length (gathered s (suc n))) [] 0 k (omega arith)
+          ∙ ap (λ (i : ℕ). length (gathered s i)) (sym e)
       go (inr l) earlier =
           let f = firsts-length s n in
-          List·getD-append (firsts s n) (length (gathered s (suc n)) ∷ []) 0 k (omega arith) ∙ earlier (le-of-suc-le-suc l)
+          List·getD-append (firsts s n) (length (gathered s (suc n)) ∷ []) 0 k (omega arith)
+          ∙ earlier (le-of-suc-le-suc l)
 
-  pub owner-at : (n k a : ℕ) → k < n → length (gathered s k) ≤ a → a < length (gathered s (suc k)) → getD (owners s n) a 0 ≡ k
+  pub owner-at : (n k a : ℕ) → k < n → length (gathered s k) ≤ a → a < length (gathered s (suc k))
+      → getD (owners s n) a 0 ≡ k
   unfolding owners gathered
   owner-at zero k a h f g = absurd (not-suc-le-zero h)
   owner-at (suc n) k a h f g = go (eq-or-lt-of-le (le-of-suc-le-suc h)) (λ l. owner-at n k a l f g)
     where
-      go : (k ≡ n) ⊎ (k < n) → (k < n → getD (owners s n) a 0 ≡ k) → getD (owners s n ++ replicate (length (offersOf s n)) n) a 0 ≡ k
+      go : (k ≡ n) ⊎ (k < n) → (k < n → getD (owners s n) a 0 ≡ k)
+          → getD (owners s n ++ replicate (length (offersOf s n)) n) a 0 ≡ k
       go (inl e) earlier =
-          let g′ : a < length (gathered s n) + length (offersOf s n) = omega (arith, length-append (gathered s n) (offersOf s n), ap (λ (i : ℕ). length (gathered s (suc i))) e) in
+          let g′ : a < length (gathered s n) + length (offersOf s n) =
+          omega (
+            arith,
+            length-append (gathered s n) (offersOf s n),
+            ap (λ (i : ℕ). length (gathered s (suc i)))
+                e,
+          ) in
           let f′ : length (gathered s n) ≤ a = omega (arith, ap (λ (i : ℕ). length (gathered s i)) e) in
           let l = owners-length s n in
           let at : length (owners s n) + (a - length (owners s n)) ≡ a = omega arith in
@@ -87,7 +99,8 @@ module _ (s : List ℕ) where
   seat-of zero a h = absurd (not-suc-le-zero h)
   seat-of (suc n) a h = go (ltb a (length (gathered s n))) refl (seat-of n a)
     where
-      go : (b : Bool) → ltb a (length (gathered s n)) ≡ b → (a < length (gathered s n) → (k : ℕ) × Seat n a k) → (k : ℕ) × Seat (suc n) a k
+      go : (b : Bool) → ltb a (length (gathered s n)) ≡ b → (a < length (gathered s n) → (k : ℕ) × Seat n a k)
+          → (k : ℕ) × Seat (suc n) a k
       go true e earlier =
           let p = earlier (ltb-true a (length (gathered s n)) e) in
           let q = p .1 .below in
@@ -95,7 +108,8 @@ module _ (s : List ℕ) where
       go false e earlier = (n, record { below = omega arith; from = ltb-false a (length (gathered s n)) e; to = h })
 
   pub owner-below : (n a : ℕ) → a < length (gathered s n) → getD (owners s n) a 0 < n
-  owner-below n a h = let p = seat-of n a h in rw (owner-at n (p .0) a (p .1 .below) (p .1 .from) (p .1 .to)) (p .1 .below)
+  owner-below n a h = let p =
+      seat-of n a h in rw (owner-at n (p .0) a (p .1 .below) (p .1 .from) (p .1 .to)) (p .1 .below)
 
   -- its contour's first candidate does not come after it
   pub first-before : (n a : ℕ) → a < length (gathered s n) → getD (firsts s n) (getD (owners s n) a 0) 0 ≤ a

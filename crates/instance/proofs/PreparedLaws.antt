@@ -74,7 +74,8 @@ module _ (items : List Candidate) (t : ℕ) (few : t ≤ candidateLimit) (w : t 
   homes-front home =
       let all = homesOf (take t items) home in
       let long : length all ≡ t = homes-length (take t items) home ∙ sym w in
-      front-is t (homed items t home noDistances) all (rw (le-leb t candidateLimit few) (take-at all (drop t noDistances) t long)) long
+      front-is t (homed items t home noDistances) all
+      (rw (le-leb t candidateLimit few) (take-at all (drop t noDistances) t long)) long
 
   module _ (owner : List ℕ) (room after : List Float) (e : after ≡ tabled items t owner room) where
     long : length (distancesOf (take t items) owner) ≡ t * t
@@ -86,19 +87,22 @@ module _ (items : List Candidate) (t : ℕ) (few : t ≤ candidateLimit) (w : t 
     table-front l =
         let all = distancesOf (take t items) owner in
         front-is (t * t) after all
-        (ap (take (t * t)) e ∙ rw (le-leb t candidateLimit few, le-leb (t * t) (length room) l) (take-at all (drop (t * t) room) (t * t) long))
+        (ap (take (t * t)) e ∙ rw (le-leb t candidateLimit few, le-leb (t * t) (length room) l)
+        (take-at all (drop (t * t) room) (t * t) long))
         long
 
     -- and fill a room of their size
     pub table-fills : t * t ≡ length room → after ≡ distancesOf (take t items) owner
     unfolding tabled
     table-fills l =
-        e ∙ rw (le-leb t candidateLimit few, le-leb (t * t) (length room) (omega arith), l, drop-length room) (append-nil (distancesOf (take t items) owner))
+        e ∙ rw (le-leb t candidateLimit few, le-leb (t * t) (length room) (omega arith), l, drop-length room)
+        (append-nil (distancesOf (take t items) owner))
 
 -- ---- all that is prepared
 
 pub prepared-is : (s : List ℕ) {all : Instance} {home : Point} {homes : List Float} {named : Named}
-    → all ≡ instanceOf s → home ≡ homeOn s → homes ≡ homed (all .items) (all .count) home noDistances → named ≡ namedOf s
+    → all ≡ instanceOf s → home ≡ homeOn s → homes ≡ homed (all .items) (all .count) home noDistances
+    → named ≡ namedOf s
     → record { all = all; homes = homes; pairs = named .places; seats = named .count } ≡ preparedOf s
 unfolding preparedOf
 prepared-is s a h d n = rw (n, d, h, a)

@@ -64,4 +64,5 @@ unfoldable pub chartIn : Prepared → Chart
 chartIn p =
     let t = p .all .count in
     let owner = take t (p .all .owner) in
-    chartOf (take t (p .homes)) (distancesOf (take t (p .all .items)) owner) t owner (take (p .all .contours + 1) (p .all .first)) (take (p .seats) (p .pairs))
+    chartOf (take t (p .homes)) (distancesOf (take t (p .all .items)) owner) t owner
+    (take (p .all .contours + 1) (p .all .first)) (take (p .seats) (p .pairs))

@@ -1,5 +1,5 @@
--- Legal orders: none where a position reaches itself, one is always ready where none does, and `keepsPairs` says yes exactly to them.
--- Assumes nothing.
+-- Legal orders: none where a position reaches itself, one is always ready where none does, and `keepsPairs` says yes
+-- exactly to them. Assumes nothing.
 use mathlib.Core.Bool.{Bool, true, false, not, _||_, or-true}
 use mathlib.Core.Path.{_≡_, refl, sym, ap, _∙_}
 use mathlib.Core.Logic.{⊎-elim, _↔_}
@@ -14,7 +14,8 @@ use lib.ListN.{length, getD}
 use Rattle.closure.specs.Pairs.{paired, every, someOf, isPair, both}
 use Rattle.closure.specs.Cycle.{linked, Reaches, step, onward, Acyclic}
 use Rattle.closure.proofs.PairLaws.{same-or, lt-or}
-use Rattle.closure.proofs.PathLaws.{or-right, and-first, yes-or-no, linked-within, every-is, every-at, linked-pair, pair-linked}
+use Rattle.closure.proofs.PathLaws.{or-right, and-first, yes-or-no, linked-within, every-is, every-at, linked-pair}
+use Rattle.closure.proofs.PathLaws.{pair-linked}
 use Rattle.keep.specs.Keep.{lastRank, keptAt, keptIn, keepsPairs, readyBy, readyIn}
 use Rattle.keep.specs.Legal.{EachOnce, Legal}
 use Rattle.closure.proofs.CountLaws.{Least, least, met-at, Different, different-all}
@@ -54,14 +55,17 @@ pub record ReadyNext (n : ℕ) (visited pairs : List ℕ) (k : ℕ) : Type 0 whe
   pub unvisited : getD visited k 0 ≡ 0
   pub ready : readyIn visited pairs k ≡ true
 
-pub one-ready : (n : ℕ) (visited pairs : List ℕ) → Acyclic n pairs → every (both n) (paired pairs) ≡ true → (k : ℕ) → k < n → getD visited k 0 ≡ 0 → (m : ℕ) × ReadyNext n visited pairs m
+pub one-ready : (n : ℕ) (visited pairs : List ℕ) → Acyclic n pairs → every (both n) (paired pairs) ≡ true → (k : ℕ)
+    → k < n → getD visited k 0 ≡ 0 → (m : ℕ) × ReadyNext n visited pairs m
 unfolding readyIn readyBy
-one-ready n visited pairs free low k h e = go (least n (linked n pairs) (linked-within n pairs) free waiting k h (eq-eqb (getD visited k 0) 0 e))
+one-ready n visited pairs free low k h e =
+    go (least n (linked n pairs) (linked-within n pairs) free waiting k h (eq-eqb (getD visited k 0) 0 e))
   where
     waiting : ℕ → Bool
     waiting b = eqb (getD visited b 0) 0
 
-    go : (m : ℕ) × Least n (linked n pairs) (linked-within n pairs) free waiting m → (m : ℕ) × ReadyNext n visited pairs m
+    go : (m : ℕ) × Least n (linked n pairs) (linked-within n pairs) free waiting m
+        → (m : ℕ) × ReadyNext n visited pairs m
     go (m, l) = (
       m,
       record {
@@ -71,10 +75,12 @@ one-ready n visited pairs free low k h e = go (least n (linked n pairs) (linked-
       },
     )
       where
-        test : (b a : ℕ) → someOf (isPair b a) (paired pairs) ≡ true → readyBy visited m (record { before = b; after = a }) ≡ true
+        test : (b a : ℕ) → someOf (isPair b a) (paired pairs) ≡ true
+            → readyBy visited m (record { before = b; after = a }) ≡ true
         test b a t = ⊎-elim
             (λ (x : a ≡ m). ⊎-elim
-            (λ (y : waiting b ≡ true). absurd (l .none b below y (linked-pair n pairs b m below (l .within) (rw x at t))))
+            (λ (y : waiting b ≡ true). absurd (l .none b below y
+            (linked-pair n pairs b m below (l .within) (rw x at t))))
             (λ (y : waiting b ≡ false). rw (y) (or-true (not (eqb a m)))) (yes-or-no (waiting b)))
             (λ (d : a ≡ m → ⊥). rw (ne-eqb a m d)) (same-or a m)
           where
@@ -115,13 +121,20 @@ module _ (n : ℕ) (order : List ℕ) (each : EachOnce n order) where
   -- an order of each position once is legal exactly where it keeps the pairs
   pub keeps-legal : (pairs : List ℕ) → keepsPairs order pairs ≡ true → Legal n pairs order
   unfolding keepsPairs keptIn
-  keeps-legal pairs e = record { each = each; before = λ p q hp hq t. first p q hp hq (every-at (keptIn order) (paired pairs) (getD order p 0) (getD order q 0) e (pair-linked n pairs (getD order p 0) (getD order q 0) t)) }
+  keeps-legal pairs e =
+      record {
+        each = each;
+        before =
+            λ p q hp hq t. first p q hp hq (every-at (keptIn order) (paired pairs) (getD order p 0) (getD order q 0) e
+            (pair-linked n pairs (getD order p 0) (getD order q 0) t));
+      }
     where
       first : (p q : ℕ) → p < n → q < n →
           keptAt (lastRank order (getD order p 0)) (lastRank order (getD order q 0)) ≡ true → p < q
       first p q hp hq t =
           let k : keptAt (suc p) (suc q) ≡ true = rw (rank-last p hp, rank-last q hq) at t in
-          let l : ltb (suc p) (suc q) ≡ true = rw (ne-eqb (suc p) 0 (omega arith), ne-eqb (suc q) 0 (omega arith)) at k in
+          let l : ltb (suc p) (suc q) ≡ true =
+          rw (ne-eqb (suc p) 0 (omega arith), ne-eqb (suc q) 0 (omega arith)) at k in
           omega (arith, ltb-true (suc p) (suc q) l)
 
   pub legal-keeps : (pairs : List ℕ) → Legal n pairs order → keepsPairs order pairs ≡ true
@@ -138,10 +151,13 @@ module _ (n : ℕ) (order : List ℕ) (each : EachOnce n order) where
           inside hb ha =
               let f = position-of n order each b hb in
               let g = position-of n order each a ha in
-              let l : f .0 < g .0 = legal .before (f .0) (g .0) (f .1) (g .1) (rw (f .2, g .2) (linked-pair n pairs b a hb ha t)) in
+              let l : f .0 < g .0 =
+              legal .before (f .0) (g .0) (f .1) (g .1) (rw (f .2, g .2) (linked-pair n pairs b a hb ha t)) in
               let x : lastRank order b ≡ suc (f .0) = ap (lastRank order) (sym (f .2)) ∙ rank-last (f .0) (f .1) in
               let y : lastRank order a ≡ suc (g .0) = ap (lastRank order) (sym (g .2)) ∙ rank-last (g .0) (g .1) in
-              rw (x, y) (or-right (eqb (suc (f .0)) 0) (eqb (suc (g .0)) 0 || ltb (suc (f .0)) (suc (g .0))) (or-right (eqb (suc (g .0)) 0) (ltb (suc (f .0)) (suc (g .0))) (lt-ltb (suc (f .0)) (suc (g .0)) (omega arith))))
+              rw (x, y) (or-right (eqb (suc (f .0)) 0) (eqb (suc (g .0)) 0 || ltb (suc (f .0)) (suc (g .0)))
+              (or-right (eqb (suc (g .0)) 0) (ltb (suc (f .0)) (suc (g .0)))
+              (lt-ltb (suc (f .0)) (suc (g .0)) (omega arith))))
 
   pub keeps-exactly : (pairs : List ℕ) → (keepsPairs order pairs ≡ true) ↔ Legal n pairs order
   keeps-exactly pairs = (keeps-legal pairs, legal-keeps pairs)

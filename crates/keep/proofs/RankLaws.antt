@@ -35,7 +35,8 @@ latest-last x order = latest-is x 0 0 order ∙ go (lastRank order x)
     go (suc r) = rw (lt-ltb 0 (suc r) (omega arith)) (omega arith)
 
 -- one step of the walk
-latest-step : (x k met y : ℕ) (more : List ℕ) → latest x k met (y ∷ more) ≡ latest x (suc k) (cond (eqb y x) (suc k) met) more
+latest-step : (x k met y : ℕ) (more : List ℕ)
+    → latest x k met (y ∷ more) ≡ latest x (suc k) (cond (eqb y x) (suc k) met) more
 unfolding latest
 latest-step x k met y more = refl
 
@@ -56,10 +57,20 @@ ranks-more order i y p q e small more part = record {
   left = λ x h. step x h ∙ (rw (drop-cons order i 0 more, ← e) at (part .left x h));
 }
   where
-    step : (x : ℕ) → x < 256 → latest x (i + 1) (getD (set q y (i + 1)) x 0) (drop (i + 1) order) ≡ latest x i (getD q x 0) (y ∷ drop (suc i) order)
+    step : (x : ℕ) → x < 256
+        → latest x (i + 1) (getD (set q y (i + 1)) x 0) (drop (i + 1) order)
+        ≡ latest x i (getD q x 0) (y ∷ drop (suc i) order)
     step x h = ⊎-elim
-        (λ (s : x ≡ y). rw (s, getD-set-same q y (i + 1) 0 (omega (arith, part .size)), latest-step, eq-eqb y y refl, add-one i))
-        (λ (d : x ≡ y → ⊥). rw (getD-set-other q y x (i + 1) 0 d, latest-step, ne-eqb y x (λ z. d (sym z)), add-one i)) (same-or x y)
+        (λ (s : x ≡ y). rw (
+          s,
+          getD-set-same q y (i + 1) 0 (omega (arith, part .size)),
+          latest-step,
+          eq-eqb y y refl,
+          add-one i,
+        ))
+        (λ (d : x ≡ y
+        → ⊥). rw (getD-set-other q y x (i + 1) 0 d, latest-step, ne-eqb y x (λ z. d (sym z)), add-one i))
+        (same-or x y)
 
 pub ranks-all : (order : List ℕ) (i : ℕ) (p q : List ℕ) → length order ≤ i → RanksPart order i p q → RanksOf order p q
 unfolding latest
@@ -98,21 +109,25 @@ module _ (order pairs : List ℕ) (at b a : ℕ) (r : Bool) (eb : b ≡ lastRank
   unfolding keepsPairs
   pair-broken t = every-fails (keptIn order) pairs at more part (kept-answer ∙ t)
 
-pub pairs-kept : (order pairs : List ℕ) (at : ℕ) → length pairs ≤ at + 1 → EveryPart (keptIn order) pairs at → true ≡ keepsPairs order pairs
+pub pairs-kept : (order pairs : List ℕ) (at : ℕ) → length pairs ≤ at + 1 → EveryPart (keptIn order) pairs at
+    → true ≡ keepsPairs order pairs
 unfolding keepsPairs
 pairs-kept order pairs at all part = every-all (keptIn order) pairs at all part
 
 -- ---- what a pair asks of the flags
 
-pub ready-other : (visited : List ℕ) (b a k : ℕ) → (a ≡ k → ⊥) → true ≡ readyBy visited k (record { before = b; after = a })
+pub ready-other : (visited : List ℕ) (b a k : ℕ) → (a ≡ k → ⊥)
+    → true ≡ readyBy visited k (record { before = b; after = a })
 unfolding readyBy
 ready-other visited b a k d = rw (ne-eqb a k d)
 
-pub ready-flag : (visited : List ℕ) (b a k w f : ℕ) → a ≡ k → w ≡ b → f ≡ getD visited w 0 → not (eqb f 0) ≡ readyBy visited k (record { before = b; after = a })
+pub ready-flag : (visited : List ℕ) (b a k w f : ℕ) → a ≡ k → w ≡ b → f ≡ getD visited w 0
+    → not (eqb f 0) ≡ readyBy visited k (record { before = b; after = a })
 unfolding readyBy
 ready-flag visited b a k w f e p q = rw (eq-eqb a k e, q, p)
 
-module _ (visited pairs : List ℕ) (k at : ℕ) (r : Bool) (more : at + 1 < length pairs) (part : EveryPart (readyBy visited k) pairs at) (is : r ≡ readyBy visited k (pairAt pairs at)) where
+module _ (visited pairs : List ℕ) (k at : ℕ) (r : Bool) (more : at + 1 < length pairs)
+    (part : EveryPart (readyBy visited k) pairs at) (is : r ≡ readyBy visited k (pairAt pairs at)) where
   pub pair-ready : r ≡ true → EveryPart (readyBy visited k) pairs (at + 2)
   pair-ready t = every-more (readyBy visited k) pairs at more part (sym is ∙ t)
 
@@ -120,7 +135,8 @@ module _ (visited pairs : List ℕ) (k at : ℕ) (r : Bool) (more : at + 1 < len
   unfolding readyIn
   pair-waits t = every-fails (readyBy visited k) pairs at more part (sym is ∙ t)
 
-pub pairs-ready : (visited pairs : List ℕ) (k at : ℕ) → length pairs ≤ at + 1 → EveryPart (readyBy visited k) pairs at → true ≡ readyIn visited pairs k
+pub pairs-ready : (visited pairs : List ℕ) (k at : ℕ) → length pairs ≤ at + 1 → EveryPart (readyBy visited k) pairs at
+    → true ≡ readyIn visited pairs k
 unfolding readyIn
 pairs-ready visited pairs k at all part = every-all (readyBy visited k) pairs at all part
 
@@ -136,13 +152,16 @@ latest-none id ids = record { within = omega arith; left = latest-last id ids }
 
 module _ (id : ℕ) (ids : List ℕ) (i met : ℕ) (more : i < length ids) (part : LatestPart id ids i met) where
   latest-walk : latest id (suc i) (cond (eqb (getD ids i 0) id) (suc i) met) (drop (suc i) ids) ≡ lastRank ids id
-  latest-walk = sym (latest-step id i met (getD ids i 0) (drop (suc i) ids)) ∙ (rw (drop-cons ids i 0 more) at (part .left))
+  latest-walk =
+      sym (latest-step id i met (getD ids i 0) (drop (suc i) ids)) ∙ (rw (drop-cons ids i 0 more) at (part .left))
 
   pub latest-here : getD ids i 0 ≡ id → LatestPart id ids (i + 1) (i + 1)
-  latest-here e = rw (add-one i) (record { within = omega arith; left = rw (eq-eqb (getD ids i 0) id e) at latest-walk })
+  latest-here e =
+      rw (add-one i) (record { within = omega arith; left = rw (eq-eqb (getD ids i 0) id e) at latest-walk })
 
   pub latest-other : (getD ids i 0 ≡ id → ⊥) → LatestPart id ids (i + 1) met
-  latest-other d = rw (add-one i) (record { within = omega arith; left = rw (ne-eqb (getD ids i 0) id d) at latest-walk })
+  latest-other d =
+      rw (add-one i) (record { within = omega arith; left = rw (ne-eqb (getD ids i 0) id d) at latest-walk })
 
 pub latest-all : (id : ℕ) (ids : List ℕ) (i met : ℕ) → length ids ≤ i → LatestPart id ids i met → met ≡ lastRank ids id
 unfolding latest

@@ -1,4 +1,5 @@
--- Whether an order keeps to the pairs, and whether all that must come before a position has been visited. Assumes nothing.
+-- Whether an order keeps to the pairs, and whether all that must come before a position has been visited. Assumes
+-- nothing.
 use mathlib.Core.Bool.{Bool, cond, not, _||_}
 use mathlib.Core.List.{List, [], _∷_}
 use Prim.Native.Nat.{ℕ, suc}

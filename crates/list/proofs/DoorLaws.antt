@@ -1,5 +1,5 @@
--- What the tour's door left behind decides the list: with rooms of its own for a tour and a table nothing else is refused than by the
--- card's check. Assumes nothing.
+-- What the tour's door left behind decides the list: with rooms of its own for a tour and a table nothing else is
+-- refused than by the card's check. Assumes nothing.
 use mathlib.Core.Path.{_≡_, refl, sym, ap, _∙_}
 use mathlib.Core.List.{List}
 use Prim.Native.Nat.{ℕ, _*_, _≤_}
@@ -43,7 +43,8 @@ same-check s = go (checkOf s) refl
         rw (sym (rooms-fine s CONTOURS entryLimit (contoursOf s) (countOn s) refl refl (accepted s e .few-contours) m))
 
 module _ (s room : List ℕ) (table : List Float) where
-  told-refused : (c : Check) (r : Refusal) (after : List ℕ) (rest : List Float) → left (answer.Refused r) after rest ≡ touredUnless c (toured s room table) room table → c ≡ Refused r
+  told-refused : (c : Check) (r : Refusal) (after : List ℕ) (rest : List Float)
+      → left (answer.Refused r) after rest ≡ touredUnless c (toured s room table) room table → c ≡ Refused r
   told-refused Fine r after rest e =
       let f : answer.Refused r ≡ answer.Done (outcomeOn s) = ap (λ (l : Left). l .answer) e in
       let z : _≡_ {A = ℕ} 0 1 = cc in
@@ -52,7 +53,8 @@ module _ (s room : List ℕ) (table : List Float) where
       let f : answer.Refused r ≡ answer.Refused q = ap (λ (l : Left). l .answer) e in
       cc
 
-  told-done : (c : Check) (o : Outcome) (after : List ℕ) (rest : List Float) → left (answer.Done o) after rest ≡ touredUnless c (toured s room table) room table
+  told-done : (c : Check) (o : Outcome) (after : List ℕ) (rest : List Float)
+      → left (answer.Done o) after rest ≡ touredUnless c (toured s room table) room table
       → (c ≡ Fine) × (o ≡ outcomeOn s) × (after ≡ placed (tourOn s) room)
   told-done Fine o after rest e =
       let f : answer.Done o ≡ answer.Done (outcomeOn s) = ap (λ (l : Left). l .answer) e in
@@ -62,14 +64,16 @@ module _ (s room : List ℕ) (table : List Float) where
       let z : _≡_ {A = ℕ} 0 1 = cc in
       absurd (omega arith)
 
-  module _ (seats : length room ≡ CONTOURS) (entries : length table ≡ entryLimit) (told : Toured) (after : List ℕ) (rest : List Float) (is : left told after rest ≡ tourOf s room table) where
+  module _ (seats : length room ≡ CONTOURS) (entries : length table ≡ entryLimit) (told : Toured) (after : List ℕ)
+      (rest : List Float) (is : left told after rest ≡ tourOf s room table) where
     as-checked : tourOf s room table ≡ touredUnless (checkOf s) (toured s room table) room table
     unfolding tourOf
     as-checked = rw (seats, entries, same-check s)
 
     pub refused-listed : (r : Refusal) → told ≡ answer.Refused r → refusalLine r ≡ listOf s
     unfolding listOf
-    refused-listed r e = rw (told-refused (checkOf s) r after rest (ap (λ (t : Toured). left t after rest) (sym e) ∙ is ∙ as-checked))
+    refused-listed r e =
+        rw (told-refused (checkOf s) r after rest (ap (λ (t : Toured). left t after rest) (sym e) ∙ is ∙ as-checked))
 
     module _ (o : Outcome) (e : told ≡ answer.Done o) where
       all : (checkOf s ≡ Fine) × (o ≡ outcomeOn s) × (after ≡ placed (tourOn s) room)
@@ -80,7 +84,8 @@ module _ (s room : List ℕ) (table : List Float) where
 
       module _ (n : ℕ) (k : n ≡ contoursOf s) where
         front : take n after ≡ tourOn s
-        front = ap (take n) (all .2) ∙ take-at (tourOn s) (drop (length (tourOn s)) room) n (tour-long s (all .0) ∙ sym k)
+        front = ap (take n) (all .2)
+            ∙ take-at (tourOn s) (drop (length (tourOn s)) room) n (tour-long s (all .0) ∙ sym k)
 
         pub tour-whole : n ≡ length (take n after)
         tour-whole = k ∙ sym (ap length front ∙ tour-long s (all .0))

@@ -32,7 +32,8 @@ use Rattle.tour_laws.specs.Visits.{AllBelow}
 use Rattle.tour_laws.proofs.TourLaws.{tour-long, tour-among}
 use Rattle.text.specs.Page.{over}
 use Rattle.text.specs.Text.{bytes, decimalIn, decimalOf, hexOf}
-use Rattle.list.specs.Lines.{headLine, wayWord, nameWords, placeLine, stopLine, stopLines, outcomeLines, tourLines, refusalLine, listUnless, listOf}
+use Rattle.list.specs.Lines.{headLine, wayWord, nameWords, placeLine, stopLine, stopLines, outcomeLines}
+use Rattle.list.specs.Lines.{tourLines, refusalLine, listUnless, listOf}
 use Rattle.list.specs.Fits.{OfBytes, headLongest, stopLongest, outcomeLongest, longest, Fits, Whole}
 
 -- ---- numbers
@@ -53,20 +54,30 @@ shorter : (most : ℕ) → Short most → (k n : ℕ) → n < 10 ^ suc k → 10 
 unfolding Short
 shorter most further zero n h l = absurd (let g : n < 10 = h in omega arith)
 shorter most further (suc k) n h l =
-    let less : n / 10 < 10 ^ suc k = div-lt-iff-lt-mul {k = 10} {x = n} {y = 10 ^ suc k} (lit≤ tt) .1 (rw (← pow-suc 10 (suc k)) h) in
+    let less : n / 10 < 10 ^ suc k =
+    div-lt-iff-lt-mul {k = 10} {x = n} {y = 10 ^ suc k} (lit≤ tt) .1 (rw (← pow-suc 10 (suc k)) h) in
     omega (arith, further k (n / 10) less, more-digits most n l)
 
 decimal-short : (most : ℕ) → Short most
 unfolding Short decimalIn
 decimal-short zero = λ k n h. omega arith
-decimal-short (suc most) = λ k n h. elim (decLe 10 n) [ yes l ↦ shorter most (decimal-short most) k n h l | no l ↦ (let e = one-digit most n (lt-of-not-le l) in omega arith) ]
+decimal-short (suc most) =
+    λ k n h. elim (decLe 10 n) [
+      | yes l ↦ shorter most (decimal-short most) k n h l
+      | no l ↦
+          (let e = one-digit most n (lt-of-not-le l) in omega arith)
+    ]
 
 decimal-cut : (most n : ℕ) → length (decimalIn most n) ≤ most
 unfolding decimalIn
 decimal-cut zero n = omega arith
 decimal-cut (suc most) n =
     let f = decimal-cut most (n / 10) in
-    elim (decLe 10 n) [ yes l ↦ omega (arith, more-digits most n l) | no l ↦ (let e = one-digit most n (lt-of-not-le l) in omega arith) ]
+    elim (decLe 10 n) [
+      | yes l ↦ omega (arith, more-digits most n l)
+      | no l ↦
+          (let e = one-digit most n (lt-of-not-le l) in omega arith)
+    ]
 
 -- below ten to the k + 1, and at all
 below : (k n : ℕ) → n < 10 ^ suc k → length (decimalOf n) ≤ suc k
@@ -79,7 +90,8 @@ at-all n = decimal-cut 20 n
 
 digits-long : (b k n : ℕ) → length (digits b k n) ≡ k
 digits-long b zero n = refl
-digits-long b (suc k) n = let f = digits-long b k (n / b) in omega (arith, length-append (digits b k (n / b)) (glyph (n % b) ∷ []))
+digits-long b (suc k) n = let f =
+    digits-long b k (n / b) in omega (arith, length-append (digits b k (n / b)) (glyph (n % b) ∷ []))
 
 hex-long : (n : ℕ) → length (hexOf n) ≤ 16
 unfolding hexOf
@@ -97,7 +109,16 @@ way-short Cw = lit≤ tt
 
 module _ (s : List ℕ) (ofBytes : OfBytes s) where
   u32-short : (at : ℕ) → length (decimalOf (u32At s at)) ≤ 10
-  u32-short at = below 9 (u32At s at) (omega (arith, u32-bytes s at, ofBytes at, ofBytes (at + 1), ofBytes (at + 2), ofBytes (at + 3)))
+  u32-short at =
+      below 9 (u32At s at) (omega (
+        arith,
+        u32-bytes s at,
+        ofBytes at,
+        ofBytes (at + 1),
+        ofBytes (at + 2),
+        ofBytes
+            (at + 3),
+      ))
 
   head-short : contoursOf s < 10 ^ 2 → length (headLine s) ≤ headLongest
   unfolding headLine
@@ -192,10 +213,12 @@ module _ (s held : List ℕ) (ofBytes : OfBytes s) (room : longest ≤ length he
   counted : min (length (listOf s)) (length held) ≡ length (listOf s)
   counted = let fits = list-fits s ofBytes in omega arith
 
-  pub whole-list : (after : List ℕ) (n : ℕ) → after ≡ over (listOf s) held → n ≡ min (length (listOf s)) (length held) → (take n after ≡ listOf s) × (n ≡ length (listOf s))
+  pub whole-list : (after : List ℕ) (n : ℕ) → after ≡ over (listOf s) held → n ≡ min (length (listOf s)) (length held)
+      → (take n after ≡ listOf s) × (n ≡ length (listOf s))
   whole-list after n e k =
       let fits = list-fits s ofBytes in
       (rw (k, counted, e) (all-laid (listOf s) held (omega arith)), k ∙ counted)
 
 pub list-whole : Whole
-list-whole s held ofBytes room = whole-list s held ofBytes room (over (listOf s) held) (min (length (listOf s)) (length held)) refl refl .0
+list-whole s held ofBytes room =
+    whole-list s held ofBytes room (over (listOf s) held) (min (length (listOf s)) (length held)) refl refl .0

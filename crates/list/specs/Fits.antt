@@ -31,4 +31,5 @@ Fits = (s : List ℕ) → OfBytes s → length (listOf s) ≤ longest
 
 -- so on a page of that length or more, what `write_list` counts is the whole list
 abbrev pub Whole : Type 0
-Whole = (s held : List ℕ) → OfBytes s → longest ≤ length held → take (min (length (listOf s)) (length held)) (over (listOf s) held) ≡ listOf s
+Whole = (s held : List ℕ) → OfBytes s → longest ≤ length held
+    → take (min (length (listOf s)) (length held)) (over (listOf s) held) ≡ listOf s

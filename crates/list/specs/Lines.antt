@@ -46,7 +46,8 @@ stopLines s (a ∷ tour) = stopLine s a ++ stopLines s tour
 
 -- the trials, and the bits of the length
 unfoldable pub outcomeLines : Outcome → List ℕ
-outcomeLines o = bytes "MOVES " ++ decimalOf (o .moves) ++ bytes "\nRAPID " ++ hexOf (toBits binary64 (o .length)) ++ bytes "\n"
+outcomeLines o =
+    bytes "MOVES " ++ decimalOf (o .moves) ++ bytes "\nRAPID " ++ hexOf (toBits binary64 (o .length)) ++ bytes "\n"
 
 -- the list of a tour
 unfoldable pub tourLines : List ℕ → List ℕ → Outcome → List ℕ

@@ -7,7 +7,8 @@ use native.Mathlib.Nat.{add-comm, mul-comm}
 use native.Mathlib.Omega.{arith}
 use borrow.Author.Tests.{ltb-true, ltb-false}
 use lib.Dec.{ltb}
-use lib.Ieee.{Float, nan, inf, fin, Format, binary64, prec, emax, low, up, down, size, nearest, odd, units, round, neg, sum, add, sub, mul}
+use lib.Ieee.{Float, nan, inf, fin, Format, binary64, prec, emax, low, up, down, size, nearest, odd, units, round, neg}
+use lib.Ieee.{sum, add, sub, mul}
 use Rattle.answer.specs.declared.Point.{Point}
 use Rattle.root.specs.Root.{sqrtOf}
 use Rattle.points.specs.Distance.{squares, distanceSqOf, distanceOf}
@@ -23,7 +24,9 @@ units-neg : (f : Format) (s : Bool) (q k : ℕ) → units f (not s) q k ≡ neg 
 unfolding units neg
 units-neg f s q k = go (ltb (q * 2 ^ k) (2 ^ (low f + suc (emax f))))
   where
-    go : (b : Bool) → cond b (odd (suc (prec f)) (not s) q k (low f)) (inf (not s)) ≡ neg (cond b (odd (suc (prec f)) s q k (low f)) (inf s))
+    go : (b : Bool)
+        → cond b (odd (suc (prec f)) (not s) q k (low f)) (inf (not s))
+        ≡ neg (cond b (odd (suc (prec f)) s q k (low f)) (inf s))
     go true = odd-neg (suc (prec f)) s q k (low f)
     go false = refl
 
@@ -58,7 +61,8 @@ Mirrored x y = (x ≡ y) ⊎ (x ≡ neg y)
 -- the two numbers have the same sign: what is left over has the sign of the larger
 module _ (f : Format) (s : Bool) (a b c : ℕ) where
   left-over : (p q : Bool) → ltb a b ≡ p → ltb b a ≡ q
-      → Mirrored (cond p (round f (not s) (b - a) c) (round f (s && q) (a - b) c)) (cond q (round f (not s) (a - b) c) (round f (s && p) (b - a) c))
+      → Mirrored (cond p (round f (not s) (b - a) c) (round f (s && q) (a - b) c))
+      (cond q (round f (not s) (a - b) c) (round f (s && p) (b - a) c))
   left-over true true e g = absurd (omega (arith, ltb-true a b e, ltb-true b a g))
   left-over true false e g = inr (rw and-true (round-neg f s (b - a) c))
   left-over false true e g = inr (rw and-true (turned (round-neg f s (a - b) c)))
@@ -66,7 +70,8 @@ module _ (f : Format) (s : Bool) (a b c : ℕ) where
       let h : a - b ≡ b - a = omega (arith, ltb-false a b e, ltb-false b a g) in
       inl (rw h)
 
-sum-mirrored : (f : Format) (s : Bool) (a : ℕ) (t : Bool) (b c : ℕ) → Mirrored (sum f s a (not t) b c) (sum f t b (not s) a c)
+sum-mirrored : (f : Format) (s : Bool) (a : ℕ) (t : Bool) (b c : ℕ)
+    → Mirrored (sum f s a (not t) b c) (sum f t b (not s) a c)
 unfolding sum
 sum-mirrored f true a true b c = left-over f true a b c (ltb a b) (ltb b a) refl refl
 sum-mirrored f false a false b c = left-over f false a b c (ltb a b) (ltb b a) refl refl
@@ -88,7 +93,8 @@ sub-mirrored f (inf true) (fin t n d) = inr refl
 sub-mirrored f (inf false) (fin t n d) = inr refl
 sub-mirrored f (fin s m e) nan = inl refl
 sub-mirrored f (fin s m e) (inf t) = inr refl
-sub-mirrored f (fin s m e) (fin t n d) = rw (mul-comm (down d) (down e)) (sum-mirrored f s (m * up e * down d) t (n * up d * down e) (down e * down d))
+sub-mirrored f (fin s m e) (fin t n d) =
+    rw (mul-comm (down d) (down e)) (sum-mirrored f s (m * up e * down d) t (n * up d * down e) (down e * down d))
 
 -- ---- so its square is the same
 
@@ -108,8 +114,10 @@ pub distanceSq-sym : (a b : Point) → distanceSqOf a b ≡ distanceSqOf b a
 unfolding distanceSqOf squares
 distanceSq-sym a b =
     ap₂ (add binary64)
-    (square-mirrored binary64 (sub binary64 (b .x) (a .x)) (sub binary64 (a .x) (b .x)) (sub-mirrored binary64 (b .x) (a .x)))
-    (square-mirrored binary64 (sub binary64 (b .y) (a .y)) (sub binary64 (a .y) (b .y)) (sub-mirrored binary64 (b .y) (a .y)))
+    (square-mirrored binary64 (sub binary64 (b .x) (a .x)) (sub binary64 (a .x) (b .x))
+    (sub-mirrored binary64 (b .x) (a .x)))
+    (square-mirrored binary64 (sub binary64 (b .y) (a .y)) (sub binary64 (a .y) (b .y))
+    (sub-mirrored binary64 (b .y) (a .y)))
 
 pub distance-sym : (a b : Point) → distanceOf a b ≡ distanceOf b a
 unfolding distanceOf

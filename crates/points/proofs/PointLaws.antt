@@ -18,7 +18,8 @@ points-length [] = refl
 points-length (x ∷ []) = refl
 points-length (x ∷ y ∷ more) = let h = points-length more in omega arith
 
-pub points-at : (d : List Float) (k : ℕ) → k < length d / 2 → getD (points d) k nowhere ≡ point (getD d (2 * k) nan) (getD d (2 * k + 1) nan)
+pub points-at : (d : List Float) (k : ℕ) → k < length d / 2
+    → getD (points d) k nowhere ≡ point (getD d (2 * k) nan) (getD d (2 * k + 1) nan)
 unfolding points
 points-at [] k h = absurd (not-suc-le-zero h)
 points-at (x ∷ []) k h = absurd (not-suc-le-zero h)
@@ -56,13 +57,15 @@ closing-last first p (q ∷ more) zero h = absurd (omega arith)
 closing-last first p (q ∷ more) (suc i) h = closing-last first q more i (omega arith)
 
 -- from a vertex to the next
-pub edge-inner : (ps : List Point) (i : ℕ) → i + 1 < length ps → getD (edges ps) i noEnds ≡ ends (getD ps i nowhere) (getD ps (i + 1) nowhere)
+pub edge-inner : (ps : List Point) (i : ℕ) → i + 1 < length ps
+    → getD (edges ps) i noEnds ≡ ends (getD ps i nowhere) (getD ps (i + 1) nowhere)
 unfolding edges
 edge-inner [] i h = absurd (not-suc-le-zero h)
 edge-inner (p ∷ more) i h = rw add-one (closing-inner p p more i (omega arith))
 
 -- from the last vertex to the first
-pub edge-last : (ps : List Point) (i : ℕ) → i + 1 ≡ length ps → getD (edges ps) i noEnds ≡ ends (getD ps i nowhere) (getD ps 0 nowhere)
+pub edge-last : (ps : List Point) (i : ℕ) → i + 1 ≡ length ps
+    → getD (edges ps) i noEnds ≡ ends (getD ps i nowhere) (getD ps 0 nowhere)
 unfolding edges
 edge-last [] i h = absurd (omega arith)
 edge-last (p ∷ more) i h = closing-last p p more i (omega arith)
@@ -75,7 +78,8 @@ legs-length [] = refl
 legs-length (a ∷ []) = refl
 legs-length (a ∷ b ∷ more) = let h = legs-length more in omega arith
 
-pub legs-at : (ps : List Point) (k : ℕ) → k < length ps / 2 → getD (legs ps) k noEnds ≡ ends (getD ps (2 * k) nowhere) (getD ps (2 * k + 1) nowhere)
+pub legs-at : (ps : List Point) (k : ℕ) → k < length ps / 2
+    → getD (legs ps) k noEnds ≡ ends (getD ps (2 * k) nowhere) (getD ps (2 * k + 1) nowhere)
 unfolding legs
 legs-at [] k h = absurd (not-suc-le-zero h)
 legs-at (a ∷ []) k h = absurd (not-suc-le-zero h)
@@ -91,10 +95,12 @@ module _ (d : List Float) where
   pub point-past : (k : ℕ) → length d / 2 ≤ k → getD (points d) k nowhere ≡ nowhere
   point-past k h = List·getD-eq-default (points d) nowhere (rw points-length h)
 
-  pub edge-next : (i : ℕ) → i + 1 < length d / 2 → getD (edges (points d)) i noEnds ≡ ends (getD (points d) i nowhere) (getD (points d) (i + 1) nowhere)
+  pub edge-next : (i : ℕ) → i + 1 < length d / 2
+      → getD (edges (points d)) i noEnds ≡ ends (getD (points d) i nowhere) (getD (points d) (i + 1) nowhere)
   edge-next i h = edge-inner (points d) i (rw points-length h)
 
-  pub edge-back : (i : ℕ) → i + 1 ≡ length d / 2 → getD (edges (points d)) i noEnds ≡ ends (getD (points d) i nowhere) (getD (points d) 0 nowhere)
+  pub edge-back : (i : ℕ) → i + 1 ≡ length d / 2
+      → getD (edges (points d)) i noEnds ≡ ends (getD (points d) i nowhere) (getD (points d) 0 nowhere)
   edge-back i h = edge-last (points d) i (rw points-length h)
 
   pub edge-past : (i : ℕ) → length d / 2 ≤ i → getD (edges (points d)) i noEnds ≡ noEnds
@@ -103,7 +109,8 @@ module _ (d : List Float) where
   pub edges-count : length (edges (points d)) ≡ length d / 2
   edges-count = edges-length (points d) ∙ points-length d
 
-  pub leg-of : (k : ℕ) → k < length d / 4 → getD (legs (points d)) k noEnds ≡ ends (getD (points d) (2 * k) nowhere) (getD (points d) (2 * k + 1) nowhere)
+  pub leg-of : (k : ℕ) → k < length d / 4
+      → getD (legs (points d)) k noEnds ≡ ends (getD (points d) (2 * k) nowhere) (getD (points d) (2 * k + 1) nowhere)
   leg-of k h = legs-at (points d) k (rw points-length (omega arith))
 
   pub legs-count : length (legs (points d)) ≡ length d / 4

@@ -1,13 +1,17 @@
--- Numbers of bounded size give sums, products, quotients, roots and distances of bounded size: none overflows and none is a NaN. Assumes nothing.
+-- Numbers of bounded size give sums, products, quotients, roots and distances of bounded size: none overflows and none
+-- is a NaN. Assumes nothing.
 use mathlib.Core.Path.{_≡_, refl, sym, ap, subst}
 use mathlib.Core.Bool.{Bool, true, false, _&&_, _||_, Bool·beq, cond, true≢false}
 use Prim.Native.Nat.{ℕ, zero, suc, _+_, _-_, _*_, _/_, _%_, _^_, _≤_, _<_}
-use native.Mathlib.Nat.{le-trans, le-of-eq, lt-of-le-of-lt, mul-comm, mul-assoc, mul-left-comm, mul-one, mul-pos, mul-le-mul, mul-le-mul-right, le-of-mul-le-mul-right, mul-lt-mul-of-pos-right, div-lt-iff-lt-mul, div-le-of-le-mul, mod-le, pow-suc, zero-mul, zero-lt-suc, lt-irrefl}
+use native.Mathlib.Nat.{le-trans, le-of-eq, lt-of-le-of-lt, mul-comm, mul-assoc, mul-left-comm, mul-one, mul-pos}
+use native.Mathlib.Nat.{mul-le-mul, mul-le-mul-right, le-of-mul-le-mul-right, mul-lt-mul-of-pos-right}
+use native.Mathlib.Nat.{div-lt-iff-lt-mul, div-le-of-le-mul, mod-le, pow-suc, zero-mul, zero-lt-suc, lt-irrefl}
 use native.Mathlib.Omega.{arith}
 use borrow.Author.Tests.{lt-ltb, ltb-false}
 use lib.Dec.{ltb, eqb·suc-zero, lit<, lit≤}
 use lib.Pow.{pow-add, pow-pos, pow-mono, pow-lt}
-use lib.Ieee.{Float, nan, inf, fin, Format, binary64, prec, emax, low, up, down, unlike, round, neg, sum, add, sub, mul, div, rem, lt, ofBits}
+use lib.Ieee.{Float, nan, inf, fin, Format, binary64, prec, emax, low, up, down, unlike, round, neg, sum, add, sub, mul}
+use lib.Ieee.{div, rem, lt, ofBits}
 use lib.Ieee.Fits.{up-pos, down-pos}
 use lib.Ieee.Exact.{HasValue}
 use lib.Ieee.Scale.{grid}
@@ -60,7 +64,8 @@ value-under nan s a k l v h = v
 value-under (inf t) s a k l v h = v
 value-under (fin t m e) s a k l v h =
     le-of-mul-le-mul-right
-    (le-trans (le-of-eq (v .1)) (le-trans (mul-le-mul-right (down e) h) (le-of-eq (simp (pow-add, mul-assoc, mul-comm, mul-left-comm)))))
+    (le-trans (le-of-eq (v .1)) (le-trans (mul-le-mul-right (down e) h)
+    (le-of-eq (simp (pow-add, mul-assoc, mul-comm, mul-left-comm)))))
     (pow-pos l)
 
 value-plus : (x : Float) (k : ℕ) (a c : ℕ) → HasValue x false a c → Under k x → Plus k x
@@ -71,7 +76,8 @@ value-plus (fin t m e) k a c v u = (v .0, u)
 twice : (k l d : ℕ) → 2 ^ (suc k + l) * d ≡ 2 * (2 ^ k * d * 2 ^ l)
 twice k l d = rw (pow-add, pow-suc) (simp (mul-assoc, mul-comm, mul-left-comm))
 
-module _ (f : Format) (s : Bool) (num den k t : ℕ) (D : 0 < den) (e : prec f + t ≡ suc k + low f) (small : k < emax f) (h : num ≤ 2 ^ k * den) where
+module _ (f : Format) (s : Bool) (num den k t : ℕ) (D : 0 < den) (e : prec f + t ≡ suc k + low f) (small : k < emax f)
+    (h : num ≤ 2 ^ k * den) where
   steps-small : num * 2 ^ low f / den < 2 ^ (prec f + t)
   steps-small =
       let L = 2 ^ low f in
@@ -94,7 +100,8 @@ rounded s num den k D small h = size-at binary64 s num den k (k + 1022) D (omega
 
 rounded-plus : (num den k : ℕ) → 0 < den → k < 1023 → num ≤ 2 ^ k * den → Plus (suc k) (round binary64 false num den)
 rounded-plus num den k D small h =
-    value-plus (round binary64 false num den) (suc k) (grid binary64 num den) (2 ^ low binary64) (steps-value binary64 false num den k (k + 1022) D (omega arith) small h)
+    value-plus (round binary64 false num den) (suc k) (grid binary64 num den) (2 ^ low binary64)
+    (steps-value binary64 false num den k (k + 1022) D (omega arith) small h)
     (rounded false num den k D small h)
 
 -- ---- sums and differences
@@ -104,14 +111,17 @@ both-small k c a b h g =
     let e : 2 ^ suc k * c ≡ 2 * (2 ^ k * c) = rw pow-suc (simp (mul-assoc, mul-comm)) in
     omega arith
 
-sum-under : (s : Bool) (a : ℕ) (t : Bool) (b c k : ℕ) → 0 < c → k < 1022 → a ≤ 2 ^ k * c → b ≤ 2 ^ k * c → Under (suc (suc k)) (sum binary64 s a t b c)
+sum-under : (s : Bool) (a : ℕ) (t : Bool) (b c k : ℕ) → 0 < c → k < 1022 → a ≤ 2 ^ k * c → b ≤ 2 ^ k * c
+    → Under (suc (suc k)) (sum binary64 s a t b c)
 unfolding sum
 sum-under s a t b c k C small h g = go (Bool·beq s t) (ltb a b)
   where
     less : (x : ℕ) → x ≤ a + b → x ≤ 2 ^ suc k * c
     less x l = le-trans l (both-small k c a b h g)
 
-    go : (p q : Bool) → Under (suc (suc k)) (cond p (round binary64 s (a + b) c) (cond q (round binary64 t (b - a) c) (round binary64 (s && ltb b a) (a - b) c)))
+    go : (p q : Bool)
+        → Under (suc (suc k)) (cond p (round binary64 s (a + b) c)
+        (cond q (round binary64 t (b - a) c) (round binary64 (s && ltb b a) (a - b) c)))
     go true q = rounded s (a + b) c (suc k) C (omega arith) (both-small k c a b h g)
     go false true = rounded t (b - a) c (suc k) C (omega arith) (less (b - a) (omega arith))
     go false false = rounded (s && ltb b a) (a - b) c (suc k) C (omega arith) (less (a - b) (omega arith))
@@ -151,8 +161,10 @@ add-plus k (fin s m e) (inf t) small u w = absurd w
 add-plus k (fin true m e) (fin t n d) small u w = absurd (true≢false (u .0))
 add-plus k (fin false m e) (fin true n d) small u w = absurd (true≢false (w .0))
 add-plus k (fin false m e) (fin false n d) small u w =
-    rounded-plus (m * up e * down d + n * up d * down e) (down e * down d) (suc k) (mul-pos (down-pos e) (down-pos d)) (omega arith)
-    (both-small k (down e * down d) (m * up e * down d) (n * up d * down e) (left-over k (m * up e) (down e) (down d) (u .1)) (right-over k (n * up d) (down e) (down d) (w .1)))
+    rounded-plus (m * up e * down d + n * up d * down e) (down e * down d) (suc k) (mul-pos (down-pos e) (down-pos d))
+    (omega arith)
+    (both-small k (down e * down d) (m * up e * down d) (n * up d * down e)
+    (left-over k (m * up e) (down e) (down d) (u .1)) (right-over k (n * up d) (down e) (down d) (w .1)))
 
 -- ---- products and quotients
 
@@ -166,16 +178,19 @@ mul-under j k (inf s) y small u w = absurd u
 mul-under j k (fin s m e) nan small u w = absurd w
 mul-under j k (fin s m e) (inf t) small u w = absurd w
 mul-under j k (fin s m e) (fin t n d) small u w =
-    rounded (unlike s t) (m * up e * (n * up d)) (down e * down d) (j + k) (mul-pos (down-pos e) (down-pos d)) small (product j k (m * up e) (n * up d) (down e) (down d) u w)
+    rounded (unlike s t) (m * up e * (n * up d)) (down e * down d) (j + k) (mul-pos (down-pos e) (down-pos d)) small
+    (product j k (m * up e) (n * up d) (down e) (down d) u w)
 
 square-plus : (k : ℕ) (x : Float) → k + k < 1023 → Under k x → Plus (suc (k + k)) (mul binary64 x x)
 unfolding mul
 square-plus k nan small u = absurd u
 square-plus k (inf s) small u = absurd u
 square-plus k (fin true m e) small u =
-    rounded-plus (m * up e * (m * up e)) (down e * down e) (k + k) (mul-pos (down-pos e) (down-pos e)) small (product k k (m * up e) (m * up e) (down e) (down e) u u)
+    rounded-plus (m * up e * (m * up e)) (down e * down e) (k + k) (mul-pos (down-pos e) (down-pos e)) small
+    (product k k (m * up e) (m * up e) (down e) (down e) u u)
 square-plus k (fin false m e) small u =
-    rounded-plus (m * up e * (m * up e)) (down e * down e) (k + k) (mul-pos (down-pos e) (down-pos e)) small (product k k (m * up e) (m * up e) (down e) (down e) u u)
+    rounded-plus (m * up e * (m * up e)) (down e * down e) (k + k) (mul-pos (down-pos e) (down-pos e)) small
+    (product k k (m * up e) (m * up e) (down e) (down e) u u)
 
 -- a number that is at least 2^-i is no zero
 over-some : (i n u d : ℕ) → 0 < d → d ≤ n * u * 2 ^ i → 0 < n
@@ -191,10 +206,12 @@ div-under j i nan y small u w = absurd u
 div-under j i (inf s) y small u w = absurd u
 div-under j i (fin s m e) nan small u w = absurd w
 div-under j i (fin s m e) (inf t) small u w = absurd w
-div-under j i (fin s m e) (fin t zero d) small u w = absurd (lt-irrefl 0 (over-some i zero (up d) (down d) (down-pos d) w))
+div-under j i (fin s m e) (fin t zero d) small u w =
+    absurd (lt-irrefl 0 (over-some i zero (up d) (down d) (down-pos d) w))
 div-under j i (fin s m e) (fin t (suc n) d) small u w =
     rw (eqb·suc-zero n)
-    (rounded (unlike s t) (m * up e * down d) (suc n * up d * down e) (j + i) (mul-pos (mul-pos (zero-lt-suc n) (up-pos d)) (down-pos e)) small
+    (rounded (unlike s t) (m * up e * down d) (suc n * up d * down e) (j + i)
+    (mul-pos (mul-pos (zero-lt-suc n) (up-pos d)) (down-pos e)) small
     (quotient j i (m * up e) (suc n * up d) (down e) (down d) u w))
 
 pub rem-under : (j i : ℕ) (x y : Float) → j < 1023 → Under j x → Over i y → Under (suc j) (rem binary64 x y)
@@ -203,10 +220,12 @@ rem-under j i nan y small u w = absurd u
 rem-under j i (inf s) y small u w = absurd u
 rem-under j i (fin s m e) nan small u w = absurd w
 rem-under j i (fin s m e) (inf t) small u w = absurd w
-rem-under j i (fin s m e) (fin t zero d) small u w = absurd (lt-irrefl 0 (over-some i zero (up d) (down d) (down-pos d) w))
+rem-under j i (fin s m e) (fin t zero d) small u w =
+    absurd (lt-irrefl 0 (over-some i zero (up d) (down d) (down-pos d) w))
 rem-under j i (fin s m e) (fin t (suc n) d) small u w =
     rw (eqb·suc-zero n)
-    (rounded s (m * up e * down d % (suc n * up d * down e)) (down e * down d) j (mul-pos (down-pos e) (down-pos d)) small
+    (rounded s (m * up e * down d % (suc n * up d * down e)) (down e * down d) j (mul-pos (down-pos e) (down-pos d))
+    small
     (le-trans (mod-le (m * up e * down d) (suc n * up d * down e)) (left-over j (m * up e) (down e) (down d) u)))
 
 -- ---- roots
@@ -214,7 +233,9 @@ rem-under j i (fin s m e) (fin t (suc n) d) small u w =
 root-part : (i x d L : ℕ) → 0 < d → x ≤ 2 ^ (i + i) * d → halves (x * L / d * L) ≤ 2 ^ i * (2 * L)
 root-part i x d L D h =
     let a : x * L ≤ d * (2 ^ (i + i) * L) = le-trans (mul-le-mul-right L h) (le-of-eq (simp (mul-assoc, mul-comm))) in
-    let b : x * L / d * L ≤ 2 ^ i * L * (2 ^ i * L) = le-trans (mul-le-mul-right L (div-le-of-le-mul d a)) (le-of-eq (simp (pow-add, mul-assoc, mul-comm, mul-left-comm))) in
+    let b : x * L / d * L ≤ 2 ^ i * L * (2 ^ i * L) =
+    le-trans (mul-le-mul-right L (div-le-of-le-mul d a))
+    (le-of-eq (simp (pow-add, mul-assoc, mul-comm, mul-left-comm))) in
     le-trans (halves-le-even (x * L / d * L) (2 ^ i * L) b) (le-of-eq (simp (mul-assoc, mul-comm)))
 
 pub sqrt-plus : (i : ℕ) (x : Float) → i < 1023 → Plus (i + i) x → Plus (suc i) (sqrtOf x)
@@ -222,7 +243,8 @@ unfolding sqrtOf rootFinite
 sqrt-plus i nan small u = absurd u
 sqrt-plus i (inf s) small u = absurd u
 sqrt-plus i (fin true m e) small u = absurd (true≢false (u .0))
-sqrt-plus i (fin false m e) small u = rounded-plus _ (2 ^ 1075) i (pow-pos 1075) small (root-part i (m * up e) (down e) (2 ^ 1074) (down-pos e) (u .1))
+sqrt-plus i (fin false m e) small u =
+    rounded-plus _ (2 ^ 1075) i (pow-pos 1075) small (root-part i (m * up e) (down e) (2 ^ 1074) (down-pos e) (u .1))
 
 -- ---- points and their distances
 
@@ -245,7 +267,8 @@ distance-plus k a b small m n =
     let all = add-plus (suc (j + j)) (mul binary64 dx dx) (mul binary64 dy dy) (omega arith) xx yy in
     let e : suc (k + 4) ≡ k + 5 = omega arith in
     subst (λ (z : ℕ). Plus z (sqrtOf (add binary64 (mul binary64 dx dx) (mul binary64 dy dy)))) e
-    (sqrt-plus (k + 4) (add binary64 (mul binary64 dx dx) (mul binary64 dy dy)) (omega arith) (plus-more (add binary64 (mul binary64 dx dx) (mul binary64 dy dy)) (omega arith) all))
+    (sqrt-plus (k + 4) (add binary64 (mul binary64 dx dx) (mul binary64 dy dy)) (omega arith)
+    (plus-more (add binary64 (mul binary64 dx dx) (mul binary64 dy dy)) (omega arith) all))
 
 -- ---- what the house's tests tell
 
@@ -273,7 +296,8 @@ unfolding lt ofBits
 below-huge k nan h u = absurd u
 below-huge k (inf s) h u = absurd u
 below-huge k (fin true m e) h u = absurd (true≢false (u .0))
-below-huge k (fin false m e) h u = lt-ltb _ _ (strictly (m * up e) (down e) k _ (u .1) (lt-of-le-of-lt (pow-mono h) (lit< tt)) (down-pos e))
+below-huge k (fin false m e) h u =
+    lt-ltb _ _ (strictly (m * up e) (down e) k _ (u .1) (lt-of-le-of-lt (pow-mono h) (lit< tt)) (down-pos e))
 
 -- a length that is not under 1e-12 is at least 2^-40
 pub not-tiny : (k : ℕ) (x : Float) → Plus k x → lt x tiny ≡ false → Over 40 x
@@ -283,7 +307,10 @@ not-tiny k (inf s) u h = absurd u
 not-tiny k (fin true m e) u h = absurd (true≢false (u .0))
 not-tiny k (fin false m e) u h =
     let g : 0x11_9799_812d_ea11 * down e ≤ m * up e * 2 ^ 92 = ltb-false _ _ h in
-    le-of-mul-le-mul-right {k = 2 ^ 52} (le-trans (le-of-eq (mul-comm (down e) (2 ^ 52))) (le-trans (mul-le-mul-right (down e) (lit≤ tt)) (le-trans g (le-of-eq (sym (mul-assoc (m * up e) (2 ^ 40) (2 ^ 52))))))) (pow-pos 52)
+    le-of-mul-le-mul-right {k =
+    2 ^ 52} (le-trans (le-of-eq (mul-comm (down e) (2 ^ 52)))
+    (le-trans (mul-le-mul-right (down e) (lit≤ tt))
+    (le-trans g (le-of-eq (sym (mul-assoc (m * up e) (2 ^ 40) (2 ^ 52))))))) (pow-pos 52)
 
 -- so is a distance of points that are not too far out
 pub distance-below : (k : ℕ) (a b : Point) → k ≤ 400 → Near k a → Near k b → lt (distanceOf a b) huge ≡ true

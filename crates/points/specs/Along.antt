@@ -9,4 +9,5 @@ unfoldable pub alongOf : Ends → Float → Point
 alongOf e t =
     let a = e .start in
     let b = e .finish in
-    point (add binary64 (a .x) (mul binary64 t (sub binary64 (b .x) (a .x)))) (add binary64 (a .y) (mul binary64 t (sub binary64 (b .y) (a .y))))
+    point (add binary64 (a .x) (mul binary64 t (sub binary64 (b .x) (a .x))))
+    (add binary64 (a .y) (mul binary64 t (sub binary64 (b .y) (a .y))))

@@ -5,7 +5,8 @@ use Rattle.answer.proofs.UniqueLaws.{one}
 use Rattle.probe.specs.Unique.{And, OfNumbers, OfPairs, OfCards, Claim}
 
 -- each part by itself
-both : {A B : Type 0} {First : A → Type 0} {Rest : B → Type 0} → OneAnswer First → OneAnswer Rest → OneAnswer (And First Rest)
+both : {A B : Type 0} {First : A → Type 0} {Rest : B → Type 0} → OneAnswer First → OneAnswer Rest
+    → OneAnswer (And First Rest)
 both p q x y e f i = (p _ _ (e .0) (f .0) i, q _ _ (e .1) (f .1) i)
 
 of-numbers : OfNumbers
@@ -33,12 +34,18 @@ of-pairs = record {
 
 of-cards : OfCards
 of-cards = record {
-  probe-candidate = λ numbers c kind exterior interior k place vertex way count. both (one _) (both (one _) (both (one _) (both (one _) (one _))));
+  probe-candidate =
+      λ numbers c kind exterior interior k place vertex way count. both (one _)
+      (both (one _) (both (one _) (both (one _) (one _))));
   probe-check = λ s. one _;
   probe-evaluate = λ home table t tour. one _;
-  probe-improve = λ home table t owner first pairs tour passes limit x y e f i. ((e .counted ∙ sym (f .counted)) i, (e .held ∙ sym (f .held)) i);
-  probe-start = λ home table t first pairs tour x y e f i. ((e .counted ∙ sym (f .counted)) i, (e .held ∙ sym (f .held)) i);
-  probe-solve-nn = λ home table t first tour x y e f i. ((e .counted ∙ sym (f .counted)) i, (e .held ∙ sym (f .held)) i);
+  probe-improve =
+      λ home table t owner first pairs tour passes limit x y e f i.
+      ((e .counted ∙ sym (f .counted)) i, (e .held ∙ sym (f .held)) i);
+  probe-start =
+      λ home table t first pairs tour x y e f i. ((e .counted ∙ sym (f .counted)) i, (e .held ∙ sym (f .held)) i);
+  probe-solve-nn =
+      λ home table t first tour x y e f i. ((e .counted ∙ sym (f .counted)) i, (e .held ∙ sym (f .held)) i);
   probe-distances = λ s home table count. both (one _) (both (one _) (one _));
 }
 

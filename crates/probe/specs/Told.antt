@@ -95,7 +95,8 @@ wayOf cut.Cw = 1
 
 -- the candidates of a contour, asked by numbers as on a card
 abbrev pub askedOf : List Float → ℕ → ℕ → ℕ → ℕ → Offered
-askedOf numbers c kind exterior interior = offeredOf numbers c (kindOf kind) (preferenceOf exterior) (preferenceOf interior)
+askedOf numbers c kind exterior interior =
+    offeredOf numbers c (kindOf kind) (preferenceOf exterior) (preferenceOf interior)
 
 -- never read: all eight places are there
 abbrev pub noCandidate : Candidate

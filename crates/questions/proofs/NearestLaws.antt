@@ -30,7 +30,8 @@ stops-lent n h = sym (length-take-le n noStops h)
 -- the stops written to it, on the whole room
 pub nearest-is : (p : Prepared) (table : List Float) → let t = p .all .count in let n = p .all .contours in
     table ≡ distancesOf (take t (p .all .items)) (take t (p .all .owner)) → n ≤ CONTOURS → (part : List ℕ) (count : ℕ)
-    → Written (nearest (groundOf (take t (p .homes)) table t (take (n + 1) (p .all .first)) []) (length (take n noStops))) (take n noStops) count part
+    → Written (nearest (groundOf (take t (p .homes)) table t (take (n + 1) (p .all .first)) [])
+    (length (take n noStops))) (take n noStops) count part
     → length part ≡ length (take n noStops)
     → record { check = Fine; entries = part ++ drop n noStops; count = count } ≡ stopsOf (nearestIn (chartIn p) n)
 unfolding chartIn
@@ -38,7 +39,8 @@ nearest-is p table d few part count w k =
     let n = p .all .contours in
     let start = nearestIn (chartIn p) n in
     let t = p .all .count in
-    let same : nearest (groundOf (take t (p .homes)) table t (take (n + 1) (p .all .first)) []) (length (take n noStops)) ≡ start =
+    let same : nearest (groundOf (take t (p .homes)) table t (take (n + 1) (p .all .first)) [])
+    (length (take n noStops)) ≡ start =
     rw (d, ← stops-lent n few) in
     let held : part ≡ placed start (take n noStops) = w .held ∙ ap (λ (l : List ℕ). placed l (take n noStops)) same in
     let entries : part ++ drop n noStops ≡ placed start noStops = room-back start noStops part n held k in
@@ -50,6 +52,7 @@ module _ (s : List ℕ) (a : Check) (is : a ≡ checkOf s) where
   unfolding nearestOf
   stops-refused r e = rw (← is, e)
 
-  pub stops-fine : (l : Stops) (p : Prepared) → a ≡ Fine → PreparedOn s p → l ≡ stopsOf (nearestIn (chartIn p) (p .all .contours)) → l ≡ nearestOf s
+  pub stops-fine : (l : Stops) (p : Prepared) → a ≡ Fine → PreparedOn s p
+      → l ≡ stopsOf (nearestIn (chartIn p) (p .all .contours)) → l ≡ nearestOf s
   unfolding nearestOf nearestOn
   stops-fine l p e h f = f ∙ rw (chart-on s p h, h .held .contours, ← is, e)

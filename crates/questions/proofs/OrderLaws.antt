@@ -28,11 +28,13 @@ use Rattle.instance.specs.declared.Prepared.{Prepared}
 use Rattle.instance.specs.Search.{countOn, ownersOn, chartOn}
 use Rattle.instance.specs.Prepared.{Front, PreparedOn, Fit, chartIn}
 use Rattle.instance.proofs.PreparedLaws.{table-front, chart-on}
-use Rattle.questions.specs.Order.{stopAt, metBefore, badStop, firstBadStop, orderCheck, measuredUnless, measuredIn, evaluated}
+use Rattle.questions.specs.Order.{stopAt, metBefore, badStop, firstBadStop, orderCheck, measuredUnless}
+use Rattle.questions.specs.Order.{measuredIn, evaluated}
 
 -- ---- one stop
 
-pub stop-is : (owner order : List ℕ) (p a i k : ℕ) → a ≡ getD order p 0 → i ≡ a → k ≡ getD owner i 0 → k ≡ stopAt owner order p
+pub stop-is : (owner order : List ℕ) (p a i k : ℕ) → a ≡ getD order p 0 → i ≡ a → k ≡ getD owner i 0
+    → k ≡ stopAt owner order p
 stop-is owner order p a i k e f g = g ∙ ap (λ (x : ℕ). getD owner x 0) (f ∙ e)
 
 -- earlier stops of the same contour
@@ -49,7 +51,8 @@ module _ (owner order : List ℕ) (p k j i : ℕ) (ek : k ≡ stopAt owner order
 pub met : (owner order : List ℕ) (p j : ℕ) → At j ≡ lowest (same owner order p) p → true ≡ metBefore owner order p
 met owner order p j e = ap isAt e
 
-pub never-met : (owner order : List ℕ) (p : ℕ) → Absent ≡ lowest (same owner order p) p → false ≡ metBefore owner order p
+pub never-met : (owner order : List ℕ) (p : ℕ) → Absent ≡ lowest (same owner order p) p
+    → false ≡ metBefore owner order p
 never-met owner order p e = ap isAt e
 
 module _ (owner order : List ℕ) (t p a : ℕ) (e : a ≡ getD order p 0) where
@@ -62,7 +65,8 @@ module _ (owner order : List ℕ) (t p a : ℕ) (e : a ≡ getD order p 0) where
 -- ---- the whole order
 
 module _ (n : ℕ) (owner : List ℕ) (t : ℕ) (order : List ℕ) where
-  pub other-length : (length order ≡ n → ⊥) → Refused (record { number = 15; place = length order }) ≡ orderCheck n owner t order
+  pub other-length : (length order ≡ n → ⊥)
+      → Refused (record { number = 15; place = length order }) ≡ orderCheck n owner t order
   unfolding orderCheck firstRefusal
   other-length h = rw (ne-eqb (length order) n h)
 
@@ -87,7 +91,8 @@ pub entries-front : (p : Prepared) → Fit p → (after : List Float) → let t 
     → Front (t * t) after (distancesOf (take t (p .all .items)) (take t (p .all .owner)))
 entries-front p f after e =
     let all = f .on .held in
-    let room : p .all .count * p .all .count ≤ length noEntries = rw (length-replicate entryLimit zero64) (all .few-entries) in
+    let room : p .all .count * p .all .count ≤ length noEntries =
+    rw (length-replicate entryLimit zero64) (all .few-entries) in
     table-front (p .all .items) (p .all .count) (all .few) (all .items .whole) _ noEntries after e room
 
 pub length-is : (p : Prepared) (order : List ℕ) (table : List Float) (x : Float) → let t = p .all .count in
@@ -98,12 +103,14 @@ length-is p order table x d e = e ∙ rw d
 
 -- ---- the answer
 
-module _ (p : Prepared) (order : List ℕ) (a : Check) (is : a ≡ orderCheck (p .all .contours) (take (p .all .count) (p .all .owner)) (p .all .count) order) where
+module _ (p : Prepared) (order : List ℕ) (a : Check)
+    (is : a ≡ orderCheck (p .all .contours) (take (p .all .count) (p .all .owner)) (p .all .count) order) where
   pub no-order : (r : Refusal) → a ≡ Refused r → measured.Refused r ≡ measuredIn (chartIn p) (p .all .contours) order
   unfolding chartIn
   no-order r e = rw (← is, e)
 
-  pub an-order : (x : Float) → a ≡ Fine → x ≡ lengthIn (chartIn p) order → measured.Is x ≡ measuredIn (chartIn p) (p .all .contours) order
+  pub an-order : (x : Float) → a ≡ Fine → x ≡ lengthIn (chartIn p) order
+      → measured.Is x ≡ measuredIn (chartIn p) (p .all .contours) order
   unfolding chartIn
   an-order x e g = rw (g, ← is, e)
 
@@ -112,9 +119,11 @@ module _ (s order : List ℕ) (a : Check) (is : a ≡ checkOf s) where
   unfolding evaluated firstRefusal
   order-refused r e = rw (← is, e)
 
-  pub order-fine : (m : Measured) (p : Prepared) → a ≡ Fine → PreparedOn s p → m ≡ measuredIn (chartIn p) (p .all .contours) order → m ≡ evaluated s order
+  pub order-fine : (m : Measured) (p : Prepared) → a ≡ Fine → PreparedOn s p
+      → m ≡ measuredIn (chartIn p) (p .all .contours) order → m ≡ evaluated s order
   unfolding evaluated firstRefusal chartOn
   order-fine m p e h f =
       let known = orderCheck (contoursOf s) (ownersOn s) (countOn s) order in
       let same : known ≡ firstRefusal (checkOf s ∷ known ∷ []) = rw (← is, e) (last-stage known known refl) in
-      (f ∙ rw (chart-on s p h, h .held .contours)) ∙ ap (λ (c : Check). measuredUnless c (lengthIn (chartOn s) order)) same
+      (f ∙ rw (chart-on s p h, h .held .contours))
+      ∙ ap (λ (c : Check). measuredUnless c (lengthIn (chartOn s) order)) same

@@ -1,5 +1,5 @@
--- An order handed in, candidate numbers as bytes, owner the contour of each of t candidates: what is wrong with it, and how long it is on
--- a card s. Assumes nothing.
+-- An order handed in, candidate numbers as bytes, owner the contour of each of t candidates: what is wrong with it, and
+-- how long it is on a card s. Assumes nothing.
 use mathlib.Core.Bool.{Bool, not, _||_}
 use mathlib.Core.List.{List, [], _∷_}
 use Prim.Native.Nat.{ℕ}
@@ -40,7 +40,8 @@ firstBadStop owner t order = lowest (badStop owner t order) (length order)
 unfoldable pub orderCheck : ℕ → List ℕ → ℕ → List ℕ → Check
 unfolding firstRefusal firstBadStop
 orderCheck n owner t order =
-    firstRefusal (refuseIf (not (eqb (length order) n)) 15 (length order) ∷ refuseAt 15 (firstBadStop owner t order) ∷ [])
+    firstRefusal (refuseIf (not (eqb (length order) n)) 15 (length order) ∷ refuseAt 15 (firstBadStop owner t order)
+    ∷ [])
 
 -- the length, unless the check refuses
 abbrev pub measuredUnless : Check → Float → Measured
@@ -55,4 +56,5 @@ measuredIn chart n order = measuredUnless (orderCheck n (chart .owner) (chart .t
 unfoldable pub evaluated : List ℕ → List ℕ → Measured
 unfolding firstRefusal orderCheck
 evaluated s order =
-    measuredUnless (firstRefusal (checkOf s ∷ orderCheck (contoursOf s) (ownersOn s) (countOn s) order ∷ [])) (lengthIn (chartOn s) order)
+    measuredUnless (firstRefusal (checkOf s ∷ orderCheck (contoursOf s) (ownersOn s) (countOn s) order ∷ []))
+    (lengthIn (chartOn s) order)

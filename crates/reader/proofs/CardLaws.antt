@@ -23,7 +23,8 @@ use Rattle.reader.proofs.WalkLaws.{cut-value, read-at, read-on}
 
 module _ (s : List ℕ) (job contours pairs candidates passes moves x y exterior interior : Field) where
   pub head-is : job ≡ fieldAt s 8 Four → contours ≡ fieldAt s (job .after) Two → pairs ≡ fieldAt s (contours .after) Two
-      → candidates ≡ fieldAt s (pairs .after) Two → passes ≡ fieldAt s (candidates .after) Two → moves ≡ fieldAt s (passes .after) Four
+      → candidates ≡ fieldAt s (pairs .after) Two → passes ≡ fieldAt s (candidates .after) Two
+      → moves ≡ fieldAt s (passes .after) Four
       → x ≡ fieldAt s (moves .after) Eight → y ≡ fieldAt s (x .after) Eight
       → exterior ≡ fieldAt s (y .after) One → interior ≡ fieldAt s (exterior .after) One
       → _≡_ {A = Head} (record {
@@ -50,12 +51,25 @@ module _ (s : List ℕ) (job contours pairs candidates passes moves x y exterior
       let r₇ = read-on s 24 32 Eight Eight x y refl r₆ e₇ in
       let r₈ = read-on s 32 40 Eight One y exterior refl r₇ e₈ in
       let r₉ = read-on s 40 41 One One exterior interior refl r₈ e₉ in
-      rw (r₀ .value-is, r₁ .value-is, r₂ .value-is, r₃ .value-is, r₄ .value-is, r₅ .value-is, r₆ .value-is, r₇ .value-is, r₈ .value-is, r₉ .value-is)
+      rw (
+        r₀ .value-is,
+        r₁ .value-is,
+        r₂ .value-is,
+        r₃ .value-is,
+        r₄ .value-is,
+        r₅ .value-is,
+        r₆ .value-is,
+        r₇
+            .value-is,
+        r₈ .value-is,
+        r₉ .value-is,
+      )
 
 -- ---- a contour
 
 -- the vertices from vertex j on
-pub vertices-walked : (s : List ℕ) (k j v place : ℕ) → place ≡ min (vertexPlace k j) (length s) → walk s place (eights (2 * v)) ≡ coordinatesFrom s k j v
+pub vertices-walked : (s : List ℕ) (k j v place : ℕ) → place ≡ min (vertexPlace k j) (length s)
+    → walk s place (eights (2 * v)) ≡ coordinatesFrom s k j v
 unfolding walk coordinatesFrom
 vertices-walked s k j zero place cut = refl
 vertices-walked s k j (suc v) place cut =
@@ -69,7 +83,8 @@ vertices-walked s k j (suc v) place cut =
 
 -- the five fields before the vertices, one after the other
 module _ (s : List ℕ) (at : ℕ) (id tag vertices kind filler : Field) where
-  pub contour-head-is : id ≡ fieldAt s at Four → tag ≡ fieldAt s (id .after) Four → vertices ≡ fieldAt s (tag .after) Two
+  pub contour-head-is : id ≡ fieldAt s at Four → tag ≡ fieldAt s (id .after) Four
+      → vertices ≡ fieldAt s (tag .after) Two
       → kind ≡ fieldAt s (vertices .after) One → filler ≡ fieldAt s (kind .after) One
       → _≡_ {A = ContourHead} (record {
         id = id .value;
@@ -91,7 +106,8 @@ module _ (s : List ℕ) (at : ℕ) (id tag vertices kind filler : Field) where
 
 -- a contour, read from where its payload was cut off at the end
 module _ (s : List ℕ) (k place count : ℕ) (head : ContourHead) (coordinates : List ℕ) where
-  pub contour-is : place ≡ min (payload (k + 1)) (length s) → head ≡ contourHead s place → count ≡ 2 * min (head .vertices) vertexLimit
+  pub contour-is : place ≡ min (payload (k + 1)) (length s) → head ≡ contourHead s place
+      → count ≡ 2 * min (head .vertices) vertexLimit
       → coordinates ≡ filled (walk s (head .after) (eights count))
       → _≡_ {A = Contour} (record {
         id = head .id;
@@ -104,11 +120,16 @@ module _ (s : List ℕ) (k place count : ℕ) (head : ContourHead) (coordinates 
   unfolding contourRead contourHead
   contour-is cut e n f =
       let p = payload (k + 1) in
-      let id : head .id ≡ idOf s k = ap (λ (h : ContourHead). h .id) e ∙ ap (u32At s) cut ∙ cut-value s p Four ∙ ap (u32At s) (sym (add-zero p)) in
-      let tag : head .tag ≡ tagOf s k = ap (λ (h : ContourHead). h .tag) e ∙ ap (λ (a : ℕ). u32At s (a + 4)) cut ∙ cut-u32 s p 4 in
-      let vertices : head .vertices ≡ vertexCountOf s k = ap (λ (h : ContourHead). h .vertices) e ∙ ap (λ (a : ℕ). u16At s (a + 8)) cut ∙ cut-u16 s p 8 in
-      let kind : head .kind ≡ typeOf s k = ap (λ (h : ContourHead). h .kind) e ∙ ap (λ (a : ℕ). byteAt s (a + 10)) cut ∙ cut-byte s p 10 in
-      let filler : head .filler ≡ fillerOf s k = ap (λ (h : ContourHead). h .filler) e ∙ ap (λ (a : ℕ). byteAt s (a + 11)) cut ∙ cut-byte s p 11 in
+      let id : head .id ≡ idOf s k =
+      ap (λ (h : ContourHead). h .id) e ∙ ap (u32At s) cut ∙ cut-value s p Four ∙ ap (u32At s) (sym (add-zero p)) in
+      let tag : head .tag ≡ tagOf s k =
+      ap (λ (h : ContourHead). h .tag) e ∙ ap (λ (a : ℕ). u32At s (a + 4)) cut ∙ cut-u32 s p 4 in
+      let vertices : head .vertices ≡ vertexCountOf s k =
+      ap (λ (h : ContourHead). h .vertices) e ∙ ap (λ (a : ℕ). u16At s (a + 8)) cut ∙ cut-u16 s p 8 in
+      let kind : head .kind ≡ typeOf s k =
+      ap (λ (h : ContourHead). h .kind) e ∙ ap (λ (a : ℕ). byteAt s (a + 10)) cut ∙ cut-byte s p 10 in
+      let filler : head .filler ≡ fillerOf s k =
+      ap (λ (h : ContourHead). h .filler) e ∙ ap (λ (a : ℕ). byteAt s (a + 11)) cut ∙ cut-byte s p 11 in
       let after : head .after ≡ min (vertexPlace k 0) (length s) = ap (λ (h : ContourHead). h .after) e ∙ omega arith in
       let v = min (vertexCountOf s k) vertexLimit in
       let all : coordinates ≡ filled (coordinatesFrom s k 0 v) =

@@ -29,7 +29,8 @@ head-in-order s =
     let y = fieldAt s (x .after) Eight in
     let exterior = fieldAt s (y .after) One in
     let interior = fieldAt s (exterior .after) One in
-    ap headList (head-is s job contours pairs candidates passes moves x y exterior interior refl refl refl refl refl refl refl refl refl refl)
+    ap headList (head-is s job contours pairs candidates passes moves x y exterior interior refl refl refl refl refl
+    refl refl refl refl refl)
 
 pub contour-in-order : ContourInOrder
 unfolding walk contourHead
@@ -42,7 +43,8 @@ contour-in-order s k v =
     let p = payload (k + 1) in
     let after : min (p + 12) (length s) ≡ min (vertexPlace k 0) (length s) = omega arith in
     let head = contour-head-is s p id tag vertices kind filler refl refl refl refl refl in
-    ap (λ (h : ContourHead). h .id ∷ h .tag ∷ h .vertices ∷ h .kind ∷ h .filler ∷ walk s (h .after) (eights (2 * v))) head
+    ap (λ (h : ContourHead). h .id ∷ h .tag ∷ h .vertices ∷ h .kind ∷ h .filler ∷ walk s (h .after) (eights (2 * v)))
+    head
     ∙ rw (vertices-walked s k 0 v (min (p + 12) (length s)) after, add-zero p)
 
 pub point-of-bits : PointOfBits

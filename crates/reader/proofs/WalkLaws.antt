@@ -1,5 +1,5 @@
--- One field after another: what a field reads at a place that was cut off at the end, where the next one begins, and a walk that is taken
--- one field at a time. Assumes nothing.
+-- One field after another: what a field reads at a place that was cut off at the end, where the next one begins, and a
+-- walk that is taken one field at a time. Assumes nothing.
 use mathlib.Core.Path.{_≡_, refl, sym, ap, _∙_}
 use mathlib.Core.List.{List, [], _∷_, _++_, append-assoc, append-nil}
 use Prim.Native.Nat.{ℕ, suc, _+_, _*_, _-_, _≤_, _<_, min}
@@ -36,7 +36,8 @@ pub record Read (s : List ℕ) (a : ℕ) (w : Width) (f : Field) : Type 0 where
   pub after-is : f .after ≡ min (a + bytesOf w) (length s)
 
 -- it was read at the place, or where the place was cut off
-pub read-cut : (s : List ℕ) (a place : ℕ) (w : Width) (f : Field) → place ≡ min a (length s) → f ≡ fieldAt s place w → Read s a w f
+pub read-cut : (s : List ℕ) (a place : ℕ) (w : Width) (f : Field) → place ≡ min a (length s) → f ≡ fieldAt s place w
+    → Read s a w f
 read-cut s a place w f cut e = record {
   value-is = ap (λ (x : Field). x .value) e ∙ ap (λ (p : ℕ). valueAt s p w) cut ∙ cut-value s a w;
   after-is = ap (λ (x : Field). x .after) e ∙ omega arith;
@@ -46,7 +47,8 @@ pub read-at : (s : List ℕ) (a : ℕ) (w : Width) (f : Field) → f ≡ fieldAt
 read-at s a w f e = record { value-is = ap (λ (x : Field). x .value) e; after-is = ap (λ (x : Field). x .after) e }
 
 -- the next field, at the place b
-pub read-on : (s : List ℕ) (a b : ℕ) (w v : Width) (f g : Field) → a + bytesOf w ≡ b → Read s a w f → g ≡ fieldAt s (f .after) v → Read s b v g
+pub read-on : (s : List ℕ) (a b : ℕ) (w v : Width) (f g : Field) → a + bytesOf w ≡ b → Read s a w f
+    → g ≡ fieldAt s (f .after) v → Read s b v g
 read-on s a b w v f g at h e = read-cut s b (f .after) v g (h .after-is ∙ ap (λ (p : ℕ). min p (length s)) at) e
 
 -- ---- a walk
@@ -56,9 +58,11 @@ unfolding walk
 walk-length s at [] = refl
 walk-length s at (w ∷ ws) = ap suc (walk-length s (fieldAt s at w .after) ws)
 
--- ---- the loop over coordinates: i of them stand in their places, the walk goes on from a place, and the other places are zero
+-- ---- the loop over coordinates: i of them stand in their places, the walk goes on from a place, and the other places
+-- are zero
 
-walk-eight : (s : List ℕ) (at n m : ℕ) → n ≡ suc m → walk s at (eights n) ≡ u64At s at ∷ walk s (min (at + 8) (length s)) (eights m)
+walk-eight : (s : List ℕ) (at n m : ℕ) → n ≡ suc m
+    → walk s at (eights n) ≡ u64At s at ∷ walk s (min (at + 8) (length s)) (eights m)
 unfolding walk
 walk-eight s at n m e = rw e
 
@@ -70,18 +74,22 @@ none-yet s at count =
 -- a place that is still zero is one of the array's
 room : (read : List ℕ) (i : ℕ) → i < 2 * vertexLimit → drop i read ≡ replicate (2 * vertexLimit - i) 0 → i < length read
 room read i h z =
-    let n : length read - i ≡ 2 * vertexLimit - i = sym (length-drop i read) ∙ ap length z ∙ length-replicate (2 * vertexLimit - i) 0 in
+    let n : length read - i ≡ 2 * vertexLimit - i =
+    sym (length-drop i read) ∙ ap length z ∙ length-replicate (2 * vertexLimit - i) 0 in
     omega arith
 
-pub one-more : (s read : List ℕ) (count i place : ℕ) (f : Field) (t : List ℕ) → i < count → count ≤ 2 * vertexLimit → f ≡ fieldAt s place Eight
+pub one-more : (s read : List ℕ) (count i place : ℕ) (f : Field) (t : List ℕ) → i < count → count ≤ 2 * vertexLimit
+    → f ≡ fieldAt s place Eight
     → drop i read ≡ replicate (2 * vertexLimit - i) 0 → take i read ++ walk s place (eights (count - i)) ≡ t
     → take (i + 1) (set read i (f .value)) ++ walk s (f .after) (eights (count - (i + 1))) ≡ t
 one-more s read count i place f t h few e z so =
     let g = room read i (omega arith) z in
     let left : count - i ≡ suc (count - (i + 1)) = omega arith in
     let rest = walk s (min (place + 8) (length s)) (eights (count - (i + 1))) in
-    let took : take (i + 1) (set read i (u64At s place)) ≡ take i read ++ (u64At s place ∷ []) = rw (add-one i) (take-suc-set read i (u64At s place) g) in
-    rw (e, took, append-assoc (take i read) (u64At s place ∷ []) rest) (ap (λ (l : List ℕ). take i read ++ l) (sym (walk-eight s place (count - i) (count - (i + 1)) left)) ∙ so)
+    let took : take (i + 1) (set read i (u64At s place)) ≡ take i read ++ (u64At s place ∷ []) =
+    rw (add-one i) (take-suc-set read i (u64At s place) g) in
+    rw (e, took, append-assoc (take i read) (u64At s place ∷ []) rest)
+    (ap (λ (l : List ℕ). take i read ++ l) (sym (walk-eight s place (count - i) (count - (i + 1)) left)) ∙ so)
 
 drop-one : (n m : ℕ) → n ≡ suc m → drop {A = ℕ} 1 (replicate n 0) ≡ replicate m 0
 drop-one n m e = rw e
@@ -96,13 +104,15 @@ walk-none : (s : List ℕ) (at n : ℕ) → n ≡ 0 → walk s at (eights n) ≡
 unfolding walk
 walk-none s at n e = rw e
 
-pub all-read : (s read : List ℕ) (count i at place : ℕ) → i ≤ count → count ≤ i → take i read ++ walk s place (eights (count - i)) ≡ walk s at (eights count)
+pub all-read : (s read : List ℕ) (count i at place : ℕ) → i ≤ count → count ≤ i
+    → take i read ++ walk s place (eights (count - i)) ≡ walk s at (eights count)
     → drop i read ≡ replicate (2 * vertexLimit - i) 0 → read ≡ filled (walk s at (eights count))
 unfolding filled
 all-read s read count i at place h g e z =
     let t = walk s at (eights count) in
     let none : walk s place (eights (count - i)) ≡ [] = walk-none s place (count - i) (omega arith) in
     let n : length t ≡ i = walk-length s at (eights count) ∙ length-replicate count Eight ∙ omega arith in
-    let front : take i read ≡ t = sym (append-nil (take i read)) ∙ ap (λ (l : List ℕ). take i read ++ l) (sym none) ∙ e in
+    let front : take i read ≡ t =
+    sym (append-nil (take i read)) ∙ ap (λ (l : List ℕ). take i read ++ l) (sym none) ∙ e in
     sym (take-append-drop i read) ∙ ap (λ (l : List ℕ). l ++ drop i read) front ∙ ap (λ (l : List ℕ). t ++ l) z
     ∙ ap (λ (m : ℕ). t ++ replicate (2 * vertexLimit - m) 0) (sym n)

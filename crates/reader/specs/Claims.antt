@@ -16,8 +16,12 @@ HeadInOrder = (s : List ℕ) → walk s (payload 0) headWidths ≡ headList (hea
 
 -- a contour with so many vertices
 abbrev pub ContourInOrder : Type 0
-ContourInOrder = (s : List ℕ) (k v : ℕ) → walk s (payload (k + 1)) (contourWidths v) ≡ idOf s k ∷ tagOf s k ∷ vertexCountOf s k ∷ typeOf s k ∷ fillerOf s k ∷ coordinatesFrom s k 0 v
+ContourInOrder = (s : List ℕ) (k v : ℕ)
+    → walk s (payload (k + 1)) (contourWidths v) ≡ idOf s k ∷ tagOf s k ∷ vertexCountOf s k ∷ typeOf s k
+    ∷ fillerOf s k ∷ coordinatesFrom s k 0 v
 
 -- a point, home or a vertex, is the two numbers whose bits are walked
 abbrev pub PointOfBits : Type 0
-PointOfBits = (s : List ℕ) (at : ℕ) → _≡_ {A = Point} (record { x = ofBits binary64 (u64At s at); y = ofBits binary64 (u64At s (at + 8)) }) (pointAt s at)
+PointOfBits = (s : List ℕ) (at : ℕ)
+    → _≡_ {A = Point} (record { x = ofBits binary64 (u64At s at); y = ofBits binary64 (u64At s (at + 8)) })
+    (pointAt s at)

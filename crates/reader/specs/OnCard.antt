@@ -1,10 +1,12 @@
--- A card's head and a contour, field by field as `fields` reads them, and the widths of their fields in file order. Assumes nothing.
+-- A card's head and a contour, field by field as `fields` reads them, and the widths of their fields in file order.
+-- Assumes nothing.
 use mathlib.Core.List.{List, [], _∷_, _++_}
 use Prim.Native.Nat.{ℕ, zero, suc, _+_, _*_, _-_, min}
 use lib.ListN.{length, replicate}
 use Rattle.block.specs.Field.{byteAt, u16At, u32At, u64At}
 use Rattle.fields.specs.Limits.{vertexLimit}
-use Rattle.fields.specs.Layout.{jobOf, contoursOf, pairsOf, perContourOf, passesOf, moveLimitOf, homePlace, exteriorOf, interiorOf, idOf, tagOf, vertexCountOf, typeOf, fillerOf, vertexPlace}
+use Rattle.fields.specs.Layout.{jobOf, contoursOf, pairsOf, perContourOf, passesOf, moveLimitOf, homePlace, exteriorOf}
+use Rattle.fields.specs.Layout.{interiorOf, idOf, tagOf, vertexCountOf, typeOf, fillerOf, vertexPlace}
 use Rattle.reader.specs.declared.Width.{Width}
 use Rattle.reader.specs.declared.Width.the-variants.{One, Two, Four, Eight}
 use Rattle.reader.specs.declared.Head.{Head}
@@ -34,7 +36,9 @@ headWidths = Four ∷ Two ∷ Two ∷ Two ∷ Two ∷ Four ∷ Eight ∷ Eight �
 
 -- a head's fields in the order of the file
 abbrev pub headList : Head → List ℕ
-headList h = h .job ∷ h .contours ∷ h .pairs ∷ h .candidates ∷ h .passes ∷ h .moves ∷ h .x ∷ h .y ∷ h .exterior ∷ h .interior ∷ []
+headList h =
+    h .job ∷ h .contours ∷ h .pairs ∷ h .candidates ∷ h .passes ∷ h .moves ∷ h .x ∷ h .y ∷ h .exterior ∷ h .interior
+    ∷ []
 
 -- ---- a contour
 
@@ -52,7 +56,8 @@ contourHead s at = record {
 -- the coordinates of so many vertices of contour k, from vertex j on
 unfoldable pub coordinatesFrom : List ℕ → ℕ → ℕ → ℕ → List ℕ
 coordinatesFrom s k j zero = []
-coordinatesFrom s k j (suc v) = u64At s (vertexPlace k j) ∷ u64At s (vertexPlace k j + 8) ∷ coordinatesFrom s k (suc j) v
+coordinatesFrom s k j (suc v) =
+    u64At s (vertexPlace k j) ∷ u64At s (vertexPlace k j + 8) ∷ coordinatesFrom s k (suc j) v
 
 -- as many places as the most vertices have coordinates, the rest of them zero
 unfoldable pub filled : List ℕ → List ℕ

@@ -2,14 +2,16 @@
 use mathlib.Core.Path.{_≡_, refl, sym, ap, _∙_, subst}
 use mathlib.Core.Bool.{Bool, true, false, not, cond, _&&_, true≢false}
 use Prim.Native.Nat.{ℕ, zero, suc, _+_, _-_, _*_, _/_, _%_, _^_, _≤_, _<_}
-use native.Mathlib.Nat.{mul-assoc, mul-one, mul-pos, mul-div-cancel, mod-eq-of-lt, eq-zero-or-pos, eq-or-lt-of-le, zero-mul}
+use native.Mathlib.Nat.{mul-assoc, mul-one, mul-pos, mul-div-cancel, mod-eq-of-lt, eq-zero-or-pos, eq-or-lt-of-le}
+use native.Mathlib.Nat.{zero-mul}
 use native.Mathlib.Omega.{arith}
 use mathlib.Core.Logic.{_⊎_, inl, inr}
 use lib.IntN.{ℤ}
 use lib.Dec.{T, leb, ltb, eqb, lt→ltb, leb→le, nleb→lt}
 use lib.Arith.{le→nltb}
 use lib.Pow.{pow-add, pow-pos}
-use lib.Ieee.{Float, nan, inf, fin, binary64, up, down, odd, units, round, ofBits, ofFields, size, span, climb, ne, isNan, nanBits, div}
+use lib.Ieee.{Float, nan, inf, fin, binary64, up, down, odd, units, round, ofBits, ofFields, size, span, climb, ne}
+use lib.Ieee.{isNan, nanBits, div}
 use lib.Ieee.Exact.{HasValue, odd-sign}
 use lib.Ieee.Fits.{down-pos, round-is}
 use lib.Ieee.Bits.{is-true, nanBits-above}
@@ -24,7 +26,8 @@ use Rattle.root.proofs.Patterns.{of-normal, of-small}
 
 -- ---- a number by its value in steps
 
-of-value : (x : Float) (a : ℕ) → HasValue x false a (2 ^ 1074) → sqrtOf x ≡ round binary64 false (halves (a * 2 ^ 1074)) (2 ^ 1075)
+of-value : (x : Float) (a : ℕ) → HasValue x false a (2 ^ 1074)
+    → sqrtOf x ≡ round binary64 false (halves (a * 2 ^ 1074)) (2 ^ 1075)
 unfolding sqrtOf rootFinite
 of-value nan a v = absurd v
 of-value (inf s) a v = absurd v
@@ -38,33 +41,42 @@ unfolding sqrtOf
 below-zero nan a c p v = absurd v
 below-zero (inf s) a c p v = absurd v
 below-zero (fin false m e) a c p v = absurd (true≢false (sym (v .0)))
-below-zero (fin true m e) a c p v = elim (eq-zero-or-pos m) [ inl z ↦ absurd (none z) | inr q ↦ rw (is-true (ltb 0 m) (lt→ltb 0 m q)) ]
+below-zero (fin true m e) a c p v =
+    elim (eq-zero-or-pos m) [ inl z ↦ absurd (none z) | inr q ↦ rw (is-true (ltb 0 m) (lt→ltb 0 m q)) ]
   where
     none : m ≡ 0 → ⊥
     none z =
         let q : 0 < a * down e = mul-pos p (down-pos e) in
-        let w : m * up e * c ≡ 0 = ap (λ (n : ℕ). n * up e * c) z ∙ ap (λ (n : ℕ). n * c) (zero-mul (up e)) ∙ zero-mul c in
+        let w : m * up e * c ≡ 0 =
+        ap (λ (n : ℕ). n * up e * c) z ∙ ap (λ (n : ℕ). n * c) (zero-mul (up e)) ∙ zero-mul c in
         let r = v .1 in
         omega arith
 
 -- ---- positive numbers
 
-pub sqrt-normal : (e g : ℕ) → e < 2046 → g < 2 ^ 52 → sqrtOf (ofBits binary64 (suc e * 2 ^ 52 + g)) ≡ round binary64 false (halves ((2 ^ 52 + g) * 2 ^ (e + 1074))) (2 ^ 1075)
+pub sqrt-normal : (e g : ℕ) → e < 2046 → g < 2 ^ 52
+    → sqrtOf (ofBits binary64 (suc e * 2 ^ 52 + g))
+    ≡ round binary64 false (halves ((2 ^ 52 + g) * 2 ^ (e + 1074))) (2 ^ 1075)
 sqrt-normal e g a b =
     ap sqrtOf (of-normal e g a b)
     ∙ of-value (odd 53 false (2 ^ 52 + g) e 1074) ((2 ^ 52 + g) * 2 ^ e) (odd-sign 53 false (2 ^ 52 + g) e 1074)
-    ∙ ap (λ (n : ℕ). round binary64 false (halves n) (2 ^ 1075)) (mul-assoc (2 ^ 52 + g) (2 ^ e) (2 ^ 1074) ∙ ap (λ (n : ℕ). (2 ^ 52 + g) * n) (sym (pow-add 2 e 1074)))
+    ∙ ap (λ (n : ℕ). round binary64 false (halves n) (2 ^ 1075))
+    (mul-assoc (2 ^ 52 + g) (2 ^ e) (2 ^ 1074) ∙ ap (λ (n : ℕ). (2 ^ 52 + g) * n) (sym (pow-add 2 e 1074)))
 
 -- by the number's bits, as the code takes them apart
-pub sqrt-bits : (b : ℕ) → (b / 2 ^ 52 ≡ 0 → ⊥) → b / 2 ^ 52 < 2047 → round binary64 false (halves ((2 ^ 52 + b % 2 ^ 52) * 2 ^ (b / 2 ^ 52 + 1073))) (2 ^ 1075) ≡ sqrtOf (ofBits binary64 b)
+pub sqrt-bits : (b : ℕ) → (b / 2 ^ 52 ≡ 0 → ⊥) → b / 2 ^ 52 < 2047
+    → round binary64 false (halves ((2 ^ 52 + b % 2 ^ 52) * 2 ^ (b / 2 ^ 52 + 1073))) (2 ^ 1075)
+    ≡ sqrtOf (ofBits binary64 b)
 sqrt-bits b n h =
     let e = b / 2 ^ 52 - 1 in
     let g = b % 2 ^ 52 in
     let i : suc e * 2 ^ 52 + g ≡ b = omega arith in
     let w : b / 2 ^ 52 + 1073 ≡ e + 1074 = omega arith in
-    ap (λ (z : ℕ). round binary64 false (halves ((2 ^ 52 + g) * 2 ^ z)) (2 ^ 1075)) w ∙ sym (sqrt-normal e g (omega arith) (omega arith)) ∙ ap (λ (z : ℕ). sqrtOf (ofBits binary64 z)) i
+    ap (λ (z : ℕ). round binary64 false (halves ((2 ^ 52 + g) * 2 ^ z)) (2 ^ 1075)) w
+    ∙ sym (sqrt-normal e g (omega arith) (omega arith)) ∙ ap (λ (z : ℕ). sqrtOf (ofBits binary64 z)) i
 
-pub sqrt-small : (g : ℕ) → g < 2 ^ 52 → sqrtOf (ofBits binary64 g) ≡ round binary64 false (halves (g * 2 ^ 1074)) (2 ^ 1075)
+pub sqrt-small : (g : ℕ) → g < 2 ^ 52
+    → sqrtOf (ofBits binary64 g) ≡ round binary64 false (halves (g * 2 ^ 1074)) (2 ^ 1075)
 sqrt-small g b =
     ap sqrtOf (of-small g b)
     ∙ of-value (odd 53 false g 0 1074) (g * 1) (odd-sign 53 false g 0 1074)
@@ -84,7 +96,8 @@ pub sqrt-infinity : sqrtOf (ofBits binary64 (2047 * 2 ^ 52)) ≡ ofBits binary64
 unfolding sqrtOf ofBits ofFields
 sqrt-infinity = refl
 
-pub own-root : (x : Float) (n : ℕ) {b : ℕ} → x ≡ ofBits binary64 b → b ≡ n → sqrtOf (ofBits binary64 n) ≡ ofBits binary64 n → x ≡ sqrtOf x
+pub own-root : (x : Float) (n : ℕ) {b : ℕ} → x ≡ ofBits binary64 b → b ≡ n
+    → sqrtOf (ofBits binary64 n) ≡ ofBits binary64 n → x ≡ sqrtOf x
 own-root x n e q h =
     let z : x ≡ ofBits binary64 n = e ∙ ap (ofBits binary64) q in
     z ∙ sym h ∙ ap sqrtOf (sym z)
@@ -93,13 +106,16 @@ own-root x n e q h =
 
 negative-fields : (x t : ℕ) → (x ≡ 0 → 0 < t) → sqrtOf (ofFields binary64 true x t) ≡ nan
 unfolding ofFields sqrtOf
-negative-fields zero t h = below-zero (odd 53 true t 0 1074) (t * 1) (2 ^ 1074) (omega (arith, h refl)) (odd-sign 53 true t 0 1074)
+negative-fields zero t h =
+    below-zero (odd 53 true t 0 1074) (t * 1) (2 ^ 1074) (omega (arith, h refl)) (odd-sign 53 true t 0 1074)
 negative-fields (suc x) t h = go (eqb (suc x) 2047) (eqb t 0)
   where
     go : (a b : Bool) → sqrtOf (cond a (cond b (inf true) nan) (odd 53 true (2 ^ 52 + t) x 1074)) ≡ nan
     go true true = refl
     go true false = refl
-    go false b = below-zero (odd 53 true (2 ^ 52 + t) x 1074) ((2 ^ 52 + t) * 2 ^ x) (2 ^ 1074) (mul-pos (omega arith) (pow-pos x)) (odd-sign 53 true (2 ^ 52 + t) x 1074)
+    go false b =
+        below-zero (odd 53 true (2 ^ 52 + t) x 1074) ((2 ^ 52 + t) * 2 ^ x) (2 ^ 1074)
+        (mul-pos (omega arith) (pow-pos x)) (odd-sign 53 true (2 ^ 52 + t) x 1074)
 
 none-fields : (t : ℕ) → 0 < t → sqrtOf (ofFields binary64 false 2047 t) ≡ nan
 unfolding ofFields sqrtOf
@@ -114,10 +130,12 @@ sqrt-none b h k n = go (leb (2 ^ 63) b) (leb→le (2 ^ 63) b) (nleb→lt (2 ^ 63
         let q : b / 2 ^ 52 ≡ 2047 = omega arith in
         rw (mod-eq-of-lt l, q) (none-fields (b % 2 ^ 52) (omega arith))
 
-    go : (s : Bool) → (T s → 2 ^ 63 ≤ b) → (T (not s) → b < 2 ^ 63) → sqrtOf (ofFields binary64 s (b % 2 ^ 63 / 2 ^ 52) (b % 2 ^ 52)) ≡ nan
+    go : (s : Bool) → (T s → 2 ^ 63 ≤ b) → (T (not s) → b < 2 ^ 63)
+        → sqrtOf (ofFields binary64 s (b % 2 ^ 63 / 2 ^ 52) (b % 2 ^ 52)) ≡ nan
     go true y z =
         let l = y tt in
-        negative-fields (b % 2 ^ 63 / 2 ^ 52) (b % 2 ^ 52) (λ (q : b % 2 ^ 63 / 2 ^ 52 ≡ 0). positive l q (eq-zero-or-pos (b % 2 ^ 52)))
+        negative-fields (b % 2 ^ 63 / 2 ^ 52) (b % 2 ^ 52)
+        (λ (q : b % 2 ^ 63 / 2 ^ 52 ≡ 0). positive l q (eq-zero-or-pos (b % 2 ^ 52)))
       where
         positive : 2 ^ 63 ≤ b → b % 2 ^ 63 / 2 ^ 52 ≡ 0 → (b % 2 ^ 52 ≡ 0) ⊎ (0 < b % 2 ^ 52) → 0 < b % 2 ^ 52
         positive l q (inl z) = absurd (n (omega arith))
@@ -187,11 +205,13 @@ no-root nan q = refl
 no-root (inf s) q = refl
 no-root (fin s m e) q = go (s && ltb 0 m) q
   where
-    go : (b : Bool) → cond b nan (rootFinite s m e) ≡ nan → cond b (Refused noRoot) (Is (rootFinite s m e)) ≡ Refused noRoot
+    go : (b : Bool) → cond b nan (rootFinite s m e) ≡ nan
+        → cond b (Refused noRoot) (Is (rootFinite s m e)) ≡ Refused noRoot
     go true q = refl
     go false q = absurd (root-number s m e q)
 
-pub none-told : (b : ℕ) → 2047 * 2 ^ 52 ≤ b → b < 2 ^ 64 → (b ≡ 2 ^ 63 → ⊥) → rootOf (ofBits binary64 b) ≡ Refused noRoot
+pub none-told : (b : ℕ) → 2047 * 2 ^ 52 ≤ b → b < 2 ^ 64 → (b ≡ 2 ^ 63 → ⊥)
+    → rootOf (ofBits binary64 b) ≡ Refused noRoot
 none-told b h k n = elim (eq-or-lt-of-le h) [
   | inl e ↦ subst (λ (z : ℕ). rootOf (ofBits binary64 z) ≡ Refused noRoot) e infinity-told
   | inr l ↦ no-root (ofBits binary64 b) (sqrt-none b l k n)
@@ -214,4 +234,5 @@ root-told b h = go (b / 2 ^ 52) refl
     go (suc e) q =
         let g = b % 2 ^ 52 in
         let i : suc e * 2 ^ 52 + g ≡ b = omega arith in
-        rw (← i, of-normal e g (omega arith) (omega arith)) (value-told (odd 53 false (2 ^ 52 + g) e 1074) _ _ (odd-sign 53 false (2 ^ 52 + g) e 1074))
+        rw (← i, of-normal e g (omega arith) (omega arith))
+        (value-told (odd 53 false (2 ^ 52 + g) e 1074) _ _ (odd-sign 53 false (2 ^ 52 + g) e 1074))

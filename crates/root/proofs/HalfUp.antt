@@ -1,9 +1,13 @@
--- How the root is rounded: of a number m of 53 or 54 binary digits, scaled by any even power of two, the root rounds to the whole
--- root of m * 2^54, halved upwards. There are no ties: a root that ended in a half would have an odd square. Assumes nothing.
+-- How the root is rounded: of a number m of 53 or 54 binary digits, scaled by any even power of two, the root rounds to
+-- the whole root of m * 2^54, halved upwards. There are no ties: a root that ended in a half would have an odd square.
+-- Assumes nothing.
 use mathlib.Core.Path.{_≡_, refl, sym, ap, _∙_, subst}
 use mathlib.Core.Bool.{Bool, true, false, not, cond}
-use Prim.Native.Nat.{ℕ, zero, suc, _+_, _-_, _*_, _/_, _%_, _^_, _≤_, _<_, compare, Ordering, Ordering·lt, Ordering·eq, Ordering·gt}
-use native.Mathlib.Nat.{le-trans, le-of-lt, le-antisymm, lt-irrefl, lt-of-lt-of-le, lt-of-le-of-lt, lt-of-not-le, mul-le-mul-right, mul-lt-mul-of-pos-right, mul-pos, mul-assoc, pow-succ', div-add-mod', div-eq-of-lt-le}
+use Prim.Native.Nat.{ℕ, zero, suc, _+_, _-_, _*_, _/_, _%_, _^_, _≤_, _<_, compare, Ordering, Ordering·lt, Ordering·eq}
+use Prim.Native.Nat.{Ordering·gt}
+use native.Mathlib.Nat.{le-trans, le-of-lt, le-antisymm, lt-irrefl, lt-of-lt-of-le, lt-of-le-of-lt, lt-of-not-le}
+use native.Mathlib.Nat.{mul-le-mul-right, mul-lt-mul-of-pos-right, mul-pos, mul-assoc, pow-succ', div-add-mod'}
+use native.Mathlib.Nat.{div-eq-of-lt-le}
 use native.Mathlib.Omega.{arith}
 use lib.Dec.{T, isLe, isEq, le→leb, eqb→eq, eqb, lit<}
 use lib.Arith.{lt→nleb}
@@ -48,7 +52,9 @@ closest-up t h u a b =
 -- ---- a number's digits
 
 size-is : (w d : ℕ) → 2 ^ d ≤ w → w < 2 ^ suc d → size w ≡ suc d
-size-is w d l h = le-antisymm (size-le w (suc d) h) (lt-of-not-le (λ (g : size w ≤ d). lt-irrefl w (lt-of-lt-of-le (size-lt w) (le-trans (pow-mono g) l))))
+size-is w d l h =
+    le-antisymm (size-le w (suc d) h) (lt-of-not-le
+    (λ (g : size w ≤ d). lt-irrefl w (lt-of-lt-of-le (size-lt w) (le-trans (pow-mono g) l))))
 
 halves-half : (n : ℕ) → halves n / 2 ≡ wholeRoot n
 unfolding halves
@@ -64,8 +70,12 @@ module _ (m : ℕ) (low : 2 ^ 52 ≤ m) (high : m < 2 ^ 54) where
   pub root-54 : (2 ^ 53 ≤ wholeRoot (m * 2 ^ 54)) × (wholeRoot (m * 2 ^ 54) < 2 ^ 54)
   root-54 =
       let s = wholeRoot (m * 2 ^ 54) in
-      let l : 2 ^ 53 < s + 1 = square-lt (2 ^ 53) (s + 1) (lt-of-le-of-lt (mul-le-mul-right (2 ^ 54) low) (whole-lt (m * 2 ^ 54))) in
-      (omega arith, square-lt s (2 ^ 54) (lt-of-le-of-lt (whole-le (m * 2 ^ 54)) (mul-lt-mul-of-pos-right high (lit< tt))))
+      let l : 2 ^ 53 < s + 1 =
+      square-lt (2 ^ 53) (s + 1) (lt-of-le-of-lt (mul-le-mul-right (2 ^ 54) low) (whole-lt (m * 2 ^ 54))) in (
+        omega arith,
+        square-lt s (2 ^ 54) (lt-of-le-of-lt (whole-le (m * 2 ^ 54))
+            (mul-lt-mul-of-pos-right high (lit< tt))),
+      )
 
   module _ (p : ℕ) (pos : 0 < p) where
     scaled-le : (wholeRoot (m * 2 ^ 54) * p) * (wholeRoot (m * 2 ^ 54) * p) ≤ m * 2 ^ 54 * (p * p)
@@ -77,11 +87,13 @@ module _ (m : ℕ) (low : 2 ^ 52 ≤ m) (high : m < 2 ^ 54) where
     scaled-lt : m * 2 ^ 54 * (p * p) < ((wholeRoot (m * 2 ^ 54) + 1) * p) * ((wholeRoot (m * 2 ^ 54) + 1) * p)
     scaled-lt =
         let s = wholeRoot (m * 2 ^ 54) in
-        let x : m * 2 ^ 54 * (p * p) < (s + 1) * (s + 1) * (p * p) = mul-lt-mul-of-pos-right (whole-lt (m * 2 ^ 54)) (mul-pos pos pos) in
+        let x : m * 2 ^ 54 * (p * p) < (s + 1) * (s + 1) * (p * p) =
+        mul-lt-mul-of-pos-right (whole-lt (m * 2 ^ 54)) (mul-pos pos pos) in
         omega arith
 
     -- an odd root is never exact
-    scaled-ne : wholeRoot (m * 2 ^ 54) % 2 ≡ 1 → (wholeRoot (m * 2 ^ 54) * p) * (wholeRoot (m * 2 ^ 54) * p) < m * 2 ^ 54 * (p * p)
+    scaled-ne : wholeRoot (m * 2 ^ 54) % 2 ≡ 1
+        → (wholeRoot (m * 2 ^ 54) * p) * (wholeRoot (m * 2 ^ 54) * p) < m * 2 ^ 54 * (p * p)
     scaled-ne o =
         let s = wholeRoot (m * 2 ^ 54) in
         let r = s / 2 in
@@ -94,7 +106,8 @@ module _ (m : ℕ) (low : 2 ^ 52 ≤ m) (high : m < 2 ^ 54) where
     whole-from : wholeRoot (m * 2 ^ 54) * p ≤ wholeRoot (m * 2 ^ 54 * (p * p))
     whole-from =
         let n = m * 2 ^ 54 * (p * p) in
-        let x : wholeRoot (m * 2 ^ 54) * p < wholeRoot n + 1 = square-lt _ (wholeRoot n + 1) (lt-of-le-of-lt scaled-le (whole-lt n)) in
+        let x : wholeRoot (m * 2 ^ 54) * p < wholeRoot n + 1 =
+        square-lt _ (wholeRoot n + 1) (lt-of-le-of-lt scaled-le (whole-lt n)) in
         omega arith
 
     whole-to : wholeRoot (m * 2 ^ 54 * (p * p)) < (wholeRoot (m * 2 ^ 54) + 1) * p
@@ -108,7 +121,8 @@ module _ (m : ℕ) (low : 2 ^ 52 ≤ m) (high : m < 2 ^ 54) where
         let s = wholeRoot (m * 2 ^ 54) in
         go (s % 2) refl
       where
-        go : (r : ℕ) → wholeRoot (m * 2 ^ 54) % 2 ≡ r → closest (halves (m * 2 ^ 54 * (p * p))) (2 * (2 * p)) ≡ (wholeRoot (m * 2 ^ 54) + 1) / 2
+        go : (r : ℕ) → wholeRoot (m * 2 ^ 54) % 2 ≡ r
+            → closest (halves (m * 2 ^ 54 * (p * p))) (2 * (2 * p)) ≡ (wholeRoot (m * 2 ^ 54) + 1) / 2
         go zero z =
             let s = wholeRoot (m * 2 ^ 54) in
             let n = m * 2 ^ 54 * (p * p) in
@@ -134,20 +148,30 @@ module _ (m : ℕ) (low : 2 ^ 52 ≤ m) (high : m < 2 ^ 54) where
     size-53 : size (wholeRoot (m * 2 ^ 54 * (2 ^ j * 2 ^ j))) ≡ suc (53 + j)
     size-53 =
         let s = wholeRoot (m * 2 ^ 54) in
-        let l : 2 ^ (53 + j) ≤ s * 2 ^ j = subst (λ (x : ℕ). x ≤ s * 2 ^ j) (sym (pow-add 2 53 j)) (mul-le-mul-right (2 ^ j) (root-54 .0)) in
-        let h : (s + 1) * 2 ^ j ≤ 2 ^ (54 + j) = subst (λ (x : ℕ). (s + 1) * 2 ^ j ≤ x) (sym (pow-add 2 54 j)) (mul-le-mul-right (2 ^ j) (omega (arith, root-54))) in
+        let l : 2 ^ (53 + j) ≤ s * 2 ^ j =
+        subst (λ (x : ℕ). x ≤ s * 2 ^ j) (sym (pow-add 2 53 j)) (mul-le-mul-right (2 ^ j) (root-54 .0)) in
+        let h : (s + 1) * 2 ^ j ≤ 2 ^ (54 + j) =
+        subst (λ (x : ℕ). (s + 1) * 2 ^ j ≤ x) (sym (pow-add 2 54 j))
+        (mul-le-mul-right (2 ^ j) (omega (arith, root-54))) in
         size-is (wholeRoot (m * 2 ^ 54 * (2 ^ j * 2 ^ j))) (53 + j) (le-trans l (whole-from (2 ^ j) (pow-pos j)))
-        (subst (λ (x : ℕ). wholeRoot (m * 2 ^ 54 * (2 ^ j * 2 ^ j)) < 2 ^ x) (let e : 54 + j ≡ suc (53 + j) = omega arith in e) (lt-of-lt-of-le (whole-to (2 ^ j) (pow-pos j)) h))
+        (subst (λ (x : ℕ). wholeRoot (m * 2 ^ 54 * (2 ^ j * 2 ^ j)) < 2 ^ x)
+        (let e : 54 + j ≡ suc (53 + j) = omega arith in e) (lt-of-lt-of-le (whole-to (2 ^ j) (pow-pos j)) h))
 
     -- the root of m * 2^54 * 2^j * 2^j half steps, rounded
-    pub root-rounds : round binary64 false (halves (m * 2 ^ 54 * (2 ^ j * 2 ^ j))) (2 ^ 1075) ≡ units binary64 false ((wholeRoot (m * 2 ^ 54) + 1) / 2) (suc j)
+    pub root-rounds : round binary64 false (halves (m * 2 ^ 54 * (2 ^ j * 2 ^ j))) (2 ^ 1075)
+        ≡ units binary64 false ((wholeRoot (m * 2 ^ 54) + 1) / 2) (suc j)
     root-rounds =
         let n = m * 2 ^ 54 * (2 ^ j * 2 ^ j) in
         let h = halves n in
-        let d : h * 2 ^ 1074 / 2 ^ 1075 ≡ wholeRoot n = div-same (h * 2 ^ 1074) (2 ^ 1075) h 2 (pow-pos 1075) (lit< tt) (mul-assoc h (2 ^ 1074) 2) ∙ halves-half n in
-        let k : size (h * 2 ^ 1074 / 2 ^ 1075) - 53 ≡ suc j = ap (λ (x : ℕ). size x - 53) d ∙ ap (λ (x : ℕ). x - 53) size-53 ∙ (let e : suc (53 + j) - 53 ≡ suc j = omega arith in e) in
+        let d : h * 2 ^ 1074 / 2 ^ 1075 ≡ wholeRoot n =
+        div-same (h * 2 ^ 1074) (2 ^ 1075) h 2 (pow-pos 1075) (lit< tt) (mul-assoc h (2 ^ 1074) 2)
+        ∙ halves-half n in
+        let k : size (h * 2 ^ 1074 / 2 ^ 1075) - 53 ≡ suc j =
+        ap (λ (x : ℕ). size x - 53) d ∙ ap (λ (x : ℕ). x - 53) size-53
+        ∙ (let e : suc (53 + j) - 53 ≡ suc j = omega arith in e) in
         let c : closest (h * 2 ^ 1074) (2 ^ 1075 * 2 ^ suc j) ≡ closest h (2 * 2 ^ suc j) =
-        closest-same (h * 2 ^ 1074) (2 ^ 1075 * 2 ^ suc j) h (2 * 2 ^ suc j) (mul-pos (pow-pos 1075) (pow-pos (suc j))) (mul-pos (lit< tt) (pow-pos (suc j)))
+        closest-same (h * 2 ^ 1074) (2 ^ 1075 * 2 ^ suc j) h (2 * 2 ^ suc j)
+        (mul-pos (pow-pos 1075) (pow-pos (suc j))) (mul-pos (lit< tt) (pow-pos (suc j)))
         (mul-assoc h (2 ^ 1074) (2 * 2 ^ suc j) ∙ ap (λ (x : ℕ). h * x) (sym (mul-assoc (2 ^ 1074) 2 (2 ^ suc j)))) in
         let u : closest h (2 * 2 ^ suc j) ≡ (wholeRoot (m * 2 ^ 54) + 1) / 2 =
         ap (λ (x : ℕ). closest h (2 * x)) (pow-succ' 2 j) ∙ halved-up (2 ^ j) (pow-pos j) in

@@ -1,4 +1,5 @@
--- The root is the nearest value of the format, strictly: nothing else in binary64 is as near to the exact root. And whatever is so is the root. Assumes nothing.
+-- The root is the nearest value of the format, strictly: nothing else in binary64 is as near to the exact root. And
+-- whatever is so is the root. Assumes nothing.
 use mathlib.Core.Path.{_≡_, sym, _∙_, subst}
 use Prim.Native.Nat.{ℕ, _+_, _*_, _^_, _≤_, _<_}
 use native.Mathlib.Nat.{lt-irrefl, lt-trans, le-antisymm, le-of-suc-le-suc, lt-of-not-le, add-comm}
@@ -15,14 +16,17 @@ use Rattle.root.proofs.RootLaws.{root-steps, root-fits, root-sign, root
 abbrev pub rootSquared : Float → ℕ
 rootSquared x = stepsOf x * 2 ^ 1074
 
--- of the finite numbers of binary64 that are not below zero, r is the one nearest to the exact root of x: against any other number y, that root lies strictly on r's side of
--- the middle (r + y) / 2. With both sides squared and times four, all of this is said in whole numbers.
+-- of the finite numbers of binary64 that are not below zero, r is the one nearest to the exact root of x: against any
+-- other number y, that root lies strictly on r's side of the middle (r + y) / 2. With both sides squared and times
+-- four, all of this is said in whole numbers.
 pub record NearestRoot (x r : Float) : Type 0 where
   pub held : T (fits binary64 r)
   pub real : T (hasRoot r)
   pub sign : signOf r ≡ signOf x
-  pub above : (y : Float) → T (fits binary64 y) → T (hasRoot y) → stepsOf r < stepsOf y → 4 * rootSquared x < (stepsOf r + stepsOf y) * (stepsOf r + stepsOf y)
-  pub below : (y : Float) → T (fits binary64 y) → T (hasRoot y) → stepsOf y < stepsOf r → (stepsOf r + stepsOf y) * (stepsOf r + stepsOf y) < 4 * rootSquared x
+  pub above : (y : Float) → T (fits binary64 y) → T (hasRoot y) → stepsOf r < stepsOf y
+      → 4 * rootSquared x < (stepsOf r + stepsOf y) * (stepsOf r + stepsOf y)
+  pub below : (y : Float) → T (fits binary64 y) → T (hasRoot y) → stepsOf y < stepsOf r
+      → (stepsOf r + stepsOf y) * (stepsOf r + stepsOf y) < 4 * rootSquared x
 
 -- ---- it is the nearest
 
@@ -37,10 +41,14 @@ nearest-root x t h =
       held = root-fits x h;
       real = root-real x t h;
       sign = root-sign x t h;
-      above = λ y u k l. subst (λ (z : ℕ). 4 * rootSquared x < (z + stepsOf y) * (z + stepsOf y)) (sym (root-steps x t h))
-          (root-near-above 52 1074 (stepsOf x) (stepsOf y) (lit≤ tt) (short x t h) (short y u k) (subst (λ (z : ℕ). z < stepsOf y) (root-steps x t h) l));
-      below = λ y u k l. subst (λ (z : ℕ). (z + stepsOf y) * (z + stepsOf y) < 4 * rootSquared x) (sym (root-steps x t h))
-          (root-near-below 52 1074 (stepsOf x) (stepsOf y) (lit≤ tt) (short x t h) (short y u k) (subst (λ (z : ℕ). stepsOf y < z) (root-steps x t h) l));
+      above = λ y u k l. subst (λ (z : ℕ). 4 * rootSquared x < (z + stepsOf y) * (z + stepsOf y))
+          (sym (root-steps x t h))
+          (root-near-above 52 1074 (stepsOf x) (stepsOf y) (lit≤ tt) (short x t h) (short y u k)
+          (subst (λ (z : ℕ). z < stepsOf y) (root-steps x t h) l));
+      below = λ y u k l. subst (λ (z : ℕ). (z + stepsOf y) * (z + stepsOf y) < 4 * rootSquared x)
+          (sym (root-steps x t h))
+          (root-near-below 52 1074 (stepsOf x) (stepsOf y) (lit≤ tt) (short x t h) (short y u k)
+          (subst (λ (z : ℕ). stepsOf y < z) (root-steps x t h) l));
     }
 
 -- ---- and the only one
@@ -53,11 +61,13 @@ not-above : (x r q : Float) → NearestRoot x r → NearestRoot x q → stepsOf 
 not-above x r q a b l =
     lt-irrefl (4 * rootSquared x)
     (lt-trans (a .above q (b .held) (b .real) l)
-    (subst (λ (z : ℕ). z * z < 4 * rootSquared x) (add-comm (stepsOf q) (stepsOf r)) (b .below r (a .held) (a .real) l)))
+    (subst (λ (z : ℕ). z * z < 4 * rootSquared x) (add-comm (stepsOf q) (stepsOf r))
+    (b .below r (a .held) (a .real) l)))
 
 pub nearest-only : (x r q : Float) → NearestRoot x r → NearestRoot x q → r ≡ q
 nearest-only x r q a b =
-    steps-unique binary64 r q (a .held) (real-finite r (a .real)) (b .held) (real-finite q (b .real)) (a .sign ∙ sym (b .sign))
+    steps-unique binary64 r q (a .held) (real-finite r (a .real)) (b .held) (real-finite q (b .real))
+    (a .sign ∙ sym (b .sign))
     (le-antisymm (le-of-not-lt (not-above x q r b a)) (le-of-not-lt (not-above x r q a b)))
 
 pub nearest-is-root : (x r : Float) → T (fits binary64 x) → T (hasRoot x) → NearestRoot x r → r ≡ sqrtOf x

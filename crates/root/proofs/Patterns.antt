@@ -1,9 +1,10 @@
--- Bit patterns of binary64 and the numbers that they stand for, where a leading digit and an exponent are in hand; and the bits of a
--- rounded root. Assumes nothing.
+-- Bit patterns of binary64 and the numbers that they stand for, where a leading digit and an exponent are in hand; and
+-- the bits of a rounded root. Assumes nothing.
 use mathlib.Core.Path.{_≡_, refl, sym, ap, _∙_, subst}
 use mathlib.Core.Bool.{Bool, false}
 use Prim.Native.Nat.{ℕ, zero, suc, _+_, _-_, _*_, _/_, _%_, _^_, _≤_, _<_}
-use native.Mathlib.Nat.{le-trans, lt-irrefl, lt-of-lt-of-le, lt-of-le-of-lt, lt-of-not-le, zero-lt-suc, mul-assoc, mul-comm, mul-left-comm, mod-eq-of-lt, div-eq-of-lt, pow-succ'}
+use native.Mathlib.Nat.{le-trans, lt-irrefl, lt-of-lt-of-le, lt-of-le-of-lt, lt-of-not-le, zero-lt-suc, mul-assoc}
+use native.Mathlib.Nat.{mul-comm, mul-left-comm, mod-eq-of-lt, div-eq-of-lt, pow-succ'}
 use native.Mathlib.Omega.{arith}
 use lib.Dec.{leb, ltb, lt→ltb}
 use lib.Arith.{lt→nleb, digits-div, digits-mod}
@@ -25,7 +26,8 @@ zeros-more (suc d) n p h = go (n % 2) refl (zeros-more d (n / 2))
   where
     go : (r : ℕ) → n % 2 ≡ r → (0 < n / 2 → n / 2 < 2 ^ d → trailingZeros (suc d) (n / 2) ≡ trailingZeros d (n / 2))
         → under r (trailingZeros (suc d) (n / 2)) ≡ under r (trailingZeros d (n / 2))
-    go zero e ih = ap suc (ih (omega arith) (let x : n < 2 * 2 ^ d = subst (λ (z : ℕ). n < z) (pow-succ' 2 d) h in omega arith))
+    go zero e ih =
+        ap suc (ih (omega arith) (let x : n < 2 * 2 ^ d = subst (λ (z : ℕ). n < z) (pow-succ' 2 d) h in omega arith))
     go (suc r) e ih = refl
 
 odd-more : (d : ℕ) (s : Bool) (q k l : ℕ) → q < 2 ^ d → odd (suc d) s q k l ≡ odd d s q k l
@@ -35,16 +37,24 @@ odd-more d s (suc q) k l h = rw (zeros-more d (suc q) (zero-lt-suc q) h)
 
 units-odd : (q k : ℕ) → q < 2 ^ 53 → q * 2 ^ k < 2 ^ 2098 → units binary64 false q k ≡ odd 53 false q k 1074
 unfolding units
-units-odd q k a b = rw (is-true (ltb (q * 2 ^ k) (2 ^ 2098)) (lt→ltb (q * 2 ^ k) (2 ^ 2098) b)) (odd-more 53 false q k 1074 a)
+units-odd q k a b =
+    rw (is-true (ltb (q * 2 ^ k) (2 ^ 2098)) (lt→ltb (q * 2 ^ k) (2 ^ 2098) b)) (odd-more 53 false q k 1074 a)
 
 -- ---- patterns
 
-pub of-normal : (e g : ℕ) → e < 2046 → g < 2 ^ 52 → ofBits binary64 (suc e * 2 ^ 52 + g) ≡ odd 53 false (2 ^ 52 + g) e 1074
+pub of-normal : (e g : ℕ) → e < 2046 → g < 2 ^ 52
+    → ofBits binary64 (suc e * 2 ^ 52 + g) ≡ odd 53 false (2 ^ 52 + g) e 1074
 unfolding ofBits ofFields
 of-normal e g a b =
     let n = suc e * 2 ^ 52 + g in
     let t : n < 2 ^ 63 = omega arith in
-    rw (is-false (leb (2 ^ 63) n) (lt→nleb (2 ^ 63) n t), mod-eq-of-lt t, digits-div (suc e) b, digits-mod (suc e) b, ne-eqb (suc e) 2047 (omega arith))
+    rw (
+      is-false (leb (2 ^ 63) n) (lt→nleb (2 ^ 63) n t),
+      mod-eq-of-lt t,
+      digits-div (suc e) b,
+      digits-mod (suc e) b,
+      ne-eqb (suc e) 2047 (omega arith),
+    )
 
 pub of-small : (g : ℕ) → g < 2 ^ 52 → ofBits binary64 g ≡ odd 53 false g 0 1074
 unfolding ofBits ofFields
@@ -103,12 +113,16 @@ two-to (suc (suc r)) k = absurd (omega arith)
 parts : (f j r : ℕ) → r < 2 → (2 ^ 52 + f) * 2 ^ (54 + (j + j) + r) ≡ (2 ^ 52 + f) * (1 + r) * 2 ^ 54 * (2 ^ j * 2 ^ j)
 parts f j r k =
     let e : 2 ^ (54 + (j + j) + r) ≡ 2 ^ 54 * (2 ^ j * 2 ^ j) * (1 + r) =
-    pow-add 2 (54 + (j + j)) r ∙ ap (λ (x : ℕ). x * 2 ^ r) (pow-add 2 54 (j + j) ∙ ap (λ (x : ℕ). 2 ^ 54 * x) (pow-add 2 j j)) ∙ ap (λ (x : ℕ). 2 ^ 54 * (2 ^ j * 2 ^ j) * x) (two-to r k) in
+    pow-add 2 (54 + (j + j)) r ∙ ap (λ (x : ℕ). x * 2 ^ r)
+    (pow-add 2 54 (j + j) ∙ ap (λ (x : ℕ). 2 ^ 54 * x) (pow-add 2 j j))
+    ∙ ap (λ (x : ℕ). 2 ^ 54 * (2 ^ j * 2 ^ j) * x) (two-to r k) in
     ap (λ (x : ℕ). (2 ^ 52 + f) * x) e ∙ simp (mul-assoc, mul-comm, mul-left-comm)
 
--- what the code computes from f and w are the bits of the rounded root of (2^52 + f) * 2^w, counted as the definition does
+-- what the code computes from f and w are the bits of the rounded root of (2^52 + f) * 2^w, counted as the definition
+-- does
 pub root-bits : (f w : ℕ) → f < 2 ^ 52 → 54 ≤ w → w < 4000
-    → ofBits binary64 ((w - 50) / 2 * 2 ^ 52 + (rooted f w - 2 ^ 52)) ≡ round binary64 false (halves ((2 ^ 52 + f) * 2 ^ w)) (2 ^ 1075)
+    → ofBits binary64 ((w - 50) / 2 * 2 ^ 52 + (rooted f w - 2 ^ 52))
+    ≡ round binary64 false (halves ((2 ^ 52 + f) * 2 ^ w)) (2 ^ 1075)
 root-bits f w h lo hi =
     let j = (w - 54) / 2 in
     let r = w % 2 in
@@ -117,8 +131,10 @@ root-bits f w h lo hi =
     let ew : w ≡ 54 + (j + j) + r = omega arith in
     let ee : (w - 50) / 2 ≡ suc (suc j) = omega arith in
     let et : 2 ^ 52 + (t - 2 ^ 52) ≡ t = omega arith in
-    let n : (2 ^ 52 + f) * 2 ^ w ≡ evened f w * 2 ^ 54 * (2 ^ j * 2 ^ j) = ap (λ (x : ℕ). (2 ^ 52 + f) * 2 ^ x) ew ∙ parts f j r (omega arith) in
-    let big : t * 2 ^ suc j < 2 ^ 2098 = lt-of-lt-of-le (shl-lt 53 (suc j) (z .1)) (pow-mono {i = 53 + suc j} {j = 2098} (omega arith)) in
+    let n : (2 ^ 52 + f) * 2 ^ w ≡ evened f w * 2 ^ 54 * (2 ^ j * 2 ^ j) =
+    ap (λ (x : ℕ). (2 ^ 52 + f) * 2 ^ x) ew ∙ parts f j r (omega arith) in
+    let big : t * 2 ^ suc j < 2 ^ 2098 =
+    lt-of-lt-of-le (shl-lt 53 (suc j) (z .1)) (pow-mono {i = 53 + suc j} {j = 2098} (omega arith)) in
     ap (λ (x : ℕ). ofBits binary64 (x * 2 ^ 52 + (t - 2 ^ 52))) ee
     ∙ of-normal (suc j) (t - 2 ^ 52) (omega arith) (omega arith)
     ∙ ap (λ (x : ℕ). odd 53 false x (suc j) 1074) et

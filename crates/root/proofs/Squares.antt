@@ -2,7 +2,8 @@
 use mathlib.Core.Path.{_≡_, sym, ap, subst}
 use mathlib.Core.Logic.{inl, inr}
 use Prim.Native.Nat.{ℕ, _+_, _-_, _*_, _/_, _%_, _^_, _≤_, _<_}
-use native.Mathlib.Nat.{le-refl, le-of-lt, lt-of-lt-of-le, lt-of-le-of-lt, mul-le-mul, mul-lt-mul-of-pos-right, eq-zero-or-pos, not-suc-le-zero, mod-lt, div-add-mod', div-le-of-le-mul}
+use native.Mathlib.Nat.{le-refl, le-of-lt, lt-of-lt-of-le, lt-of-le-of-lt, mul-le-mul, mul-lt-mul-of-pos-right}
+use native.Mathlib.Nat.{eq-zero-or-pos, not-suc-le-zero, mod-lt, div-add-mod', div-le-of-le-mul}
 use native.Mathlib.Omega.{arith}
 use lib.Dec.{lit<}
 use Rattle.root.proofs.WholeLaws.{square-lt, whole-le, whole-lt, whole-unique}
@@ -14,7 +15,10 @@ square-mono h = mul-le-mul h h
 -- what has a square above something is not 0
 pub square-pos : {a n : ℕ} → n < a * a → 0 < a
 square-pos {a} {n} h =
-    elim (eq-zero-or-pos a) [ inl z ↦ absurd (not-suc-le-zero (subst (λ (x : ℕ). n < x) (ap (λ (x : ℕ). x * x) z) h)) | inr p ↦ p ]
+    elim (eq-zero-or-pos a) [
+      | inl z ↦ absurd (not-suc-le-zero (subst (λ (x : ℕ). n < x) (ap (λ (x : ℕ). x * x) z) h))
+      | inr p ↦ p
+    ]
 
 -- ---- sizes: what a 64-bit number holds
 
@@ -29,13 +33,16 @@ square-fits h = lt-of-le-of-lt (square-mono (le-of-lt h)) (lit< tt)
 pub next-fits : {m : ℕ} (r half span : ℕ) → r * r ≤ m → m < 2 ^ 54 → span ≤ 0x800_0000 → half ≤ span → r + half < 2 ^ 28
 next-fits r half span h k s l = let x = root-lt h k in omega arith
 
-pub upper-half : {m : ℕ} (r span half : ℕ) → m < (r + span) * (r + span) → span ≤ half + half → m < (r + half + half) * (r + half + half)
+pub upper-half : {m : ℕ} (r span half : ℕ) → m < (r + span) * (r + span) → span ≤ half + half
+    → m < (r + half + half) * (r + half + half)
 upper-half r span half h s = lt-of-lt-of-le h (square-mono (omega arith))
 
--- ---- From the root a of m to the root of m * P * P: with d = m - a * a, and q and u the quotient and the rest of d * P by 2 * a,
+-- ---- From the root a of m to the root of m * P * P: with d = m - a * a, and q and u the quotient and the rest of d *
+-- P by 2 * a,
 -- it is a * P + q, or one less where u * P is below q * q.
 
-pub longer-square : (a P q u d : ℕ) → d * P ≡ q * (2 * a) + u → (a * a + d) * (P * P) + q * q ≡ (a * P + q) * (a * P + q) + u * P
+pub longer-square : (a P q u d : ℕ) → d * P ≡ q * (2 * a) + u
+    → (a * a + d) * (P * P) + q * q ≡ (a * P + q) * (a * P + q) + u * P
 longer-square a P q u d h =
     let e : d * P * P ≡ (q * (2 * a) + u) * P = ap (λ (z : ℕ). z * P) h in
     omega arith
@@ -83,22 +90,27 @@ quotient-le m a z =
 pub rest-lt : (m a : ℕ) → Sized m a → (m - a * a) * 0x800_0000 % (2 * a) < 2 * a
 rest-lt m a z = mod-lt _ (omega (arith, z .low))
 
-division : (m a : ℕ) → (m - a * a) * 0x800_0000 ≡ (m - a * a) * 0x800_0000 / (2 * a) * (2 * a) + (m - a * a) * 0x800_0000 % (2 * a)
+division : (m a : ℕ)
+    → (m - a * a) * 0x800_0000 ≡ (m - a * a) * 0x800_0000 / (2 * a) * (2 * a) + (m - a * a) * 0x800_0000 % (2 * a)
 division m a = sym (div-add-mod' ((m - a * a) * 0x800_0000) (2 * a))
 
 whole : (m a : ℕ) → Sized m a → (a * a + (m - a * a)) * (0x800_0000 * 0x800_0000) ≡ m * 2 ^ 54
 whole m a z = ap (λ (x : ℕ). x * 2 ^ 54) (let x : a * a + (m - a * a) ≡ m = omega (arith, z .fits) in x)
 
 pub longer-kept : (m a : ℕ) → Sized m a
-    → (let n = (m - a * a) * 0x800_0000 in n / (2 * a) * (n / (2 * a)) ≤ n % (2 * a) * 0x800_0000 → wholeRoot (m * 2 ^ 54) ≡ a * 0x800_0000 + n / (2 * a))
+    → (let n = (m - a * a) * 0x800_0000 in n / (2 * a) * (n / (2 * a)) ≤ n % (2 * a) * 0x800_0000
+    → wholeRoot (m * 2 ^ 54) ≡ a * 0x800_0000 + n / (2 * a))
 longer-kept m a z k =
     let n = (m - a * a) * 0x800_0000 in
-    let w = longer-fits a 0x800_0000 (n / (2 * a)) (n % (2 * a)) (m - a * a) (division m a) (rest-lt m a z) (lit< tt) k in
+    let w = longer-fits a 0x800_0000 (n / (2 * a)) (n % (2 * a)) (m - a * a) (division m a) (rest-lt m a z) (lit< tt)
+    k in
     whole-unique (m * 2 ^ 54) (a * 0x800_0000 + n / (2 * a)) (rw (whole m a z) at (w .0)) (rw (whole m a z) at (w .1))
 
 pub longer-lowered : (m a s : ℕ) → Sized m a
-    → (let n = (m - a * a) * 0x800_0000 in n % (2 * a) * 0x800_0000 < n / (2 * a) * (n / (2 * a)) → s + 1 ≡ a * 0x800_0000 + n / (2 * a) → wholeRoot (m * 2 ^ 54) ≡ s)
+    → (let n = (m - a * a) * 0x800_0000 in n % (2 * a) * 0x800_0000 < n / (2 * a) * (n / (2 * a))
+    → s + 1 ≡ a * 0x800_0000 + n / (2 * a) → wholeRoot (m * 2 ^ 54) ≡ s)
 longer-lowered m a s z k e =
     let n = (m - a * a) * 0x800_0000 in
-    let w = longer-back a 0x800_0000 (n / (2 * a)) (n % (2 * a)) (m - a * a) s (division m a) k (quotient-le m a z) (omega (arith, z .low)) e in
+    let w = longer-back a 0x800_0000 (n / (2 * a)) (n % (2 * a)) (m - a * a) s (division m a) k (quotient-le m a z)
+    (omega (arith, z .low)) e in
     whole-unique (m * 2 ^ 54) s (rw (whole m a z) at (w .0)) (rw (whole m a z) at (w .1))

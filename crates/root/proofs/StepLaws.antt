@@ -1,8 +1,11 @@
--- A format's finite values counted in steps of its smallest one (2^-1074 for binary64): which numbers of steps are values, and that sign and steps settle a value. Assumes nothing.
+-- A format's finite values counted in steps of its smallest one (2^-1074 for binary64): which numbers of steps are
+-- values, and that sign and steps settle a value. Assumes nothing.
 use mathlib.Core.Path.{_≡_, refl, sym, ap, _∙_, subst}
 use mathlib.Core.Bool.{Bool, true, false, not, _&&_, _||_}
 use Prim.Native.Nat.{ℕ, zero, suc, _+_, _-_, _*_, _/_, _%_, _^_, _≤_, _<_}
-use native.Mathlib.Nat.{mul-left-comm, mul-lt-mul-of-pos-right, le-trans, le-of-eq, le-of-lt, lt-of-not-le, not-le-of-lt, mul-one, one-mul, mul-comm, mul-assoc, mul-div-cancel, mul-pos, mul-le-mul-right, lt-of-mul-lt-mul-right, le-of-mul-le-mul-right, sub-add-cancel, zero-mul}
+use native.Mathlib.Nat.{mul-left-comm, mul-lt-mul-of-pos-right, le-trans, le-of-eq, le-of-lt, lt-of-not-le}
+use native.Mathlib.Nat.{not-le-of-lt, mul-one, one-mul, mul-comm, mul-assoc, mul-div-cancel, mul-pos, mul-le-mul-right}
+use native.Mathlib.Nat.{lt-of-mul-lt-mul-right, le-of-mul-le-mul-right, sub-add-cancel, zero-mul}
 use native.Mathlib.Omega.{arith}
 use lib.IntN.{ℤ, pos, negsuc}
 use lib.Dec.{T, leb, ltb, eqb, leb→le, ltb→lt, lt→ltb, nltb→le, eqb→eq, eqb-refl}
@@ -32,7 +35,8 @@ fitted f s zero e t =
     record {
       small = pow-pos (prec f);
       fine = le-trans (one-of-product (up e) (down e) (up-pos e) (eqb→eq (up e * down e) 1 t)) (pow-pos (low f));
-      under = subst (λ (z : ℕ). z < 2 ^ suc (emax f) * down e) (sym (zero-mul (up e))) (mul-pos (pow-pos (suc (emax f))) (down-pos e));
+      under = subst (λ (z : ℕ). z < 2 ^ suc (emax f) * down e) (sym (zero-mul (up e)))
+          (mul-pos (pow-pos (suc (emax f))) (down-pos e));
     }
 fitted f s (suc m) e t =
     let a = eqb (suc m % 2) 1 in
@@ -84,12 +88,14 @@ steps-exact m u i d l q h =
     let e : m * u * 2 ^ l ≡ m * u * 2 ^ i * d = ap (λ (z : ℕ). m * u * z) (sym q) ∙ sym (mul-assoc (m * u) (2 ^ i) d) in
     ap (λ (z : ℕ). z / d * d) e ∙ ap (λ (z : ℕ). z * d) (mul-div-cancel (m * u * 2 ^ i) h) ∙ sym e
 
-pub steps-value : (f : Format) (x : Float) → T (fits f x) → T (finite x) → HasValue x (signOf x) (stepsIn f x) (2 ^ low f)
+pub steps-value : (f : Format) (x : Float) → T (fits f x) → T (finite x)
+    → HasValue x (signOf x) (stepsIn f x) (2 ^ low f)
 steps-value f nan t b = absurd b
 steps-value f (inf s) t b = absurd b
 steps-value f (fin s m e) t b = go (down-power e (low f) (fitted f s m e t .fine))
   where
-    go : (i : ℕ) × (2 ^ i * down e ≡ 2 ^ low f) → (s ≡ s) × (m * up e * 2 ^ low f ≡ m * up e * 2 ^ low f / down e * down e)
+    go : (i : ℕ) × (2 ^ i * down e ≡ 2 ^ low f)
+        → (s ≡ s) × (m * up e * 2 ^ low f ≡ m * up e * 2 ^ low f / down e * down e)
     go (i, q) = (refl, sym (steps-exact m (up e) i (down e) (low f) q (down-pos e)))
 
 -- and the steps of a value that is known as a number of steps are that number
@@ -100,7 +106,8 @@ steps-of f (fin t m e) s a h = ap (λ (z : ℕ). z / down e) (h .1) ∙ mul-div-
 
 scaled-under : (m u d l t n : ℕ) → 0 < d → m * u < t * d → n * d ≡ m * u * l → 0 < l → n < l * t
 scaled-under m u d l t n h k e p =
-    lt-of-mul-lt-mul-right d (subst (λ (z : ℕ). z < l * t * d) (sym e) (subst (λ (z : ℕ). m * u * l < z) (simp (mul-assoc, mul-comm, mul-left-comm)) (mul-lt-mul-of-pos-right k p)))
+    lt-of-mul-lt-mul-right d (subst (λ (z : ℕ). z < l * t * d) (sym e)
+    (subst (λ (z : ℕ). m * u * l < z) (simp (mul-assoc, mul-comm, mul-left-comm)) (mul-lt-mul-of-pos-right k p)))
 
 pub steps-held : (f : Format) (x : Float) → T (fits f x) → T (finite x) → Held f (stepsIn f x)
 steps-held f nan t b = absurd b
@@ -115,22 +122,27 @@ steps-held f (fin s m e) t b = go (up-power e) (down-power e (low f) (fitted f s
           small = fitted f s m e t .small;
           is = steps-power m j i (down e) (low f) (up e) p q (down-pos e);
           under = subst (λ (z : ℕ). m * up e * 2 ^ low f / down e < z) (sym (pow-add 2 (low f) (suc (emax f))))
-              (scaled-under m (up e) (down e) (2 ^ low f) (2 ^ suc (emax f)) (m * up e * 2 ^ low f / down e) (down-pos e) (fitted f s m e t .under) (steps-exact m (up e) i (down e) (low f) q (down-pos e)) (pow-pos (low f)));
+              (scaled-under m (up e) (down e) (2 ^ low f) (2 ^ suc (emax f)) (m * up e * 2 ^ low f / down e)
+              (down-pos e) (fitted f s m e t .under) (steps-exact m (up e) i (down e) (low f) q (down-pos e))
+              (pow-pos (low f)));
         }
 
 -- ---- sign and steps settle a value of the format
 
-bits-of : (f : Format) (s : Bool) (m : ℕ) (e : ℤ) (n : ℕ) (d : ℤ) → stepsIn f (fin s m e) ≡ stepsIn f (fin s n d) → toBits f (fin s m e) ≡ toBits f (fin s n d)
+bits-of : (f : Format) (s : Bool) (m : ℕ) (e : ℤ) (n : ℕ) (d : ℤ) → stepsIn f (fin s m e) ≡ stepsIn f (fin s n d)
+    → toBits f (fin s m e) ≡ toBits f (fin s n d)
 unfolding toBits
 bits-of f s m e n d h = rw h
 
-pub steps-unique : (f : Format) (x y : Float) → T (fits f x) → T (finite x) → T (fits f y) → T (finite y) → signOf x ≡ signOf y → stepsIn f x ≡ stepsIn f y → x ≡ y
+pub steps-unique : (f : Format) (x y : Float) → T (fits f x) → T (finite x) → T (fits f y) → T (finite y)
+    → signOf x ≡ signOf y → stepsIn f x ≡ stepsIn f y → x ≡ y
 steps-unique f nan y t b u c s h = absurd b
 steps-unique f (inf r) y t b u c s h = absurd b
 steps-unique f (fin r m e) nan t b u c s h = absurd c
 steps-unique f (fin r m e) (inf q) t b u c s h = absurd c
 steps-unique f (fin r m e) (fin q n d) t b u c s h =
-    let i : toBits f (fin r m e) ≡ toBits f (fin q n d) = bits-of f r m e n d h ∙ ap (λ (z : Bool). toBits f (fin z n d)) s in
+    let i : toBits f (fin r m e) ≡ toBits f (fin q n d) =
+    bits-of f r m e n d h ∙ ap (λ (z : Bool). toBits f (fin z n d)) s in
     sym (ofBits-toBits f (fin r m e) t) ∙ ap (λ (z : ℕ). ofBits f z) i ∙ ofBits-toBits f (fin q n d) u
 
 -- ---- the order of values that are not below zero is that of their steps; -0 stands where +0 does
@@ -151,22 +163,29 @@ either true q P h k t = h tt
 either false q P h k t = k t
 
 same-side : (a b : ℕ) (c : Bool) → T (ltb a b || (eqb a b && c)) → a ≤ b
-same-side a b c t = either (ltb a b) (eqb a b && c) (a ≤ b) (λ k. le-of-lt (ltb→lt a b k)) (λ k. le-of-eq (eqb→eq a b (and-l (eqb a b) c k))) t
+same-side a b c t =
+    either (ltb a b) (eqb a b && c) (a ≤ b) (λ k. le-of-lt (ltb→lt a b k))
+    (λ k. le-of-eq (eqb→eq a b (and-l (eqb a b) c k))) t
 
-le→cross : (s : Bool) (m : ℕ) (e : ℤ) (t : Bool) (n : ℕ) (d : ℤ) → T (not (negative s m)) → T (le (fin s m e) (fin t n d)) → m * up e * down d ≤ n * up d * down e
+le→cross : (s : Bool) (m : ℕ) (e : ℤ) (t : Bool) (n : ℕ) (d : ℤ) → T (not (negative s m))
+    → T (le (fin s m e) (fin t n d)) → m * up e * down d ≤ n * up d * down e
 unfolding le
 le→cross true m e t n d h k = le-trans (le-of-eq (product-zero m (up e) (down d) (minus-zero m h))) (omega arith)
-le→cross false m e true n d h k = le-of-eq (eqb→eq (m * up e * down d) (n * up d * down e) (and-l (eqb (m * up e * down d) (n * up d * down e)) (eqb (m * up e * down d) 0) k))
+le→cross false m e true n d h k =
+    le-of-eq (eqb→eq (m * up e * down d) (n * up d * down e)
+    (and-l (eqb (m * up e * down d) (n * up d * down e)) (eqb (m * up e * down d) 0) k))
 le→cross false m e false n d h k = same-side (m * up e * down d) (n * up d * down e) true k
 
-pub le→steps : (f : Format) (x y : Float) → T (fits f x) → T (hasRoot x) → T (fits f y) → T (hasRoot y) → T (le x y) → stepsIn f x ≤ stepsIn f y
+pub le→steps : (f : Format) (x y : Float) → T (fits f x) → T (hasRoot x) → T (fits f y) → T (hasRoot y) → T (le x y)
+    → stepsIn f x ≤ stepsIn f y
 le→steps f nan y t h u k l = absurd h
 le→steps f (inf s) y t h u k l = absurd h
 le→steps f (fin s m e) nan t h u k l = absurd k
 le→steps f (fin s m e) (inf r) t h u k l = absurd k
 le→steps f (fin s m e) (fin r n d) t h u k l =
     le-of-mul-le-mul-right
-    (transfer (stepsIn f (fin s m e)) (stepsIn f (fin r n d)) (2 ^ low f) (2 ^ low f) (m * up e) (n * up d) (down e) (down d) (down-pos e) (down-pos d)
+    (transfer (stepsIn f (fin s m e)) (stepsIn f (fin r n d)) (2 ^ low f) (2 ^ low f) (m * up e) (n * up d) (down e)
+    (down d) (down-pos e) (down-pos d)
     (sym (steps-value f (fin s m e) t tt .1)) (sym (steps-value f (fin r n d) u tt .1)) (le→cross s m e r n d h l))
     (pow-pos (low f))
 
@@ -184,33 +203,43 @@ zero-first : (a b : ℕ) → a ≡ 0 → T (ltb 0 (a + b) || (eqb a b && eqb a 0
 zero-first a b e = go b refl
   where
     go : (c : ℕ) → b ≡ c → T (ltb 0 (a + b) || (eqb a b && eqb a 0))
-    go zero q = or-right (ltb 0 (a + b)) (eqb a b && eqb a 0) (and-i (eqb a b) (eqb a 0) (same-eqb a b (e ∙ sym q)) (zero-eqb a e))
+    go zero q =
+        or-right (ltb 0 (a + b)) (eqb a b && eqb a 0)
+        (and-i (eqb a b) (eqb a 0) (same-eqb a b (e ∙ sym q)) (zero-eqb a e))
     go (suc c) q = or-left (ltb 0 (a + b)) (eqb a b && eqb a 0) (lt→ltb 0 (a + b) (omega arith))
       where
         or-left : (p r : Bool) → T p → T (p || r)
         or-left true r t = tt
         or-left false r t = absurd t
 
-cross→le : (s : Bool) (m : ℕ) (e : ℤ) (t : Bool) (n : ℕ) (d : ℤ) → T (not (negative s m)) → T (not (negative t n)) → m * up e * down d ≤ n * up d * down e → T (le (fin s m e) (fin t n d))
+cross→le : (s : Bool) (m : ℕ) (e : ℤ) (t : Bool) (n : ℕ) (d : ℤ) → T (not (negative s m)) → T (not (negative t n))
+    → m * up e * down d ≤ n * up d * down e → T (le (fin s m e) (fin t n d))
 unfolding le
-cross→le false m e false n d h k l = unfold le in le-of-values (fin false m e) (fin false n d) (m * up e) (down e) (n * up d) (down d) (down-pos e) (down-pos d) (refl, refl) (refl, refl) l
-cross→le true m e false n d h k l = zero-first (m * up e * down d) (n * up d * down e) (product-zero m (up e) (down d) (minus-zero m h))
+cross→le false m e false n d h k l =
+    unfold le in le-of-values (fin false m e) (fin false n d) (m * up e) (down e) (n * up d) (down d) (down-pos e)
+    (down-pos d) (refl, refl) (refl, refl) l
+cross→le true m e false n d h k l =
+    zero-first (m * up e * down d) (n * up d * down e) (product-zero m (up e) (down d) (minus-zero m h))
 cross→le false m e true n d h k l =
     let b : n * up d * down e ≡ 0 = product-zero n (up d) (down e) (minus-zero n k) in
     let a : m * up e * down d ≡ 0 = omega arith in
-    and-i (eqb (m * up e * down d) (n * up d * down e)) (eqb (m * up e * down d) 0) (same-eqb (m * up e * down d) (n * up d * down e) (a ∙ sym b)) (zero-eqb (m * up e * down d) a)
+    and-i (eqb (m * up e * down d) (n * up d * down e)) (eqb (m * up e * down d) 0)
+    (same-eqb (m * up e * down d) (n * up d * down e) (a ∙ sym b)) (zero-eqb (m * up e * down d) a)
 cross→le true m e true n d h k l =
     let a : m * up e * down d ≡ 0 = product-zero m (up e) (down d) (minus-zero m h) in
     let b : n * up d * down e ≡ 0 = product-zero n (up d) (down e) (minus-zero n k) in
     or-right (ltb (n * up d * down e) (m * up e * down d)) (eqb (m * up e * down d) (n * up d * down e) && true)
-    (and-i (eqb (m * up e * down d) (n * up d * down e)) true (same-eqb (m * up e * down d) (n * up d * down e) (a ∙ sym b)) tt)
+    (and-i (eqb (m * up e * down d) (n * up d * down e)) true
+    (same-eqb (m * up e * down d) (n * up d * down e) (a ∙ sym b)) tt)
 
-pub steps→le : (f : Format) (x y : Float) → T (fits f x) → T (hasRoot x) → T (fits f y) → T (hasRoot y) → stepsIn f x ≤ stepsIn f y → T (le x y)
+pub steps→le : (f : Format) (x y : Float) → T (fits f x) → T (hasRoot x) → T (fits f y) → T (hasRoot y)
+    → stepsIn f x ≤ stepsIn f y → T (le x y)
 steps→le f nan y t h u k l = absurd h
 steps→le f (inf s) y t h u k l = absurd h
 steps→le f (fin s m e) nan t h u k l = absurd k
 steps→le f (fin s m e) (inf r) t h u k l = absurd k
 steps→le f (fin s m e) (fin r n d) t h u k l =
     cross→le s m e r n d h k
-    (transfer (m * up e) (n * up d) (down e) (down d) (stepsIn f (fin s m e)) (stepsIn f (fin r n d)) (2 ^ low f) (2 ^ low f) (pow-pos (low f)) (pow-pos (low f))
+    (transfer (m * up e) (n * up d) (down e) (down d) (stepsIn f (fin s m e)) (stepsIn f (fin r n d)) (2 ^ low f)
+    (2 ^ low f) (pow-pos (low f)) (pow-pos (low f))
     (steps-value f (fin s m e) t tt .1) (steps-value f (fin r n d) u tt .1) (mul-le-mul-right (2 ^ low f) l))

@@ -1,4 +1,5 @@
--- What `wholeRoot` and `halves` are: the largest whole number whose square fits, and twice the root as a rounding needs to see it. Assumes nothing.
+-- What `wholeRoot` and `halves` are: the largest whole number whose square fits, and twice the root as a rounding needs
+-- to see it. Assumes nothing.
 use mathlib.Core.Path.{_≡_, refl, sym, subst}
 use mathlib.Core.Bool.{Bool, true, false, not, cond}
 use Prim.Native.Nat.{ℕ, zero, suc, _+_, _*_, _/_, _^_, _≤_, _<_}
@@ -18,9 +19,12 @@ pub record RootPart (n r : ℕ) : Type 0 where
 -- ---- digit by digit
 
 next-digit : (n r : ℕ) → RootPart (n / 4) r → RootPart n (lastDigit n r)
-next-digit n r h = go (leb ((2 * r + 1) * (2 * r + 1)) n) (leb→le ((2 * r + 1) * (2 * r + 1)) n) (nleb→lt ((2 * r + 1) * (2 * r + 1)) n)
+next-digit n r h =
+    go (leb ((2 * r + 1) * (2 * r + 1)) n) (leb→le ((2 * r + 1) * (2 * r + 1)) n)
+    (nleb→lt ((2 * r + 1) * (2 * r + 1)) n)
   where
-    go : (b : Bool) → (T b → (2 * r + 1) * (2 * r + 1) ≤ n) → (T (not b) → n < (2 * r + 1) * (2 * r + 1)) → RootPart n (cond b (2 * r + 1) (2 * r))
+    go : (b : Bool) → (T b → (2 * r + 1) * (2 * r + 1) ≤ n) → (T (not b) → n < (2 * r + 1) * (2 * r + 1))
+        → RootPart n (cond b (2 * r + 1) (2 * r))
     go true y k = record { fits = y tt; largest = omega (arith, h .largest) }
     go false y k = record { fits = omega (arith, h .fits); largest = k tt }
 
@@ -56,12 +60,14 @@ part-mono n m r s p q h = omega (arith, square-lt r (s + 1) (omega (arith, p .fi
 pub whole-unique : (n r : ℕ) → r * r ≤ n → n < (r + 1) * (r + 1) → wholeRoot n ≡ r
 whole-unique n r f l =
     let p : RootPart n r = record { fits = f; largest = l } in
-    le-antisymm (part-mono n n (wholeRoot n) r (whole-part n) p (omega arith)) (part-mono n n r (wholeRoot n) p (whole-part n) (omega arith))
+    le-antisymm (part-mono n n (wholeRoot n) r (whole-part n) p (omega arith))
+    (part-mono n n r (wholeRoot n) p (whole-part n) (omega arith))
 
 pub whole-mono : (n m : ℕ) → n ≤ m → wholeRoot n ≤ wholeRoot m
 whole-mono n m h = part-mono n m (wholeRoot n) (wholeRoot m) (whole-part n) (whole-part m) h
 
--- ---- twice the root, odd where it goes on: against even numbers, which is all that a rounding asks, it stands as twice the exact root does
+-- ---- twice the root, odd where it goes on: against even numbers, which is all that a rounding asks, it stands as
+-- twice the exact root does
 
 -- with the whole part r in hand
 pub halves-at : (n r : ℕ) → r * r ≤ n → n < (r + 1) * (r + 1) → halves n ≡ 2 * r + cond (eqb (r * r) n) 0 1
@@ -79,7 +85,8 @@ halved n =
     let r = wholeRoot n in
     go (eqb (r * r) n) (eqb→eq (r * r) n) (λ (e : r * r ≡ n). subst (λ (z : ℕ). T (eqb (r * r) z)) e (eqb-refl (r * r)))
   where
-    go : (b : Bool) → (T b → wholeRoot n * wholeRoot n ≡ n) → (wholeRoot n * wholeRoot n ≡ n → T b) → Halved n (2 * wholeRoot n + cond b 0 1)
+    go : (b : Bool) → (T b → wholeRoot n * wholeRoot n ≡ n) → (wholeRoot n * wholeRoot n ≡ n → T b)
+        → Halved n (2 * wholeRoot n + cond b 0 1)
     go true y z = whole (wholeRoot n) (y tt) (omega arith)
     go false y z = beyond (wholeRoot n) (lt-of-le-ne (whole-le n) z) (whole-lt n) refl
 
@@ -113,10 +120,12 @@ halves-ge-even n a h = go (halved n)
 
 -- and the other way
 pub even-ge-halves : (n a : ℕ) → halves n ≤ 2 * a → n ≤ a * a
-even-ge-halves n a h = omega (arith, lt-of-not-le (λ (g : a * a + 1 ≤ n). not-le-of-lt (halves-gt-even n a (omega arith)) h))
+even-ge-halves n a h =
+    omega (arith, lt-of-not-le (λ (g : a * a + 1 ≤ n). not-le-of-lt (halves-gt-even n a (omega arith)) h))
 
 pub even-le-halves : (n a : ℕ) → 2 * a ≤ halves n → a * a ≤ n
-even-le-halves n a h = omega (arith, lt-of-not-le (λ (g : n + 1 ≤ a * a). not-le-of-lt (halves-lt-even n a (omega arith)) h))
+even-le-halves n a h =
+    omega (arith, lt-of-not-le (λ (g : n + 1 ≤ a * a). not-le-of-lt (halves-lt-even n a (omega arith)) h))
 
 pub halves-mono : (n m : ℕ) → n ≤ m → halves n ≤ halves m
 halves-mono n m h = go (halved m)

@@ -1,4 +1,5 @@
--- The square root of a binary64 number as IEEE 754 has it: the exact root, rounded once to the nearest. Assumes nothing.
+-- The square root of a binary64 number as IEEE 754 has it: the exact root, rounded once to the nearest. Assumes
+-- nothing.
 use mathlib.Core.Bool.{Bool, cond, _&&_}
 use Prim.Native.Nat.{ℕ, _*_, _/_, _^_}
 use lib.IntN.{ℤ}

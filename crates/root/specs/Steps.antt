@@ -1,4 +1,5 @@
--- Finite values counted in steps of the format's smallest one, their sign, and which of them have a root. Assumes nothing.
+-- Finite values counted in steps of the format's smallest one, their sign, and which of them have a root. Assumes
+-- nothing.
 use mathlib.Core.Bool.{Bool, false, not}
 use Prim.Native.Nat.{ℕ, _*_, _/_, _^_}
 use lib.Ieee.{Float, nan, inf, fin, Format, binary64, low, up, down}

@@ -4,7 +4,8 @@ use Prim.Native.Nat.{ℕ, zero, suc, _+_, _*_, _/_}
 use lib.Dec.{leb, eqb}
 use lib.Ieee.{size}
 
--- a root r of all but the last digit (to base four) with its own last digit (to base two): 1 where that still fits into n
+-- a root r of all but the last digit (to base four) with its own last digit (to base two): 1 where that still fits into
+-- n
 abbrev pub lastDigit : ℕ → ℕ → ℕ
 lastDigit n r = cond (leb ((2 * r + 1) * (2 * r + 1)) n) (2 * r + 1) (2 * r)
 
@@ -22,8 +23,8 @@ wholeRoot n = digits (size n) n
 abbrev pub goesOn : ℕ → ℕ
 goesOn n = cond (eqb (wholeRoot n * wholeRoot n) n) 0 1
 
--- n's root in half steps, as a rounding needs to see it: an even number is a whole root; an odd one, half a step above the whole part, stands
--- for every root between two whole numbers, since it lies on the same side of each of them
+-- n's root in half steps, as a rounding needs to see it: an even number is a whole root; an odd one, half a step above
+-- the whole part, stands for every root between two whole numbers, since it lies on the same side of each of them
 unfoldable pub halves : ℕ → ℕ
 unfolding wholeRoot
 halves n = 2 * wholeRoot n + goesOn n

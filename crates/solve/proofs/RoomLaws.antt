@@ -1,4 +1,5 @@
--- The tour's room through the search: the start writes its front, the improvement changes that part, and the rest is kept. Assumes nothing.
+-- The tour's room through the search: the start writes its front, the improvement changes that part, and the rest is
+-- kept. Assumes nothing.
 use mathlib.Core.Path.{_≡_, sym, ap, _∙_}
 use mathlib.Core.List.{List, _++_}
 use Prim.Native.Nat.{ℕ, _+_, _≤_}

@@ -9,7 +9,8 @@ use Rattle.solve.specs.declared.Outcome.{Outcome}
 
 -- what the start reads of it
 abbrev pub groundIn : Chart → Ground
-groundIn chart = record { home = chart .home; table = chart .table; t = chart .t; first = chart .first; pairs = chart .pairs }
+groundIn chart =
+    record { home = chart .home; table = chart .table; t = chart .t; first = chart .first; pairs = chart .pairs }
 
 -- the start over n contours
 abbrev pub startIn : Chart → ℕ → List ℕ

@@ -1,4 +1,5 @@
--- What a step chooses: a candidate of an open contour; and it chooses one wherever an open contour has one within reach. Assumes nothing.
+-- What a step chooses: a candidate of an open contour; and it chooses one wherever an open contour has one within
+-- reach. Assumes nothing.
 use mathlib.Core.Bool.{Bool, true, false, cond, true≢false}
 use mathlib.Core.List.{List}
 use mathlib.Core.Path.{_≡_, refl, sym, ap, _∙_}
@@ -8,7 +9,8 @@ use lib.Ieee.{lt}
 use lib.ListN.{getD}
 use Rattle.table.proofs.EachLaws.{each-keeps, each-hits}
 use Rattle.points.specs.Numbers.{huge}
-use Rattle.start.specs.Nearest.{Ground, Way, reachOf, nothingYet, closer, offer, offered, isOpen, considered, chosen}
+use Rattle.start.specs.Nearest.{Ground, Way, reachOf, nothingYet, closer, offer, offered, isOpen, considered}
+use Rattle.start.specs.Nearest.{chosen}
 use Rattle.start.specs.declared.Choice.{Choice}
 
 -- candidate a is one of contour k
@@ -31,7 +33,8 @@ module _ (g : Ground) (w : Way) (n : ℕ) where
   unfolding offer closer
   offer-fair k a h o c best q = go (lt (reachOf g w a) (best .distance))
     where
-      go : (b : Bool) → FairIf (cond b (record { distance = reachOf g w a; contour = k; candidate = a; found = true }) best)
+      go : (b : Bool)
+          → FairIf (cond b (record { distance = reachOf g w a; contour = k; candidate = a; found = true }) best)
       go true e = record { within = h; «open» = o; candidate = c }
       go false e = q e
 
@@ -65,7 +68,8 @@ module _ (g : Ground) (w : Way) (n : ℕ) where
   unfolding offer closer
   offer-eager k a best q = go (lt (reachOf g w a) (best .distance))
     where
-      go : (b : Bool) → Eager (cond b (record { distance = reachOf g w a; contour = k; candidate = a; found = true }) best)
+      go : (b : Bool)
+          → Eager (cond b (record { distance = reachOf g w a; contour = k; candidate = a; found = true }) best)
       go true e = absurd (true≢false e)
       go false e = q e
 
@@ -73,7 +77,8 @@ module _ (g : Ground) (w : Way) (n : ℕ) where
   unfolding offer closer
   offer-found k a best q = go (lt (reachOf g w a) (best .distance))
     where
-      go : (b : Bool) → FoundOne (cond b (record { distance = reachOf g w a; contour = k; candidate = a; found = true }) best)
+      go : (b : Bool)
+          → FoundOne (cond b (record { distance = reachOf g w a; contour = k; candidate = a; found = true }) best)
       go true = refl
       go false = q
 

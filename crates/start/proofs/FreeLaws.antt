@@ -31,7 +31,9 @@ unfolding left
 some-left zero visited h = absurd (omega arith)
 some-left (suc n) visited h = go (eqb (getD visited n 0) 0) refl h (some-left n visited)
   where
-    go : (b : Bool) → eqb (getD visited n 0) 0 ≡ b → 0 < cond b 1 0 + left n visited → (0 < left n visited → (k : ℕ) × (k < n) × (getD visited k 0 ≡ 0)) → (k : ℕ) × (k < suc n) × (getD visited k 0 ≡ 0)
+    go : (b : Bool) → eqb (getD visited n 0) 0 ≡ b → 0 < cond b 1 0 + left n visited
+        → (0 < left n visited → (k : ℕ) × (k < n) × (getD visited k 0 ≡ 0))
+        → (k : ℕ) × (k < suc n) × (getD visited k 0 ≡ 0)
     go true e g more = (n, omega arith, eqb-true (getD visited n 0) 0 e)
     go false e g more =
         let w = more (omega arith) in
@@ -47,15 +49,18 @@ beyond (suc n) k visited h =
     rw (e, l)
 
 -- visiting one leaves one less
-pub one-less : (n k : ℕ) (visited : List ℕ) → k < n → k < length visited → getD visited k 0 ≡ 0 → left n (set visited k 1) + 1 ≡ left n visited
+pub one-less : (n k : ℕ) (visited : List ℕ) → k < n → k < length visited → getD visited k 0 ≡ 0
+    → left n (set visited k 1) + 1 ≡ left n visited
 unfolding left
 one-less zero k visited h g e = absurd (omega arith)
 one-less (suc n) k visited h g e = go (eq-or-lt-of-le (le-of-suc-le-suc h)) (λ l. one-less n k visited l g e)
   where
     go : (k ≡ n) ⊎ (k < n) → (k < n → left n (set visited k 1) + 1 ≡ left n visited)
-        → cond (eqb (getD (set visited k 1) n 0) 0) 1 0 + left n (set visited k 1) + 1 ≡ cond (eqb (getD visited n 0) 0) 1 0 + left n visited
+        → cond (eqb (getD (set visited k 1) n 0) 0) 1 0 + left n (set visited k 1) + 1
+        ≡ cond (eqb (getD visited n 0) 0) 1 0 + left n visited
     go (inl q) more =
-        let now : getD (set visited k 1) n 0 ≡ 1 = ap (λ (x : ℕ). getD (set visited k 1) x 0) (sym q) ∙ getD-set-same visited k 1 0 g in
+        let now : getD (set visited k 1) n 0 ≡ 1 =
+        ap (λ (x : ℕ). getD (set visited k 1) x 0) (sym q) ∙ getD-set-same visited k 1 0 g in
         let was : getD visited n 0 ≡ 0 = ap (λ (x : ℕ). getD visited x 0) (sym q) ∙ e in
         let b : left n (set visited k 1) ≡ left n visited = beyond n k visited (omega arith) in
         rw (now, was, b) (omega arith)

@@ -1,4 +1,5 @@
--- A start over pairs without a cycle visits every contour once, and no contour before one that must come first. Assumes nothing.
+-- A start over pairs without a cycle visits every contour once, and no contour before one that must come first. Assumes
+-- nothing.
 use mathlib.Core.Bool.{Bool, true, false, not, true≢false, _&&_, _||_}
 use mathlib.Core.List.{List, [], _∷_, _++_, map}
 use mathlib.Core.Logic.{_⊎_, ⊎-elim}
@@ -22,7 +23,8 @@ use Rattle.keep.specs.Legal.{Legal}
 use Rattle.table.specs.Each.{each}
 use Rattle.table.specs.Evaluate.{homeAt, distanceAt}
 use Rattle.points.specs.Numbers.{huge}
-use Rattle.start.specs.Nearest.{Ground, Way, reachOf, isOpen, chosen, visit, step, flagCount, setOut, walked, nearest}
+use Rattle.start.specs.Nearest.{Ground, Way, reachOf, isOpen, chosen, visit, step, flagCount, setOut, walked}
+use Rattle.start.specs.Nearest.{nearest}
 use Rattle.start.specs.declared.Choice.{Choice}
 use Rattle.start.proofs.ChoiceLaws.{InContour, Fair, chosen-fair, chosen-found}
 use Rattle.start.proofs.FreeLaws.{left, left-all, some-left, one-less}
@@ -49,7 +51,8 @@ pub record Come (g : Ground) (n i : ℕ) (w : Way) : Type 0 where
   pub candidate : (q : ℕ) → q < i → InContour (g .first) (getD order q 0) (getD (w .tour) q 0)
   pub met : (k : ℕ) → (getD (w .visited) k 0 ≡ 0 → ⊥) → (q : ℕ) × (q < i) × (getD order q 0 ≡ k)
   pub once : (p q : ℕ) → p < i → q < i → getD order p 0 ≡ getD order q 0 → p ≡ q
-  pub after : (q b : ℕ) → q < i → linked n (g .pairs) b (getD order q 0) ≡ true → (p : ℕ) × (p < q) × (getD order p 0 ≡ b)
+  pub after : (q b : ℕ) → q < i → linked n (g .pairs) b (getD order q 0) ≡ true
+      → (p : ℕ) × (p < q) × (getD order p 0 ≡ b)
 
 -- an entry before the last one, and the last one
 earlier : (l : List ℕ) (a q : ℕ) → q < length l → getD (l ++ (a ∷ [])) q 0 ≡ getD l q 0
@@ -66,10 +69,12 @@ not-zero : (a : ℕ) → not (eqb a 0) ≡ true → a ≡ 0 → ⊥
 not-zero a e z = true≢false (sym e ∙ ap not (eq-eqb a 0 z))
 
 -- before a contour that is ready, whatever a pair puts there is visited
-ready-visited : (n : ℕ) (visited pairs : List ℕ) (b k : ℕ) → readyIn visited pairs k ≡ true → linked n pairs b k ≡ true → getD visited b 0 ≡ 0 → ⊥
+ready-visited : (n : ℕ) (visited pairs : List ℕ) (b k : ℕ) → readyIn visited pairs k ≡ true
+    → linked n pairs b k ≡ true → getD visited b 0 ≡ 0 → ⊥
 unfolding readyIn readyBy
 ready-visited n visited pairs b k r l =
-    let e : readyBy visited k (record { before = b; after = k }) ≡ true = every-at (readyBy visited k) (paired pairs) b k r (pair-linked n pairs b k l) in
+    let e : readyBy visited k (record { before = b; after = k }) ≡ true =
+    every-at (readyBy visited k) (paired pairs) b k r (pair-linked n pairs b k l) in
     not-zero (getD visited b 0) (or-else (not (eqb k k)) (not (eqb (getD visited b 0) 0)) e (ap not (eq-eqb k k refl)))
 
 -- an open contour: not visited, and ready
@@ -124,7 +129,8 @@ module _ (g : Ground) (n i : ℕ) (w : Way) (c : Come g n i w) (small : n ≤ fl
     within = λ q l. ⊎-elim (λ (e : q ≡ i). rw (e, new) h) (λ (s : q < i). rw (old q s) (c .within q s)) (split q l);
     marked = λ q l. ⊎-elim
         (λ (e : q ≡ i). rw (e, new) (getD-set-same (w .visited) k 1 0 room))
-        (λ (s : q < i). rw (old q s) (getD-set-other (w .visited) k (getD (c .order) q 0) 1 0 (not-yet q s) ∙ c .marked q s)) (split q l);
+        (λ (s : q < i). rw (old q s) (getD-set-other (w .visited) k (getD (c .order) q 0) 1 0 (not-yet q s)
+        ∙ c .marked q s)) (split q l);
     candidate = λ q l. ⊎-elim
         (λ (e : q ≡ i). rw (e, new, newest (w .tour) a i (c .long)) m)
         (λ (s : q < i). rw (old q s, earlier (w .tour) a q (rw (c .long) s)) (c .candidate q s)) (split q l);
@@ -135,13 +141,16 @@ module _ (g : Ground) (n i : ℕ) (w : Way) (c : Come g n i w) (small : n ≤ fl
         (f .0, omega (arith, f .1), old (f .0) (f .1) ∙ f .2)) (same-or x k);
     once = λ p q l r e. ⊎-elim
         (λ (x : p ≡ i). ⊎-elim (λ (y : q ≡ i). x ∙ sym y)
-        (λ (y : q < i). absurd (not-yet q y (sym (old q y) ∙ sym e ∙ ap (λ (z : ℕ). getD (c .order ++ (k ∷ [])) z 0) x ∙ new))) (split q r))
+        (λ (y : q < i). absurd (not-yet q y (sym (old q y) ∙ sym e ∙ ap (λ (z : ℕ). getD (c .order ++ (k ∷ [])) z 0) x
+        ∙ new))) (split q r))
         (λ (x : p < i). ⊎-elim
-        (λ (y : q ≡ i). absurd (not-yet p x (sym (old p x) ∙ e ∙ ap (λ (z : ℕ). getD (c .order ++ (k ∷ [])) z 0) y ∙ new)))
+        (λ (y : q ≡ i). absurd (not-yet p x (sym (old p x) ∙ e ∙ ap (λ (z : ℕ). getD (c .order ++ (k ∷ [])) z 0) y
+        ∙ new)))
         (λ (y : q < i). c .once p q x y (sym (old p x) ∙ e ∙ old q y)) (split q r)) (split p l);
     after = λ q b l t. ⊎-elim
         (λ (e : q ≡ i).
-        let link : linked n (g .pairs) b k ≡ true = ap (linked n (g .pairs) b) (sym (ap (λ (z : ℕ). getD (c .order ++ (k ∷ [])) z 0) e ∙ new)) ∙ t in
+        let link : linked n (g .pairs) b k ≡ true =
+        ap (linked n (g .pairs) b) (sym (ap (λ (z : ℕ). getD (c .order ++ (k ∷ [])) z 0) e ∙ new)) ∙ t in
         let f = c .met b (ready-visited n (w .visited) (g .pairs) b k (open-ready g w k o) link) in
         (f .0, omega (arith, f .1), old (f .0) (f .1) ∙ f .2))
         (λ (s : q < i).
@@ -154,7 +163,8 @@ module _ (g : Ground) (n i : ℕ) (w : Way) (c : Come g n i w) (small : n ≤ fl
 suc-sub-one : (i : ℕ) → suc i - 1 ≡ i
 suc-sub-one i = omega arith
 
-module _ (g : Ground) (n : ℕ) (near : Within g n) (free : Acyclic n (g .pairs)) (low : every (both n) (paired (g .pairs)) ≡ true) (small : n ≤ flagCount) where
+module _ (g : Ground) (n : ℕ) (near : Within g n) (free : Acyclic n (g .pairs))
+    (low : every (both n) (paired (g .pairs)) ≡ true) (small : n ≤ flagCount) where
   -- the first candidate of a contour not yet visited is within reach
   in-reach : (i : ℕ) (w : Way) → Come g n i w → (k a : ℕ) → k < n → getD (w .visited) k 0 ≡ 0 → InContour (g .first) k a
       → lt (reachOf g w a) huge ≡ true
@@ -162,7 +172,8 @@ module _ (g : Ground) (n : ℕ) (near : Within g n) (free : Acyclic n (g .pairs)
   in-reach zero w c k a h e m = rw (c .long) (near .home k a h m)
   in-reach (suc i) w c k a h e m =
       rw (c .long, ne-eqb (suc i) 0 (omega arith), suc-sub-one i)
-      (near .apart k (getD (c .order) i 0) a (getD (w .tour) i 0) h (c .within i (omega arith)) other m (c .candidate i (omega arith)))
+      (near .apart k (getD (c .order) i 0) a (getD (w .tour) i 0) h (c .within i (omega arith)) other m
+      (c .candidate i (omega arith)))
     where
       other : k ≡ getD (c .order) i 0 → ⊥
       other q =
@@ -181,11 +192,13 @@ module _ (g : Ground) (n : ℕ) (near : Within g n) (free : Acyclic n (g .pairs)
       choice = chosen g w n
 
       taken : choice .found ≡ true → Fair g w n choice → Come g n (suc i) (visit choice w)
-      taken e f = rw e (come-more g n i w c small (choice .contour) (choice .candidate) (f .within) (f .«open») (f .candidate))
+      taken e f =
+          rw e (come-more g n i w c small (choice .contour) (choice .candidate) (f .within) (f .«open») (f .candidate))
 
       go : (m : ℕ) × ReadyNext n (w .visited) (g .pairs) m → Come g n (suc i) (visit choice w)
       go (m, r) =
-          let first : InContour (g .first) m (getD (g .first) m 0) = record { from = omega arith; to = near .some m (r .within) } in
+          let first : InContour (g .first) m (getD (g .first) m 0) =
+          record { from = omega arith; to = near .some m (r .within) } in
           let e : choice .found ≡ true =
           chosen-found g w n m (getD (g .first) m 0) (r .within) (ready-open g w m (r .unvisited) (r .ready)) first
           (in-reach i w c m (getD (g .first) m 0) (r .within) (r .unvisited) first) in
@@ -194,7 +207,9 @@ module _ (g : Ground) (n : ℕ) (near : Within g n) (free : Acyclic n (g .pairs)
   come-all : (k a i : ℕ) (w : Way) → i + k ≤ n → Come g n i w → Come g n (i + k) (each (step g n) k a w)
   unfolding each
   come-all zero a i w l c = rw (add-zero i) c
-  come-all (suc k) a i w l c = rw (add-suc i k, ← suc-add i k) (come-all k (suc a) (suc i) (step g n a w) (omega arith) (come-step i a w (omega arith) c))
+  come-all (suc k) a i w l c =
+      rw (add-suc i k, ← suc-add i k) (come-all k (suc a) (suc i) (step g n a w) (omega arith)
+      (come-step i a w (omega arith) c))
 
 -- nothing is marked at first
 none-marked : (size k : ℕ) → _≡_ {A = ℕ} (getD (replicate size 0) k 0) 0
@@ -202,7 +217,8 @@ none-marked zero k = refl
 none-marked (suc size) zero = refl
 none-marked (suc size) (suc k) = none-marked size k
 
-come-none : (g : Ground) (n size : ℕ) → size ≡ flagCount → n ≤ size → Come g n 0 (record { tour = []; visited = replicate size 0 })
+come-none : (g : Ground) (n size : ℕ) → size ≡ flagCount → n ≤ size
+    → Come g n 0 (record { tour = []; visited = replicate size 0 })
 come-none g n size s h = record {
   order = [];
   size = refl;
@@ -227,11 +243,13 @@ stopsOf owner tour = map (λ a. getD owner a 0) tour
 abbrev pub OwnedBy : List ℕ → List ℕ → Type 0
 OwnedBy owner first = (k a : ℕ) → getD first k 0 ≤ a → a < getD first (suc k) 0 → getD owner a 0 ≡ k
 
-module _ (g : Ground) (n : ℕ) (near : Within g n) (free : Acyclic n (g .pairs)) (low : every (both n) (paired (g .pairs)) ≡ true) (most : n ≤ CONTOURS) where
+module _ (g : Ground) (n : ℕ) (near : Within g n) (free : Acyclic n (g .pairs))
+    (low : every (both n) (paired (g .pairs)) ≡ true) (most : n ≤ CONTOURS) where
   come : Come g n n (walked g n)
   unfolding walked
   come =
-      let all = come-all g n near free low (omega arith) n 0 0 setOut (omega arith) (come-none g n flagCount refl (omega arith)) in
+      let all = come-all g n near free low (omega arith) n 0 0 setOut (omega arith)
+      (come-none g n flagCount refl (omega arith)) in
       subst (λ (x : ℕ). Come g n x (each (step g n) n 0 setOut)) (zero-add n) all
 
   nearest-is : nearest g n ≡ walked g n .tour
@@ -245,11 +263,15 @@ module _ (g : Ground) (n : ℕ) (near : Within g n) (free : Acyclic n (g .pairs)
   -- the contours in the order of the tour
   stops-are : (owner : List ℕ) → OwnedBy owner (g .first) → stopsOf owner (walked g n .tour) ≡ come .order
   stops-are owner owned =
-      let size : length (stopsOf owner (walked g n .tour)) ≡ n = length-map (walked g n .tour) (λ a. getD owner a 0) ∙ come .long in
-      ext-getD 0 (stopsOf owner (walked g n .tour)) (come .order) (size ∙ sym (come .size)) (λ q l. same q (rw (sym size) l))
+      let size : length (stopsOf owner (walked g n .tour)) ≡ n =
+      length-map (walked g n .tour) (λ a. getD owner a 0) ∙ come .long in
+      ext-getD 0 (stopsOf owner (walked g n .tour)) (come .order) (size ∙ sym (come .size))
+      (λ q l. same q (rw (sym size) l))
     where
       same : (q : ℕ) → q < n → getD (stopsOf owner (walked g n .tour)) q 0 ≡ getD (come .order) q 0
-      same q l = at (walked g n .tour) q (rw (come .long) l) ∙ owned (getD (come .order) q 0) (getD (walked g n .tour) q 0) (come .candidate q l .from) (come .candidate q l .to)
+      same q l = at (walked g n .tour) q (rw (come .long) l)
+          ∙ owned (getD (come .order) q 0) (getD (walked g n .tour) q 0) (come .candidate q l .from)
+          (come .candidate q l .to)
         where
           at : (l : List ℕ) (q : ℕ) → q < length l → getD (stopsOf owner l) q 0 ≡ getD owner (getD l q 0) 0
           at [] q h = absurd (omega arith)
@@ -270,5 +292,7 @@ module _ (g : Ground) (n : ℕ) (near : Within g n) (free : Acyclic n (g .pairs)
   start-legal owner owned = rw (nearest-is, stops-are owner owned) legal
 
   -- so the start keeps the pairs
-  pub start-keeps : (owner : List ℕ) → OwnedBy owner (g .first) → keepsPairs (stopsOf owner (nearest g n)) (g .pairs) ≡ true
-  start-keeps owner owned = legal-keeps n (stopsOf owner (nearest g n)) (start-legal owner owned .each) (g .pairs) (start-legal owner owned)
+  pub start-keeps : (owner : List ℕ) → OwnedBy owner (g .first)
+      → keepsPairs (stopsOf owner (nearest g n)) (g .pairs) ≡ true
+  start-keeps owner owned =
+      legal-keeps n (stopsOf owner (nearest g n)) (start-legal owner owned .each) (g .pairs) (start-legal owner owned)

@@ -15,7 +15,8 @@ use Rattle.keep.specs.Keep.{readyIn}
 use Rattle.table.specs.Each.{each}
 use Rattle.table.specs.Evaluate.{homeAt, distanceAt}
 use Rattle.start.specs.Code.{groundOf, Tells, Written}
-use Rattle.start.specs.Nearest.{reachOf, closer, offer, offered, isOpen, considered, chosen, nothingYet, Ground, Way, lastOf, visit, step, setOut, walked, nearest}
+use Rattle.start.specs.Nearest.{reachOf, closer, offer, offered, isOpen, considered, chosen, nothingYet, Ground}
+use Rattle.start.specs.Nearest.{Way, lastOf, visit, step, setOut, walked, nearest}
 use Rattle.start.specs.declared.Choice.{Choice}
 
 -- ---- how far
@@ -97,7 +98,8 @@ abbrev pub wayOf : List ℕ → List ℕ → ℕ → Way
 wayOf tour visited made = record { tour = take made tour; visited = visited }
 
 -- what the code keeps beside it tells where it has come to
-pub way-told : (home table : List Float) (t : ℕ) (first pairs tour visited : List ℕ) (made last : ℕ) → made < length tour
+pub way-told : (home table : List Float) (t : ℕ) (first pairs tour visited : List ℕ) (made last : ℕ)
+    → made < length tour
     → last ≡ lastOf (take made tour)
     → Tells home table t made last (groundOf home table t first pairs) (wayOf tour visited made)
 way-told home table t first pairs tour visited made last h l =
@@ -117,7 +119,8 @@ module _ (g : Ground) (n i : ℕ) (tour visited : List ℕ) (made : ℕ) (choice
 
   -- the choice becomes the last entry
   pub step-goes : choice .found ≡ true
-      → step g n i (wayOf tour visited made) ≡ wayOf (set tour made (choice .candidate)) (set visited (choice .contour) 1) (made + 1)
+      → step g n i (wayOf tour visited made)
+      ≡ wayOf (set tour made (choice .candidate)) (set visited (choice .contour) 1) (made + 1)
   unfolding visit
   step-goes e = step-visits ∙ rw (e, add-one made, take-suc-set tour made (choice .candidate) h)
 
@@ -129,13 +132,17 @@ last-written tour made a h =
     (sym (getD-at (take made tour) a [] 0 made e))
 
 -- the rest of the room stays
-pub rest-kept : (tour room : List ℕ) (made a : ℕ) → drop made tour ≡ drop made room → drop (made + 1) (set tour made a) ≡ drop (made + 1) room
+pub rest-kept : (tour room : List ℕ) (made a : ℕ) → drop made tour ≡ drop made room
+    → drop (made + 1) (set tour made a) ≡ drop (made + 1) room
 rest-kept tour room made a e =
-    drop-set-lt (made + 1) tour made a (omega arith) ∙ sym (drop-drop 1 made tour) ∙ ap (drop 1) e ∙ drop-drop 1 made room
+    drop-set-lt (made + 1) tour made a (omega arith) ∙ sym (drop-drop 1 made tour) ∙ ap (drop 1) e
+    ∙ drop-drop 1 made room
 
 -- all steps made, the room holds the tour and its old rest
-pub written : (g : Ground) (n : ℕ) (tour room visited : List ℕ) (made : ℕ) → length room ≡ n → n ≤ CONTOURS → made ≤ length tour
-    → wayOf tour visited made ≡ each (step g n) n 0 setOut → drop made tour ≡ drop made room → Written (nearest g n) room made tour
+pub written : (g : Ground) (n : ℕ) (tour room visited : List ℕ) (made : ℕ) → length room ≡ n → n ≤ CONTOURS
+    → made ≤ length tour
+    → wayOf tour visited made ≡ each (step g n) n 0 setOut → drop made tour ≡ drop made room
+    → Written (nearest g n) room made tour
 unfolding nearest walked
 written g n tour room visited made m h k w e =
     let q : nearest g n ≡ take made tour = rw (le-leb n CONTOURS h) (sym (ap (λ (x : Way). x .tour) w)) in

@@ -12,8 +12,8 @@ use Rattle.table.specs.Each.{each}
 use Rattle.table.specs.Evaluate.{homeAt, distanceAt}
 use Rattle.start.specs.declared.Choice.{Choice}
 
--- what a start reads: the distances from home and between the t candidates, the number of each contour's first candidate with
--- the number of all at the end, and which contours come before which
+-- what a start reads: the distances from home and between the t candidates, the number of each contour's first
+-- candidate with the number of all at the end, and which contours come before which
 pub record Ground : Type 0 where
   pub home : List Float
   pub table : List Float
@@ -46,7 +46,8 @@ nothingYet = record { distance = huge; contour = 0; candidate = 0; found = false
 
 -- candidate a of contour k at distance d, if it is strictly nearer than the choice so far
 unfoldable pub closer : Float → ℕ → ℕ → Choice → Choice
-closer d k a best = cond (lt d (best .distance)) (record { distance = d; contour = k; candidate = a; found = true }) best
+closer d k a best =
+    cond (lt d (best .distance)) (record { distance = d; contour = k; candidate = a; found = true }) best
 
 -- candidate a of contour k, so far away as it is
 unfoldable pub offer : Ground → Way → ℕ → ℕ → Choice → Choice
@@ -75,11 +76,11 @@ chosen g w n = each (considered g w) n 0 nothingYet
 -- the choice is visited, if there was one
 unfoldable pub visit : Choice → Way → Way
 visit choice w =
-    cond (choice .found) (record {
+    let after = record {
       tour = w .tour ++ (choice .candidate ∷ []);
-      visited = set (w .visited)
-          (choice .contour) 1;
-    }) w
+      visited = set (w .visited) (choice .contour) 1;
+    } in
+    cond (choice .found) after w
 
 -- one step over n contours; which one it is makes no difference
 unfoldable pub step : Ground → ℕ → ℕ → Way → Way

@@ -17,14 +17,16 @@ use Rattle.table.proofs.RoomLaws.{row-length}
 
 pub distances-length : (cs : List Candidate) (owner : List ℕ) → length (distancesOf cs owner) ≡ length cs * length cs
 unfolding distancesOf
-distances-length cs owner = chained-length (rowOf cs owner (length cs)) (length cs) (row-length cs owner (length cs)) (length cs) 0
+distances-length cs owner =
+    chained-length (rowOf cs owner (length cs)) (length cs) (row-length cs owner (length cs)) (length cs) 0
 
 module _ (cs : List Candidate) (owner : List ℕ) (a b : ℕ) (here : a < length cs) (there : b < length cs) where
   -- the entry for a and b is the way from a to b
   pub distances-at : distanceAt (distancesOf cs owner) (length cs) a b ≡ legAt cs owner a b
   unfolding distancesOf rowOf
   distances-at =
-      chained-at (rowOf cs owner (length cs)) (length cs) (row-length cs owner (length cs)) (length cs) 0 a b nan here there
+      chained-at (rowOf cs owner (length cs)) (length cs) (row-length cs owner (length cs)) (length cs) 0 a b nan here
+      there
       ∙ rw zero-add (listed-at (legAt cs owner a) (length cs) 0 b nan there ∙ rw zero-add)
 
   -- which is the largest float within one contour
@@ -34,7 +36,8 @@ module _ (cs : List Candidate) (owner : List ℕ) (a b : ℕ) (here : a < length
 
   -- and else the distance from where a's cut ends to where b is pierced
   pub other-contour : (getD owner a 0 ≡ getD owner b 0 → ⊥) →
-      distanceAt (distancesOf cs owner) (length cs) a b ≡ distanceOf (left (getD cs a absent)) (pierced (getD cs b absent))
+      distanceAt (distancesOf cs owner) (length cs) a b
+      ≡ distanceOf (left (getD cs a absent)) (pierced (getD cs b absent))
   unfolding legAt legOf
   other-contour other = rw (distances-at, ne-eqb (getD owner a 0) (getD owner b 0) other)
 
@@ -42,6 +45,7 @@ pub homes-length : (cs : List Candidate) (home : Point) → length (homesOf cs h
 unfolding homesOf
 homes-length cs home = listed-length (homeLeg cs home) (length cs) 0
 
-pub homes-at : (cs : List Candidate) (home : Point) (a : ℕ) → a < length cs → homeAt (homesOf cs home) a ≡ distanceOf home (pierced (getD cs a absent))
+pub homes-at : (cs : List Candidate) (home : Point) (a : ℕ) → a < length cs
+    → homeAt (homesOf cs home) a ≡ distanceOf home (pierced (getD cs a absent))
 unfolding homesOf homeLeg
 homes-at cs home a here = listed-at (homeLeg cs home) (length cs) 0 a nan here ∙ rw zero-add

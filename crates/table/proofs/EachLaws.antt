@@ -21,7 +21,8 @@ module _ {S : Type 0} (step : ℕ → S → S) where
   begin-zero end s = rw (sub-zero end)
 
   -- one step more
-  pub carry : (end a : ℕ) (s next whole : S) → onwards step end a s ≡ whole → a < end → step a s ≡ next → onwards step end (a + 1) next ≡ whole
+  pub carry : (end a : ℕ) (s next whole : S) → onwards step end a s ≡ whole → a < end → step a s ≡ next
+      → onwards step end (a + 1) next ≡ whole
   unfolding onwards each
   carry end a s next whole so-far h e =
       let left : end - a ≡ suc (end - suc a) = omega arith in
@@ -43,16 +44,20 @@ pub each-keeps : {S : Type 0} (P : S → Type 0) (step : ℕ → S → S) (k a :
 unfolding each
 each-keeps P step zero a h s p = p
 each-keeps P step (suc k) a h s p =
-    each-keeps P step k (suc a) (λ i l g. h i (omega arith) (omega arith)) (step a s) (h a (omega arith) (omega arith) s p)
+    each-keeps P step k (suc a) (λ i l g. h i (omega arith) (omega arith)) (step a s)
+    (h a (omega arith) (omega arith) s p)
 
 -- what step m brings about, and every step keeps, holds at the end of a loop that has step m
 pub each-hits : {S : Type 0} (P Q : S → Type 0) (step : ℕ → S → S) (m : ℕ) → ((i : ℕ) (s : S) → Q s → Q (step i s))
-    → ((i : ℕ) (s : S) → P s → P (step i s)) → ((s : S) → Q s → P (step m s)) → (k a : ℕ) → a ≤ m → m < a + k → (s : S) → Q s → P (each step k a s)
+    → ((i : ℕ) (s : S) → P s → P (step i s)) → ((s : S) → Q s → P (step m s)) → (k a : ℕ) → a ≤ m → m < a + k
+    → (s : S) → Q s → P (each step k a s)
 unfolding each
 each-hits P Q step m keeps stays hits zero a h g s q = absurd (omega arith)
 each-hits P Q step m keeps stays hits (suc k) a h g s q =
-    go (eq-or-lt-of-le h) (λ l. each-hits P Q step m keeps stays hits k (suc a) l (omega arith) (step a s) (keeps a s q))
+    go (eq-or-lt-of-le h) (λ l. each-hits P Q step m keeps stays hits k (suc a) l (omega arith) (step a s)
+    (keeps a s q))
   where
     go : (a ≡ m) ⊎ (a < m) → (a < m → P (each step k (suc a) (step a s))) → P (each step k (suc a) (step a s))
-    go (inl e) later = each-keeps P step k (suc a) (λ i l r. stays i) (step a s) (subst (λ (x : ℕ). P (step x s)) (sym e) (hits s q))
+    go (inl e) later =
+        each-keeps P step k (suc a) (λ i l r. stays i) (step a s) (subst (λ (x : ℕ). P (step x s)) (sym e) (hits s q))
     go (inr l) later = later l

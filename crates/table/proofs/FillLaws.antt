@@ -31,44 +31,67 @@ module _ {A : Type 0} where
   listed-more f k = rw add-one (listed-last f k 0 ∙ rw zero-add)
 
   -- one entry more, written at the first place that is not filled
-  pub entry-more : (f : ℕ → A) (k : ℕ) (room now : List A) (v : A) → k < length room → now ≡ listed f k 0 ++ drop k room → v ≡ f k →
+  pub entry-more : (f : ℕ → A) (k : ℕ) (room now : List A) (v : A) → k < length room
+      → now ≡ listed f k 0 ++ drop k room → v ≡ f k →
       set now k v ≡ listed f (k + 1) 0 ++ drop (k + 1) room
   entry-more f k room now v h e q =
-      rw (e, drop-cons room k v h, listed-more f k, add-one k, append-assoc, ← q) (set-at (listed f k 0) (getD room k v) (drop (suc k) room) v k (listed-length f k 0))
+      rw (e, drop-cons room k v h, listed-more f k, add-one k, append-assoc, ← q)
+      (set-at (listed f k 0) (getD room k v) (drop (suc k) room) v k (listed-length f k 0))
 
   -- lists of t each, one after the other
-  pub chained-length : (f : ℕ → List A) (t : ℕ) → ((i : ℕ) → length (f i) ≡ t) → (k a : ℕ) → length (chained f k a) ≡ k * t
+  pub chained-length : (f : ℕ → List A) (t : ℕ) → ((i : ℕ) → length (f i) ≡ t) → (k a : ℕ)
+      → length (chained f k a) ≡ k * t
   unfolding chained
   chained-length f t size zero a = sym (zero-mul t)
-  chained-length f t size (suc k) a = length-append (f a) (chained f k (suc a)) ∙ rw (size a, chained-length f t size k (suc a), suc-mul k t) (add-comm t (k * t))
+  chained-length f t size (suc k) a =
+      length-append (f a) (chained f k (suc a))
+      ∙ rw (size a, chained-length f t size k (suc a), suc-mul k t) (add-comm t (k * t))
 
   -- entry j of list i
-  pub chained-at : (f : ℕ → List A) (t : ℕ) → ((i : ℕ) → length (f i) ≡ t) → (k a i j : ℕ) (d : A) → i < k → j < t → getD (chained f k a) (i * t + j) d ≡ getD (f (a + i)) j d
+  pub chained-at : (f : ℕ → List A) (t : ℕ) → ((i : ℕ) → length (f i) ≡ t) → (k a i j : ℕ) (d : A) → i < k → j < t
+      → getD (chained f k a) (i * t + j) d ≡ getD (f (a + i)) j d
   unfolding chained
   chained-at f t size zero a i j d h g = absurd (omega arith)
-  chained-at f t size (suc k) a zero j d h g = rw (zero-mul, zero-add, add-zero) (List·getD-append (f a) (chained f k (suc a)) d j (rw (size a) g))
+  chained-at f t size (suc k) a zero j d h g =
+      rw (zero-mul, zero-add, add-zero) (List·getD-append (f a) (chained f k (suc a)) d j (rw (size a) g))
   chained-at f t size (suc k) a (suc i) j d h g =
       let e : suc i * t + j ≡ length (f a) + (i * t + j) = omega (arith, size a, suc-mul i t) in
-      rw (e, getD-append-add (f a) (chained f k (suc a)) (i * t + j) d, add-suc, ← suc-add) (chained-at f t size k (suc a) i j d (omega arith) g)
+      rw (e, getD-append-add (f a) (chained f k (suc a)) (i * t + j) d, add-suc, ← suc-add)
+      (chained-at f t size k (suc a) i j d (omega arith) g)
 
   chained-last : (f : ℕ → List A) (k a : ℕ) → chained f (suc k) a ≡ chained f k a ++ f (a + k)
   unfolding chained
   chained-last f zero a = rw add-zero (append-nil (f a))
-  chained-last f (suc k) a = ap (λ (l : List A). f a ++ l) (chained-last f k (suc a)) ∙ rw (add-suc, ← suc-add) (sym (append-assoc (f a) (chained f k (suc a)) (f (suc a + k))))
+  chained-last f (suc k) a =
+      ap (λ (l : List A). f a ++ l) (chained-last f k (suc a))
+      ∙ rw (add-suc, ← suc-add) (sym (append-assoc (f a) (chained f k (suc a)) (f (suc a + k))))
 
   chained-more : (f : ℕ → List A) (k : ℕ) → chained f (k + 1) 0 ≡ chained f k 0 ++ f k
   chained-more f k = rw add-one (chained-last f k 0 ∙ rw zero-add)
 
   -- one list more, written to the rest of the room, which was lent for it
-  pub list-more : (f : ℕ → List A) (t : ℕ) → ((i : ℕ) → length (f i) ≡ t) → (k : ℕ) (room now part : List A) → now ≡ chained f k 0 ++ drop (k * t) room →
+  pub list-more : (f : ℕ → List A) (t : ℕ) → ((i : ℕ) → length (f i) ≡ t) → (k : ℕ) (room now part : List A)
+      → now ≡ chained f k 0 ++ drop (k * t) room →
       part ≡ f k ++ drop t (take (length now - k * t) (drop (k * t) now)) →
-      take (k * t) now ++ (part ++ drop (length now - k * t) (drop (k * t) now)) ≡ chained f (k + 1) 0 ++ drop ((k + 1) * t) room
+      take (k * t) now ++ (part ++ drop (length now - k * t) (drop (k * t) now))
+      ≡ chained f (k + 1) 0 ++ drop ((k + 1) * t) room
   list-more f t size k room now part so-far e =
       let l : length (chained f k 0) ≡ k * t = chained-length f t size k 0 in
-      let front : take (k * t) now ≡ chained f k 0 = rw so-far (take-at (chained f k 0) (drop (k * t) room) (k * t) l) in
-      let back : drop (k * t) now ≡ drop (k * t) room = rw so-far (drop-at (chained f k 0) (drop (k * t) room) (k * t) l) in
+      let front : take (k * t) now ≡ chained f k 0 =
+      rw so-far (take-at (chained f k 0) (drop (k * t) room) (k * t) l) in
+      let back : drop (k * t) now ≡ drop (k * t) room =
+      rw so-far (drop-at (chained f k 0) (drop (k * t) room) (k * t) l) in
       let most : length (drop (k * t) now) ≤ length now - k * t = rw length-drop (omega arith) in
       let ends : (k + 1) * t ≡ k * t + t = rw (add-one k, suc-mul) in
-      rw
-      (e, take-all (length now - k * t) (drop (k * t) now) most, drop-of-length-le (drop (k * t) now) most, append-nil, front, back, drop-drop, ends, chained-more f k)
+      rw (
+        e,
+        take-all (length now - k * t) (drop (k * t) now) most,
+        drop-of-length-le (drop (k * t) now) most,
+        append-nil,
+        front,
+        back,
+        drop-drop,
+        ends,
+        chained-more f k,
+      )
       (sym (append-assoc (chained f k 0) (f k) (drop (k * t + t) room)))

@@ -15,4 +15,5 @@ square-small t h = mul-le-mul {n₁ = t} {m₁ = t} {n₂ = candidateLimit} {m�
 
 -- a row ends where the next begins, and the last one where all end
 pub row-fits : (a t : ℕ) → a < t → a * t + t ≤ t * t
-row-fits a t h = let e : suc a * t ≤ t * t = mul-le-mul {n₁ = suc a} {m₁ = t} {n₂ = t} {m₂ = t} h (omega arith) in rw suc-mul at e
+row-fits a t h = let e : suc a * t ≤ t * t =
+    mul-le-mul {n₁ = suc a} {m₁ = t} {n₂ = t} {m₂ = t} h (omega arith) in rw suc-mul at e

@@ -11,13 +11,16 @@ use Rattle.answer.specs.declared.Point.{Point}
 use Rattle.candidates.specs.declared.Candidate.{Candidate}
 use Rattle.fields.specs.Limits.{candidateLimit}
 use Rattle.points.specs.Distance.{distanceOf}
-use Rattle.table.specs.Distances.{absent, pierced, listed, homeLeg, homesOf, homed, tabled, legOf, legAt, rowOf, chained, distancesOf, written}
+use Rattle.table.specs.Distances.{absent, pierced, listed, homeLeg, homesOf, homed, tabled, legOf, legAt, rowOf}
+use Rattle.table.specs.Distances.{chained, distancesOf, written}
 use Rattle.table.proofs.FillLaws.{listed-length, entry-more, list-more}
 
-written-all : (t entries : ℕ) (l room now : List Float) → t ≤ candidateLimit → entries ≤ length room → now ≡ l ++ drop entries room → now ≡ written t entries l room
+written-all : (t entries : ℕ) (l room now : List Float) → t ≤ candidateLimit → entries ≤ length room
+    → now ≡ l ++ drop entries room → now ≡ written t entries l room
 written-all t entries l room now h enough e = rw (le-leb t candidateLimit h, le-leb entries (length room) enough) e
 
-written-short : (t entries : ℕ) (l room : List Float) → t ≤ candidateLimit → length room < entries → room ≡ written t entries l room
+written-short : (t entries : ℕ) (l room : List Float) → t ≤ candidateLimit → length room < entries
+    → room ≡ written t entries l room
 written-short t entries l room h short = rw (le-leb t candidateLimit h, lt-leb entries (length room) short)
 
 -- ---- from home
@@ -32,29 +35,36 @@ module _ (items : List Candidate) (t : ℕ) (home : Point) (room : List Float) w
   home-short h short = written-short t t (homesOf (take t items) home) room h short
 
   module _ (a : ℕ) (now : List Float) (so-far : now ≡ listed (homeLeg (take t items) home) a 0 ++ drop a room) where
-    pub home-all : t ≤ candidateLimit → t ≤ length room → length items ≡ candidateLimit → a ≡ t → now ≡ homed items t home room
+    pub home-all : t ≤ candidateLimit → t ≤ length room → length items ≡ candidateLimit → a ≡ t
+        → now ≡ homed items t home room
     unfolding homed homesOf
     home-all h enough size done =
         let e : length (take t items) ≡ t = length-take-le t items (omega arith) in
-        written-all t t (homesOf (take t items) home) room now h enough (let q : now ≡ listed (homeLeg (take t items) home) t 0 ++ drop t room = subst (λ (k : ℕ). now ≡ listed (homeLeg (take t items) home) k 0 ++ drop k room) done so-far in rw e q)
+        written-all t t (homesOf (take t items) home) room now h enough
+        (let q : now ≡ listed (homeLeg (take t items) home) t 0 ++ drop t room =
+        subst (λ (k : ℕ). now ≡ listed (homeLeg (take t items) home) k 0 ++ drop k room) done so-far in rw e q)
 
     pub home-more : (v : Float) → a < t → t ≤ length room → v ≡ distanceOf home (pierced (getD items a absent)) →
         set now a v ≡ listed (homeLeg (take t items) home) (a + 1) 0 ++ drop (a + 1) room
     unfolding homeLeg
-    home-more v h enough e = entry-more (homeLeg (take t items) home) a room now v (omega arith) so-far (rw (getD-take t items a absent h) e)
+    home-more v h enough e =
+        entry-more (homeLeg (take t items) home) a room now v (omega arith) so-far (rw (getD-take t items a absent h) e)
 
 -- ---- a row
 
-module _ (items : List Candidate) (t : ℕ) (owner : List ℕ) (a b : ℕ) (room now : List Float) (so-far : now ≡ listed (legAt (take t items) owner a) b 0 ++ drop b room) where
+module _ (items : List Candidate) (t : ℕ) (owner : List ℕ) (a b : ℕ) (room now : List Float)
+    (so-far : now ≡ listed (legAt (take t items) owner a) b 0 ++ drop b room) where
   pub row-all : b ≡ t → now ≡ rowOf (take t items) owner t a ++ drop t room
   unfolding rowOf
   row-all done = subst (λ (k : ℕ). now ≡ listed (legAt (take t items) owner a) k 0 ++ drop k room) done so-far
 
-  pub row-more : (k m : ℕ) (v : Float) → a < t → b < t → t ≤ length room → k ≡ getD owner a 0 → m ≡ getD owner b 0 → v ≡ legOf (getD items a absent) k (getD items b absent) m →
+  pub row-more : (k m : ℕ) (v : Float) → a < t → b < t → t ≤ length room → k ≡ getD owner a 0 → m ≡ getD owner b 0
+      → v ≡ legOf (getD items a absent) k (getD items b absent) m →
       set now b v ≡ listed (legAt (take t items) owner a) (b + 1) 0 ++ drop (b + 1) room
   unfolding legAt
   row-more k m v ha hb enough ek em e =
-      entry-more (legAt (take t items) owner a) b room now v (omega arith) so-far (rw (getD-take t items a absent ha, getD-take t items b absent hb, ← ek, ← em) e)
+      entry-more (legAt (take t items) owner a) b room now v (omega arith) so-far
+      (rw (getD-take t items a absent ha, getD-take t items b absent hb, ← ek, ← em) e)
 
 -- ---- all rows
 
@@ -71,14 +81,20 @@ module _ (items : List Candidate) (t : ℕ) (owner : List ℕ) (room : List Floa
   unfolding tabled
   table-short h short = written-short t (t * t) (distancesOf (take t items) owner) room h short
 
-  module _ (a : ℕ) (now : List Float) (so-far : now ≡ chained (rowOf (take t items) owner t) a 0 ++ drop (a * t) room) where
-    pub table-more : (part : List Float) → part ≡ rowOf (take t items) owner t a ++ drop t (take (length now - a * t) (drop (a * t) now)) →
-        take (a * t) now ++ (part ++ drop (length now - a * t) (drop (a * t) now)) ≡ chained (rowOf (take t items) owner t) (a + 1) 0 ++ drop ((a + 1) * t) room
-    table-more part e = list-more (rowOf (take t items) owner t) t (row-length (take t items) owner t) a room now part so-far e
+  module _ (a : ℕ) (now : List Float) (so-far : now ≡ chained (rowOf (take t items) owner t) a 0 ++ drop (a * t) room)
+    where
+      pub table-more : (part : List Float)
+          → part ≡ rowOf (take t items) owner t a ++ drop t (take (length now - a * t) (drop (a * t) now)) →
+          take (a * t) now ++ (part ++ drop (length now - a * t) (drop (a * t) now))
+          ≡ chained (rowOf (take t items) owner t) (a + 1) 0 ++ drop ((a + 1) * t) room
+      table-more part e =
+          list-more (rowOf (take t items) owner t) t (row-length (take t items) owner t) a room now part so-far e
 
-    pub table-all : t ≤ candidateLimit → t * t ≤ length room → length items ≡ candidateLimit → a ≡ t → now ≡ tabled items t owner room
-    unfolding tabled distancesOf
-    table-all h enough size done =
-        let e : length (take t items) ≡ t = length-take-le t items (omega arith) in
-        let q : now ≡ chained (rowOf (take t items) owner t) t 0 ++ drop (t * t) room = subst (λ (k : ℕ). now ≡ chained (rowOf (take t items) owner t) k 0 ++ drop (k * t) room) done so-far in
-        written-all t (t * t) (distancesOf (take t items) owner) room now h enough (rw e q)
+      pub table-all : t ≤ candidateLimit → t * t ≤ length room → length items ≡ candidateLimit → a ≡ t
+          → now ≡ tabled items t owner room
+      unfolding tabled distancesOf
+      table-all h enough size done =
+          let e : length (take t items) ≡ t = length-take-le t items (omega arith) in
+          let q : now ≡ chained (rowOf (take t items) owner t) t 0 ++ drop (t * t) room =
+          subst (λ (k : ℕ). now ≡ chained (rowOf (take t items) owner t) k 0 ++ drop (k * t) room) done so-far in
+          written-all t (t * t) (distancesOf (take t items) owner) room now h enough (rw e q)

@@ -15,7 +15,8 @@ pub onward : (table : List Float) (t : ℕ) (tour : List ℕ) (i at : ℕ) (tota
 onward table t tour i at total = legs (addLeg table t) total at (drop i tour)
 
 -- an empty tour has length +0
-pub length-none : (home table : List Float) (t : ℕ) (tour : List ℕ) → length tour ≡ 0 → ofBits binary64 0 ≡ lengthOf home table t tour
+pub length-none : (home table : List Float) (t : ℕ) (tour : List ℕ) → length tour ≡ 0
+    → ofBits binary64 0 ≡ lengthOf home table t tour
 unfolding lengthOf walk
 length-none home table t [] h = refl
 length-none home table t (a ∷ rest) h = absurd (omega arith)
@@ -29,15 +30,19 @@ length-first home table t [] total h e = absurd (h refl)
 length-first home table t (a ∷ rest) total h e = rw e
 
 -- one leg more
-pub leg-more : (table : List Float) (t : ℕ) (tour : List ℕ) (i at : ℕ) (total d whole : Float) → onward table t tour i at total ≡ whole
-    → i < length tour → d ≡ distanceAt table t at (getD tour i 0) → onward table t tour (i + 1) (getD tour i 0) (add binary64 total d) ≡ whole
+pub leg-more : (table : List Float) (t : ℕ) (tour : List ℕ) (i at : ℕ) (total d whole : Float)
+    → onward table t tour i at total ≡ whole
+    → i < length tour → d ≡ distanceAt table t at (getD tour i 0)
+    → onward table t tour (i + 1) (getD tour i 0) (add binary64 total d) ≡ whole
 unfolding onward legs
 leg-more table t tour i at total d whole so-far h e =
-    let q : legs (addLeg table t) (addLeg table t total at (getD tour i 0)) (getD tour i 0) (drop (suc i) tour) ≡ whole = rw (drop-cons tour i 0 h) at so-far in
+    let q : legs (addLeg table t) (addLeg table t total at (getD tour i 0)) (getD tour i 0) (drop (suc i) tour)
+    ≡ whole = rw (drop-cons tour i 0 h) at so-far in
     rw (e, add-one i) q
 
 -- no leg left
-pub legs-done : (table : List Float) (t : ℕ) (tour : List ℕ) (i at : ℕ) (total whole : Float) → onward table t tour i at total ≡ whole
+pub legs-done : (table : List Float) (t : ℕ) (tour : List ℕ) (i at : ℕ) (total whole : Float)
+    → onward table t tour i at total ≡ whole
     → length tour ≤ i → total ≡ whole
 unfolding onward legs
 legs-done table t tour i at total whole so-far h = rw (drop-of-length-le tour h) at so-far

@@ -1,4 +1,5 @@
--- The distances that a search reads: from home to each candidate, and from each candidate to each other. Assumes nothing.
+-- The distances that a search reads: from home to each candidate, and from each candidate to each other. Assumes
+-- nothing.
 use mathlib.Core.Bool.{cond, _&&_}
 use mathlib.Core.List.{List, [], _∷_, _++_}
 use Prim.Native.Nat.{ℕ, zero, suc, _*_}
@@ -68,8 +69,8 @@ unfoldable pub homesOf : List Candidate → Point → List Float
 unfolding homeLeg listed
 homesOf cs home = listed (homeLeg cs home) (length cs) 0
 
--- a room after so many entries of t candidates were written to its front: its rest is kept, and it is left as it was where it is too
--- small or the candidates are too many
+-- a room after so many entries of t candidates were written to its front: its rest is kept, and it is left as it was
+-- where it is too small or the candidates are too many
 abbrev pub written : ℕ → ℕ → List Float → List Float → List Float
 written t entries l room = cond (leb t candidateLimit && leb entries (length room)) (l ++ drop entries room) room
 

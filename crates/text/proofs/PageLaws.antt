@@ -34,10 +34,12 @@ module _ (held : List ℕ) (at b : ℕ) where
   byte-left h = rw (le-ltb at (length held) h)
 
 -- one byte more of a text
-pub byte-more : (text : List ℕ) (i : ℕ) (p q r : Page) → i < length text → q ≡ put (take i text) p → r ≡ putByte (getD text i 0) q → r ≡ put (take (i + 1) text) p
+pub byte-more : (text : List ℕ) (i : ℕ) (p q r : Page) → i < length text → q ≡ put (take i text) p
+    → r ≡ putByte (getD text i 0) q → r ≡ put (take (i + 1) text) p
 unfolding put
 byte-more text i p q r h e f =
-    let both : put (getD text i 0 ∷ []) (put (take i text) p) ≡ put (take i text ++ (getD text i 0 ∷ [])) p = put-both (take i text) (getD text i 0 ∷ []) p in
+    let both : put (getD text i 0 ∷ []) (put (take i text) p) ≡ put (take i text ++ (getD text i 0 ∷ [])) p =
+    put-both (take i text) (getD text i 0 ∷ []) p in
     f ∙ ap (putByte (getD text i 0)) e ∙ both ∙ rw (add-one, take-suc text i 0)
 
 -- all of it
@@ -52,7 +54,9 @@ over-none [] = refl
 over-none (b ∷ text) = refl
 
 -- after what stands before the place
-put-after : (text front held : List ℕ) → put text (paged (length front) (front ++ held)) ≡ paged (length front + min (length text) (length held)) (front ++ over text held)
+put-after : (text front held : List ℕ)
+    → put text (paged (length front) (front ++ held))
+    ≡ paged (length front + min (length text) (length held)) (front ++ over text held)
 unfolding put over
 put-after [] front held = ap (λ (n : ℕ). paged n (front ++ held)) (omega arith)
 put-after (b ∷ text) front [] =
@@ -64,8 +68,10 @@ put-after (b ∷ text) front [] =
 put-after (b ∷ text) front (x ∷ held) =
     let room : length front < length (front ++ x ∷ held) = omega (arith, length-append front (x ∷ held)) in
     let long : length (front ++ (b ∷ [])) ≡ length front + 1 = length-append front (b ∷ []) in
-    let n : length front + 1 + min (length text) (length held) ≡ length front + min (suc (length text)) (suc (length held)) = omega arith in
-    ap (put text) (sym (byte-put (front ++ x ∷ held) (length front) b room) ∙ rw (set-at front x held b (length front) refl, ← long, ← append-assoc front (b ∷ []) held))
+    let n : length front + 1 + min (length text) (length held)
+    ≡ length front + min (suc (length text)) (suc (length held)) = omega arith in
+    ap (put text) (sym (byte-put (front ++ x ∷ held) (length front) b room)
+    ∙ rw (set-at front x held b (length front) refl, ← long, ← append-assoc front (b ∷ []) held))
     ∙ put-after text (front ++ (b ∷ [])) held
     ∙ rw (long, n, append-assoc front (b ∷ []) (over text held))
 
@@ -75,7 +81,8 @@ module _ (text held after : List ℕ) (at : ℕ) (e : paged at after ≡ put tex
   laid = e ∙ put-after text [] held ∙ ap (λ (n : ℕ). paged n (over text held)) (omega arith)
 
 -- the same in other words
-pub written : (a b held after : List ℕ) (n : ℕ) → paged n after ≡ put a (paged 0 held) → a ≡ b → (after ≡ over b held) × (n ≡ min (length b) (length held))
+pub written : (a b held after : List ℕ) (n : ℕ) → paged n after ≡ put a (paged 0 held) → a ≡ b
+    → (after ≡ over b held) × (n ≡ min (length b) (length held))
 written a b held after n e f =
     let l = laid b held after n (put-same a b (paged 0 held) (paged n after) e f) in
     (ap (λ (p : Page). p .held) l, ap (λ (p : Page). p .at) l)

@@ -32,7 +32,8 @@ fewer : (k n : ℕ) → Fewest 10 1 n (suc (suc k)) → Fewest 10 1 (n / 10) (su
 fewer k n f = (
   omega arith,
   div-lt-iff-lt-mul {k = 10} {x = n} {y = 10 ^ suc k} (lit≤ tt) .1 (rw (← pow-suc 10 (suc k)) (f .1)),
-  λ h. le-div-iff-mul-le {k = 10} {x = 10 ^ (suc k - 1)} {y = n} (lit≤ tt) .1 (rw (← pow-suc 10 (suc k - 1)) (tenfold h)),
+  λ h. le-div-iff-mul-le {k = 10} {x = 10 ^ (suc k - 1)} {y = n} (lit≤ tt) .1
+      (rw (← pow-suc 10 (suc k - 1)) (tenfold h)),
 )
   where
     tenfold : 1 < suc k → 10 ^ suc (suc k - 1) ≤ n
@@ -46,15 +47,18 @@ decimal-in (suc zero) (suc most) n h f = let small : n < 10 = f .1 in rw (lt-ltb
 decimal-in (suc (suc k)) (suc most) n h f =
     let some = one-le-pow k 10 (lit≤ tt) in
     let large : 10 ≤ n = omega (arith, least k n f, pow-suc 10 k) in
-    rw (le-ltb n 10 large) (ap (λ (l : List ℕ). l ++ (glyph (n % 10) ∷ [])) (decimal-in (suc k) most (n / 10) (omega arith) (fewer k n f)))
+    rw (le-ltb n 10 large) (ap (λ (l : List ℕ). l ++ (glyph (n % 10) ∷ []))
+    (decimal-in (suc k) most (n / 10) (omega arith) (fewer k n f)))
 
-pub decimal-is : (k n : ℕ) (out : List ℕ) → n < 2 ^ 64 → Fewest 10 1 n k → take k out ≡ digits 10 k n → take k out ≡ decimalOf n
+pub decimal-is : (k n : ℕ) (out : List ℕ) → n < 2 ^ 64 → Fewest 10 1 n k → take k out ≡ digits 10 k n
+    → take k out ≡ decimalOf n
 unfolding decimalOf
 decimal-is k n out h f e = e ∙ decimal-in k 20 n (few 10 1 20 n k (lit≤ tt) (lit≤ tt) (omega arith) f) f
 
 -- ---- hexadecimal
 
-pub hex-is : (k n : ℕ) (out : List ℕ) → n < 2 ^ 64 → Fewest 16 (min (max 16 1) 16) n k → take k out ≡ digits 16 k n → take k out ≡ hexOf n
+pub hex-is : (k n : ℕ) (out : List ℕ) → n < 2 ^ 64 → Fewest 16 (min (max 16 1) 16) n k → take k out ≡ digits 16 k n
+    → take k out ≡ hexOf n
 unfolding hexOf
 hex-is k n out h f e =
     let all : k ≡ 16 = omega (arith, f .0, few 16 16 16 n k (lit≤ tt) (lit≤ tt) h f) in

@@ -1,4 +1,5 @@
--- The doors: which refusal is told, and that the parts of a room that were lent come back at their place. Assumes nothing.
+-- The doors: which refusal is told, and that the parts of a room that were lent come back at their place. Assumes
+-- nothing.
 use mathlib.Core.Path.{_≡_, refl, sym, ap, _∙_}
 use mathlib.Core.List.{List, _++_}
 use Prim.Native.Nat.{ℕ, _*_, _≤_, _<_}
@@ -28,7 +29,8 @@ module _ (s : List ℕ) (entries distances n t : ℕ) (en : n ≡ contoursOf s) 
   unfolding roomCheck firstRefusal
   short-room h = rw (← en, lt-ltb entries n h)
 
-  pub short-table : n ≤ entries → distances < t * t → Refused (record { number = 13; place = t * t }) ≡ roomCheck s entries distances
+  pub short-table : n ≤ entries → distances < t * t
+      → Refused (record { number = 13; place = t * t }) ≡ roomCheck s entries distances
   unfolding roomCheck firstRefusal
   short-table h g = rw (← et, ← en, le-ltb entries n h, lt-ltb distances (t * t) g)
 
@@ -38,7 +40,8 @@ module _ (s : List ℕ) (entries distances n t : ℕ) (en : n ≡ contoursOf s) 
 
 -- ---- parts that were lent
 
-pub toured-is : (s room part : List ℕ) (table after : List Float) (o : Outcome) (n d : ℕ) → Solved (chartOn s) (endOn s) (take n room) o part
+pub toured-is : (s room part : List ℕ) (table after : List Float) (o : Outcome) (n d : ℕ)
+    → Solved (chartOn s) (endOn s) (take n room) o part
     → length part ≡ length (take n room) → after ≡ tableOn s → d ≡ countOn s * countOn s
     → left (answer.Done o) (part ++ drop n room) (after ++ drop d table) ≡ toured s room table
 toured-is s room part table after o n d w k e f =
@@ -51,7 +54,9 @@ module _ (s room : List ℕ) (table : List Float) (a : Check) (is : a ≡ checkO
   unfolding tourOf tourCheck firstRefusal
   tour-refused r e = rw (← is, e)
 
-  pub tour-fine : (l : Left) → a ≡ Fine → l ≡ touredUnless (roomCheck s (length room) (length table)) (toured s room table) room table → l ≡ tourOf s room table
+  pub tour-fine : (l : Left) → a ≡ Fine
+      → l ≡ touredUnless (roomCheck s (length room) (length table)) (toured s room table) room table
+      → l ≡ tourOf s room table
   unfolding tourOf tourCheck firstRefusal
   tour-fine l e f =
       let rooms = roomCheck s (length room) (length table) in
@@ -66,11 +71,19 @@ part-lent l n h = sym (length-take-le n l h)
 module _ (s room : List ℕ) (table : List Float) (n t : ℕ) (en : n ≡ contoursOf s) (et : t ≡ countOn s) where
   pub room-refused : length room < n → left (answer.Refused (record { number = 13; place = n })) room table
       ≡ touredUnless (roomCheck s (length room) (length table)) (toured s room table) room table
-  room-refused h = ap (λ (c : Check). touredUnless c (toured s room table) room table) (short-room s (length room) (length table) n t en et h)
+  room-refused h =
+      ap (λ (c : Check). touredUnless c (toured s room table) room table)
+      (short-room s (length room) (length table) n t en et h)
 
-  pub table-refused : n ≤ length room → length table < t * t → left (answer.Refused (record { number = 13; place = t * t })) room table
+  pub table-refused : n ≤ length room → length table < t * t
+      → left (answer.Refused (record { number = 13; place = t * t })) room table
       ≡ touredUnless (roomCheck s (length room) (length table)) (toured s room table) room table
-  table-refused h g = ap (λ (c : Check). touredUnless c (toured s room table) room table) (short-table s (length room) (length table) n t en et h g)
+  table-refused h g =
+      ap (λ (c : Check). touredUnless c (toured s room table) room table)
+      (short-table s (length room) (length table) n t en et h g)
 
-  pub rooms-passed : (l : Left) → n ≤ length room → t * t ≤ length table → l ≡ toured s room table → l ≡ touredUnless (roomCheck s (length room) (length table)) (toured s room table) room table
-  rooms-passed l h g e = e ∙ ap (λ (c : Check). touredUnless c (toured s room table) room table) (rooms-fine s (length room) (length table) n t en et h g)
+  pub rooms-passed : (l : Left) → n ≤ length room → t * t ≤ length table → l ≡ toured s room table
+      → l ≡ touredUnless (roomCheck s (length room) (length table)) (toured s room table) room table
+  rooms-passed l h g e =
+      e ∙ ap (λ (c : Check). touredUnless c (toured s room table) room table)
+      (rooms-fine s (length room) (length table) n t en et h g)

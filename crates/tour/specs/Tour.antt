@@ -30,7 +30,8 @@ unfoldable pub roomCheck : List ℕ → ℕ → ℕ → Check
 unfolding firstRefusal
 roomCheck s entries distances =
     let t = countOn s in
-    firstRefusal (refuseIf (ltb entries (contoursOf s)) 13 (contoursOf s) ∷ refuseIf (ltb distances (t * t)) 13 (t * t) ∷ [])
+    firstRefusal (refuseIf (ltb entries (contoursOf s)) 13 (contoursOf s)
+    ∷ refuseIf (ltb distances (t * t)) 13 (t * t) ∷ [])
 
 -- the card's own refusals come first
 unfoldable pub tourCheck : List ℕ → ℕ → ℕ → Check
@@ -39,7 +40,8 @@ tourCheck s entries distances = firstRefusal (checkOf s ∷ roomCheck s entries 
 
 -- an accepted card: the tour and the distances stand at the front of their rooms, whose rests are kept
 abbrev pub toured : List ℕ → List ℕ → List Float → Left
-toured s room table = left (answer.Done (outcomeOn s)) (placed (tourOn s) room) (tableOn s ++ drop (countOn s * countOn s) table)
+toured s room table =
+    left (answer.Done (outcomeOn s)) (placed (tourOn s) room) (tableOn s ++ drop (countOn s * countOn s) table)
 
 -- a refusal changes nothing
 abbrev pub touredUnless : Check → Left → List ℕ → List Float → Left

@@ -45,7 +45,8 @@ below-back t (x ∷ a) b h = below-back t a b (h .1)
 below-rev : (t : ℕ) (b : List ℕ) → AllBelow t b → AllBelow t (rev b)
 unfolding AllBelow rev
 below-rev t [] h = tt
-below-rev t (x ∷ b) h = subst (AllBelow t) (sym (rev-append (x ∷ []) b)) (below-both t (rev b) (x ∷ []) (below-rev t b (h .1)) (h .0, tt))
+below-rev t (x ∷ b) h =
+    subst (AllBelow t) (sym (rev-append (x ∷ []) b)) (below-both t (rev b) (x ∷ []) (below-rev t b (h .1)) (h .0, tt))
 
 below-set : (t : ℕ) (l : List ℕ) (p a : ℕ) → AllBelow t l → a < t → AllBelow t (set l p a)
 unfolding AllBelow
@@ -66,10 +67,12 @@ turned-below t f u l h g w = go (parts f u l h g)
         let a = p .front in
         let b = p .middle in
         let c = p .back in
-        let e : turned f u l ≡ a ++ (rev b ++ c) = ap (turned f u) (p .joined) ∙ turned-parts a b c f u (p .starts) (p .ends) in
+        let e : turned f u l ≡ a ++ (rev b ++ c) =
+        ap (turned f u) (p .joined) ∙ turned-parts a b c f u (p .starts) (p .ends) in
         let all : AllBelow t (a ++ (b ++ c)) = subst (AllBelow t) (p .joined) w in
         let rest : AllBelow t (b ++ c) = below-back t a (b ++ c) all in
-        subst (AllBelow t) (sym e) (below-both t a (rev b ++ c) (below-front t a (b ++ c) all) (below-both t (rev b) c (below-rev t b (below-front t b c rest)) (below-back t b c rest)))
+        subst (AllBelow t) (sym e) (below-both t a (rev b ++ c) (below-front t a (b ++ c) all)
+        (below-both t (rev b) c (below-rev t b (below-front t b c rest)) (below-back t b c rest)))
 
 held-kept : (chart : Chart) (t n : ℕ) → ((k : ℕ) → getD (chart .first) k 0 ≤ t) → KeepsTour chart n (Held t n)
 held-kept chart t n bound = record {
@@ -98,7 +101,8 @@ below-kept chart most limit t tour bound h =
 -- ---- the start
 
 -- a step of the start takes one of them
-pub step-below : (g : Ground) (n t i : ℕ) (w : Way) → ((k : ℕ) → getD (g .first) k 0 ≤ t) → AllBelow t (w .tour) → AllBelow t (step g n i w .tour)
+pub step-below : (g : Ground) (n t i : ℕ) (w : Way) → ((k : ℕ) → getD (g .first) k 0 ≤ t) → AllBelow t (w .tour)
+    → AllBelow t (step g n i w .tour)
 unfolding step visit AllBelow
 step-below g n t i w bound h =
     let choice = chosen g w n in
@@ -107,7 +111,8 @@ step-below g n t i w bound h =
     let m = bound (suc (choice .contour)) in
     omega (arith, f .candidate .to))
   where
-    go : (b : Bool) (k a : ℕ) → (b ≡ true → a < t) → AllBelow t (cond b (record { tour = w .tour ++ (a ∷ []); visited = set (w .visited) k 1 }) w .tour)
+    go : (b : Bool) (k a : ℕ) → (b ≡ true → a < t)
+        → AllBelow t (cond b (record { tour = w .tour ++ (a ∷ []); visited = set (w .visited) k 1 }) w .tour)
     go true k a less = below-both t (w .tour) (a ∷ []) h (less refl, tt)
     go false k a less = h
 

@@ -16,8 +16,10 @@ use Rattle.table.specs.Walk.{legs, walk}
 use Rattle.table.specs.Each.{each}
 use Rattle.table.specs.Evaluate.{lengthOf}
 use Rattle.table.specs.Distances.{legOf, legAt, listed, chained, rowOf, distancesOf, homeLeg, homesOf}
-use Rattle.start.specs.Nearest.{reachOf, closer, offer, offered, isOpen, considered, chosen, visit, step, walked, nearest}
-use Rattle.improve.specs.Search.{contours, shorter, judged, atLimit, tried, swap, alternative, turn, turned, flip, reversal, row, pass, repeated, searched}
+use Rattle.start.specs.Nearest.{reachOf, closer, offer, offered, isOpen, considered, chosen, visit, step, walked}
+use Rattle.start.specs.Nearest.{nearest}
+use Rattle.improve.specs.Search.{contours, shorter, judged, atLimit, tried, swap, alternative, turn, turned, flip}
+use Rattle.improve.specs.Search.{reversal, row, pass, repeated, searched}
 use Rattle.instance.specs.Gather.{verticesOf, outlineOf, offersOf, gathered, owners, firsts}
 use Rattle.instance.specs.Search.{chartOn}
 use Rattle.tour.specs.Search.{endOn}

@@ -1,5 +1,5 @@
--- The candidates of a card: each ends where it was pierced, and on a fine card each lies near enough for every distance to be finite.
--- Assumes nothing.
+-- The candidates of a card: each ends where it was pierced, and on a fine card each lies near enough for every distance
+-- to be finite. Assumes nothing.
 use mathlib.Core.Bool.{Bool, true, false, cond}
 use mathlib.Core.Path.{_≡_, refl, sym, ap, _∙_, subst}
 use mathlib.Core.Logic.{_⊎_, inl, inr}
@@ -38,7 +38,8 @@ pub firsts-below : (s : List ℕ) (n k : ℕ) → getD (firsts s n) k 0 ≤ leng
 firsts-below s n k = go (lt-or n k)
   where
     go : (n < k) ⊎ (k ≤ n) → getD (firsts s n) k 0 ≤ length (gathered s n)
-    go (inl h) = let z : getD (firsts s n) k 0 ≡ 0 = List·getD-eq-default (firsts s n) 0 {n = k} (omega (arith, firsts-length s n)) in omega arith
+    go (inl h) = let z : getD (firsts s n) k 0 ≡ 0 =
+        List·getD-eq-default (firsts s n) 0 {n = k} (omega (arith, firsts-length s n)) in omega arith
     go (inr h) = rw (first-at s n k h) (gathered-grows s n k h)
 
 -- ---- a candidate ends where it was pierced
@@ -61,13 +62,16 @@ ends-both (c ∷ l) m h g = ends-one c (l ++ m) (h 0) (ends-both l m (λ a. h (s
 ends-spaced : (way : CutDirection) (ps : List Point) (total : Float) (c k n : ℕ) → EndsThere (spaced way ps total c k n)
 unfolding spaced
 ends-spaced way ps total c k zero = ends-none
-ends-spaced way ps total c k (suc n) = ends-one _ (spaced way ps total c (suc k) n) refl (ends-spaced way ps total c (suc k) n)
+ends-spaced way ps total c k (suc n) =
+    ends-one _ (spaced way ps total c (suc k) n) refl (ends-spaced way ps total c (suc k) n)
 
 ends-from : (way : CutDirection) (v : Point) (ps : List Point) (c : ℕ) → EndsThere (candidatesFrom way v ps c)
 unfolding candidatesFrom
 ends-from way v ps c = go (eqb c 1) (lt (perimeterOf ps) tiny)
   where
-    go : (b d : Bool) → EndsThere (cond b (candidateAt way (spot v 0) ∷ []) (cond d (candidateAt way (spot v 0) ∷ []) (spaced way ps (perimeterOf ps) c 0 c)))
+    go : (b d : Bool)
+        → EndsThere (cond b (candidateAt way (spot v 0) ∷ [])
+        (cond d (candidateAt way (spot v 0) ∷ []) (spaced way ps (perimeterOf ps) c 0 c)))
     go true d = ends-one _ [] refl ends-none
     go false true = ends-one _ [] refl ends-none
     go false false = ends-spaced way ps (perimeterOf ps) c 0 c
@@ -80,7 +84,8 @@ ends-of way (v ∷ more) c = ends-from way v (v ∷ more) (min c perContourLimit
 pub ends-gathered : (s : List ℕ) (n : ℕ) → EndsThere (gathered s n)
 unfolding gathered offersOf
 ends-gathered s zero = ends-none
-ends-gathered s (suc n) = ends-both (gathered s n) (offersOf s n) (ends-gathered s n) (ends-of (wayOf s n) (outlineOf s n) _)
+ends-gathered s (suc n) =
+    ends-both (gathered s n) (offersOf s n) (ends-gathered s n) (ends-of (wayOf s n) (outlineOf s n) _)
 
 -- ---- a candidate of a fine card lies near
 
@@ -107,14 +112,17 @@ vertex-at s k (suc m) j h = go (same-or j m) (vertex-at s k m j)
     go : (j ≡ m) ⊎ (j ≡ m → ⊥) → (j < m → getD (verticesOf s k m) j nowhere ≡ pointAt s (vertexPlace k j))
         → getD (verticesOf s k m ++ (pointAt s (vertexPlace k m) ∷ [])) j nowhere ≡ pointAt s (vertexPlace k j)
     go (inl e) earlier =
-        getD-at (verticesOf s k m) (pointAt s (vertexPlace k m)) [] nowhere j (vertices-length s k m ∙ sym e) ∙ ap (λ (i : ℕ). pointAt s (vertexPlace k i)) (sym e)
+        getD-at (verticesOf s k m) (pointAt s (vertexPlace k m)) [] nowhere j (vertices-length s k m ∙ sym e)
+        ∙ ap (λ (i : ℕ). pointAt s (vertexPlace k i)) (sym e)
     go (inr d) earlier =
-        List·getD-append (verticesOf s k m) (pointAt s (vertexPlace k m) ∷ []) nowhere j (let l = vertices-length s k m in omega arith) ∙ earlier (omega arith)
+        List·getD-append (verticesOf s k m) (pointAt s (vertexPlace k m) ∷ []) nowhere j
+        (let l = vertices-length s k m in omega arith) ∙ earlier (omega arith)
 
 module _ (s : List ℕ) (fine : checkOf s ≡ Fine) where
   outline-good : (k : ℕ) → k < contoursOf s → AllGood (outlineOf s k)
   outline-good k h j l =
-      let m : length (outlineOf s k) ≡ vertexCountOf s k = ap length (outline-whole s fine k h) ∙ vertices-length s k (vertexCountOf s k) in
+      let m : length (outlineOf s k) ≡ vertexCountOf s k =
+      ap length (outline-whole s fine k h) ∙ vertices-length s k (vertexCountOf s k) in
       let g : j < vertexCountOf s k = omega arith in
       ap (λ (ps : List Point). badPoint (getD ps j nowhere)) (outline-whole s fine k h)
       ∙ ap badPoint (vertex-at s k (vertexCountOf s k) j g)
@@ -123,15 +131,18 @@ module _ (s : List ℕ) (fine : checkOf s ≡ Fine) where
   offers-near : (k : ℕ) → k < contoursOf s → AllNear (offersOf s k)
   unfolding offersOf
   offers-near k h a l =
-      let m : length (outlineOf s k) ≡ vertexCountOf s k = ap length (outline-whole s fine k h) ∙ vertices-length s k (vertexCountOf s k) in
+      let m : length (outlineOf s k) ≡ vertexCountOf s k =
+      ap length (outline-whole s fine k h) ∙ vertices-length s k (vertexCountOf s k) in
       let f = accepted s fine .few-vertices k h in
-      subst (λ (c : Candidate). Near 160 (pierced c)) (any-default (candidatesOf (wayOf s k) (outlineOf s k) (perContourOf s)) a blank absent l)
+      subst (λ (c : Candidate). Near 160 (pierced c))
+      (any-default (candidatesOf (wayOf s k) (outlineOf s k) (perContourOf s)) a blank absent l)
       (each-near (wayOf s k) (outlineOf s k) (perContourOf s) (outline-good k h) (omega arith) a l)
 
   gathered-near : (n : ℕ) → n ≤ contoursOf s → AllNear (gathered s n)
   unfolding gathered
   gathered-near zero h a l = absurd (omega arith)
-  gathered-near (suc n) h a l = near-both (gathered s n) (offersOf s n) (gathered-near n (omega arith)) (offers-near n (omega arith)) a l
+  gathered-near (suc n) h a l =
+      near-both (gathered s n) (offersOf s n) (gathered-near n (omega arith)) (offers-near n (omega arith)) a l
 
   pub candidate-near : AllNear (gathered s (contoursOf s))
   candidate-near = gathered-near (contoursOf s) (omega arith)

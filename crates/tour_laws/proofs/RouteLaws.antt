@@ -1,4 +1,5 @@
--- A tour's evaluation is the sum along its route: from home through the points where its candidates are pierced. Assumes nothing.
+-- A tour's evaluation is the sum along its route: from home through the points where its candidates are pierced.
+-- Assumes nothing.
 use mathlib.Core.Path.{_≡_, refl, ap, _∙_}
 use mathlib.Core.List.{List, [], _∷_, map}
 use Prim.Native.Nat.{ℕ, suc, _<_}
@@ -28,7 +29,8 @@ chain-is So a (b ∷ more) h = (h 0 (omega arith), chain-is So b more (λ p l. h
 
 legs-sum : (table : List Float) (t : ℕ) (stop : ℕ → Point) (So : ℕ → ℕ → Type 0)
     → ((a b : ℕ) → So a b → distanceAt table t a b ≡ distanceOf (stop a) (stop b))
-    → (sum : Float) (a : ℕ) (rest : List ℕ) → Chain So a rest → legs (addLeg table t) sum a rest ≡ summed sum (alongRoute distanceOf (stop a) (map stop rest))
+    → (sum : Float) (a : ℕ) (rest : List ℕ) → Chain So a rest
+    → legs (addLeg table t) sum a rest ≡ summed sum (alongRoute distanceOf (stop a) (map stop rest))
 unfolding Chain legs summed alongRoute
 legs-sum table t stop So leg sum a [] h = refl
 legs-sum table t stop So leg sum a (b ∷ more) h =
@@ -50,17 +52,24 @@ record Leg (cs : List Candidate) (owner : List ℕ) (a b : ℕ) : Type 0 where
   other : getD owner a 0 ≡ getD owner b 0 → ⊥
 
 -- between contours the table has the distance from stop to stop
-pub leg-is : (cs : List Candidate) (owner : List ℕ) → EndsThere cs → (a b : ℕ) → a < length cs → b < length cs → (getD owner a 0 ≡ getD owner b 0 → ⊥)
+pub leg-is : (cs : List Candidate) (owner : List ℕ) → EndsThere cs → (a b : ℕ) → a < length cs → b < length cs
+    → (getD owner a 0 ≡ getD owner b 0 → ⊥)
     → distanceAt (distancesOf cs owner) (length cs) a b ≡ distanceOf (stopOf cs a) (stopOf cs b)
-leg-is cs owner ends a b here there other = other-contour cs owner a b here there other ∙ ap (λ (p : Point). distanceOf p (stopOf cs b)) (ends a)
+leg-is cs owner ends a b here there other =
+    other-contour cs owner a b here there other ∙ ap (λ (p : Point). distanceOf p (stopOf cs b)) (ends a)
 
 -- a tour that rides is as long as the sum along its stops
-pub evaluated : (cs : List Candidate) (owner : List ℕ) (home : Point) → EndsThere cs → (tour : List ℕ) → Rides cs owner tour
-    → lengthOf (homesOf cs home) (distancesOf cs owner) (length cs) tour ≡ total (alongRoute distanceOf home (map (stopOf cs) tour))
+pub evaluated : (cs : List Candidate) (owner : List ℕ) (home : Point) → EndsThere cs → (tour : List ℕ)
+    → Rides cs owner tour
+    → lengthOf (homesOf cs home) (distancesOf cs owner) (length cs) tour
+    ≡ total (alongRoute distanceOf home (map (stopOf cs) tour))
 unfolding lengthOf walk total alongRoute ofBits ofFields odd
 evaluated cs owner home ends [] r = refl
 evaluated cs owner home ends (a ∷ rest) r =
-    ap (λ (x : Float). legs (addLeg (distancesOf cs owner) (length cs)) x a rest) (homes-at cs home a (r .within 0 (omega arith)))
-    ∙ legs-sum (distancesOf cs owner) (length cs) (stopOf cs) (Leg cs owner) (λ i j l. leg-is cs owner ends i j (l .here) (l .there) (l .other))
+    ap (λ (x : Float). legs (addLeg (distancesOf cs owner) (length cs)) x a rest)
+    (homes-at cs home a (r .within 0 (omega arith)))
+    ∙ legs-sum (distancesOf cs owner) (length cs) (stopOf cs) (Leg cs owner)
+    (λ i j l. leg-is cs owner ends i j (l .here) (l .there) (l .other))
     (distanceOf home (stopOf cs a)) a rest
-    (chain-is (Leg cs owner) a rest (λ p h. record { here = r .within p (omega arith); there = r .within (suc p) h; other = r .onward p h }))
+    (chain-is (Leg cs owner) a rest (λ p h. record
+    { here = r .within p (omega arith); there = r .within (suc p) h; other = r .onward p h }))

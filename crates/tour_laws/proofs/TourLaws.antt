@@ -1,5 +1,5 @@
--- The start and the tour of a fine card: each contour once, each pair's first before its second, all of them candidates of the card.
--- Assumes nothing.
+-- The start and the tour of a fine card: each contour once, each pair's first before its second, all of them candidates
+-- of the card. Assumes nothing.
 use mathlib.Core.Path.{_≡_, refl, sym, _∙_}
 use mathlib.Core.Bool.{true}
 use mathlib.Core.List.{List, [], _∷_}
@@ -37,7 +37,8 @@ use Rattle.tour_laws.proofs.RouteLaws.{stopOf, Rides, leg-is}
 use Rattle.tour_laws.proofs.ShuffleLaws.{shuffled-once}
 
 -- the contour at a place of a tour
-contour-at : (owner tour : List ℕ) (p : ℕ) → p < length tour → getD (contours owner tour) p 0 ≡ getD owner (getD tour p 0) 0
+contour-at : (owner tour : List ℕ) (p : ℕ) → p < length tour
+    → getD (contours owner tour) p 0 ≡ getD owner (getD tour p 0) 0
 unfolding contours
 contour-at owner [] p h = absurd (omega arith)
 contour-at owner (a ∷ tour) zero h = refl
@@ -76,14 +77,17 @@ module _ (s : List ℕ) (fine : checkOf s ≡ Fine) where
         rw (first-at s (contoursOf s) k (omega arith), first-at s (contoursOf s) (suc k) (omega arith)) (omega arith);
     home = λ k a h m.
         let l = among k a m in
-        rw (homes-at (candidatesOn s) (homeOn s) a l) (distance-below 160 (homeOn s) (stopOf (candidatesOn s) a) (lit≤ tt) home-near (candidate-near s fine a l));
+        rw (homes-at (candidatesOn s) (homeOn s) a l)
+        (distance-below 160 (homeOn s) (stopOf (candidatesOn s) a) (lit≤ tt) home-near (candidate-near s fine a l));
     apart = λ k j a b hk hj d m w.
         let here = among k a m in
         let there = among j b w in
         let x = grouped s (contoursOf s) k a (m .from) (m .to) in
         let y = grouped s (contoursOf s) j b (w .from) (w .to) in
-        rw (leg-is (candidatesOn s) (ownersOn s) (ends-gathered s (contoursOf s)) b a there here (λ e. d (sym x ∙ sym e ∙ y)))
-        (distance-below 160 (stopOf (candidatesOn s) b) (stopOf (candidatesOn s) a) (lit≤ tt) (candidate-near s fine b there) (candidate-near s fine a here));
+        rw (leg-is (candidatesOn s) (ownersOn s) (ends-gathered s (contoursOf s)) b a there here
+        (λ e. d (sym x ∙ sym e ∙ y)))
+        (distance-below 160 (stopOf (candidatesOn s) b) (stopOf (candidatesOn s) a) (lit≤ tt)
+        (candidate-near s fine b there) (candidate-near s fine a here));
   }
 
   -- ---- the start
@@ -119,7 +123,8 @@ module _ (s : List ℕ) (fine : checkOf s ≡ Fine) where
   tour-each : EachOnce (contoursOf s) (contours (ownersOn s) (tourOn s))
   unfolding endOn chartOn
   tour-each =
-      shuffled-once (contoursOf s) (contours (ownersOn s) (startOn s)) (contours (ownersOn s) (tourOn s)) (start-order .each)
+      shuffled-once (contoursOf s) (contours (ownersOn s) (startOn s)) (contours (ownersOn s) (tourOn s))
+      (start-order .each)
       (contours-long (ownersOn s) (tourOn s) ∙ tour-long)
       (contours-kept (chartOn s) (passesOf s) (moveLimitOf s) (startOn s) (grouped s (contoursOf s)))
 

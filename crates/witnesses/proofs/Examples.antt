@@ -21,11 +21,13 @@ use Rattle.tour.specs.Search.{outcomeOn}
 use Rattle.tour_laws.proofs.Computes.{tour-computes}
 use Rattle.text.specs.Text as text
 use Rattle.text.specs.Text.{decimalIn, decimalOf, hexOf}
-use Rattle.list.specs.Lines.{headLine, wayWord, nameWords, placeLine, stopLine, stopLines, outcomeLines, tourLines, refusalLine, listUnless, listOf}
+use Rattle.list.specs.Lines.{headLine, wayWord, nameWords, placeLine, stopLine, stopLines, outcomeLines, tourLines}
+use Rattle.list.specs.Lines.{refusalLine, listUnless, listOf}
 use Rattle.demands.specs.Demand2.{searchOn}
 use Rattle.demands.specs.Demand3.{OnGrid}
 use Rattle.demands.proofs.Demand2.{claim as demand2}
-use Rattle.witnesses.specs.Examples.{limited, Answered, AnsweredOnGrid, CutByLimit, SentBackWith12, Printed, Claim}
+use Rattle.witnesses.specs.Examples.{limited, Answered, AnsweredOnGrid, CutByLimit, SentBackWith12, Printed}
+use Rattle.witnesses.specs.Examples.{Claim}
 
 -- what is computed here is computed through these
 list-computes : Unit {0}
@@ -43,11 +45,13 @@ limited-answered : Answered limited 3 6
 unfolding list-computes
 limited-answered = refl
 
-each-on : (cs : List Candidate) → T (gridPoints (map pierced cs)) → (a : ℕ) → a < length cs → T (gridPoint (pierced (getD cs a absent)))
+each-on : (cs : List Candidate) → T (gridPoints (map pierced cs)) → (a : ℕ) → a < length cs
+    → T (gridPoint (pierced (getD cs a absent)))
 unfolding gridPoints
 each-on [] h a l = absurd (omega arith)
 each-on (c ∷ cs) h zero l = and-l (gridPoint (pierced c)) (gridPoints (map pierced cs)) h
-each-on (c ∷ cs) h (suc a) l = each-on cs (and-r (gridPoint (pierced c)) (gridPoints (map pierced cs)) h) a (omega arith)
+each-on (c ∷ cs) h (suc a) l =
+    each-on cs (and-r (gridPoint (pierced c)) (gridPoints (map pierced cs)) h) a (omega arith)
 
 job41-on-grid : OnGrid (written job41)
 unfolding list-computes

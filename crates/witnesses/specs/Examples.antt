@@ -1,5 +1,5 @@
--- Cards that meet what the demands ask for, so that none of them speaks of nothing: job 41, and one whose search is cut. And what is printed of
--- them, byte for byte. Assumes nothing.
+-- Cards that meet what the demands ask for, so that none of them speaks of nothing: job 41, and one whose search is
+-- cut. And what is printed of them, byte for byte. Assumes nothing.
 use mathlib.Core.Path.{_≡_}
 use mathlib.Core.List.{[], _∷_}
 use Prim.Native.Nat.{ℕ, _*_, _<_}
@@ -49,7 +49,8 @@ limited =
 
 -- the card is answered with a tour, in rooms for n contours and t candidates
 abbrev pub Answered : Card → ℕ → ℕ → Type 0
-Answered c n t = tourOf (written c) (replicate n 0) (replicate (t * t) (ofBits binary64 0)) .answer ≡ Done (outcomeOn (written c))
+Answered c n t =
+    tourOf (written c) (replicate n 0) (replicate (t * t) (ofBits binary64 0)) .answer ≡ Done (outcomeOn (written c))
 
 -- demands 2 and 3: an answer with a tour, on the grid
 pub record AnsweredOnGrid : Type 0 where

@@ -6,9 +6,6 @@ use Rattle.block.proofs.FieldLaws.{past-byte}
 use Rattle.block.proofs.byte_at.Statement.{statement}
 use Rattle.block.proofs.byte_at.Tie as tie
 
-shared-slice-read-result : tie.Need-shared-slice-read-result
-shared-slice-read-result c = search needs
-
 returns : tie.Need-returns
 returns c = search needs
 
@@ -16,4 +13,4 @@ returns-2 : tie.Need-returns-2
 returns-2 c = sym (past-byte (now (c .before .args .s)) (c .before .args .at) (c .if1 .left))
 
 pub byte-at-spec : {M : Type 1} → statement M
-byte-at-spec = tie.close (tie.spec shared-slice-read-result returns returns-2)
+byte-at-spec = tie.close (tie.spec (λ c. search needs) returns returns-2)

@@ -7,18 +7,9 @@ use Rattle.block.proofs.is_checked.Tie as tie
 returns : tie.Need-returns
 returns c = checked-none _ _ (c .if1 .taken)
 
-check-at-requires : tie.Need-check-at-requires
-check-at-requires c κs = search needs
-
-add-u32-at : tie.Need-add-u32-at
-add-u32-at c = search needs
-
-u32-at-requires : tie.Need-u32-at-requires
-u32-at-requires c κs = search needs
-
 returns-2 : tie.Need-returns-2
 returns-2 c = checked-is _ _ _ _ (c .before .check-at .ensures) (c .u32-at .ensures)
 
 pub is-checked-spec : {M : Type 1} → statement M
 is-checked-spec =
-    tie.close (tie.spec returns check-at-requires add-u32-at u32-at-requires returns-2)
+    tie.close (tie.spec returns (λ c κs. search needs) (λ c. search needs) (λ c κs. search needs) returns-2)

@@ -8,62 +8,38 @@ use Rattle.block.proofs.starts_as.Tie as tie
 returns : tie.Need-returns
 returns c = starts-past _ _ _ _ _ (c .if1 .taken)
 
-byte-at-requires : tie.Need-byte-at-requires
-byte-at-requires c κs = search needs
-
 returns-2 : tie.Need-returns-2
 returns-2 c = other-kind _ _ _ _ _ _ (c .before .byte-at .ensures) (c .if2 .taken)
 
-add-byte-at : tie.Need-add-byte-at
-add-byte-at c = search needs
-
-byte-at-requires-2 : tie.Need-byte-at-requires-2
-byte-at-requires-2 c κs = search needs
-
 returns-3 : tie.Need-returns-3
 returns-3 c = let k = c .before .before in
-    other-version _ _ _ _ _ (sym (k .before .byte-at .ensures) ∙ k .if2 .left) _ (c .before .byte-at2 .ensures) (c .if3 .taken)
-
-add-u16-at : tie.Need-add-u16-at
-add-u16-at c = search needs
-
-u16-at-requires : tie.Need-u16-at-requires
-u16-at-requires c κs = search needs
-
-cast-if4 : tie.Need-cast-if4
-cast-if4 c = search needs
+    other-version _ _ _ _ _ (sym (k .before .byte-at .ensures) ∙ k .if2 .left) _ (c .before .byte-at2 .ensures)
+    (c .if3 .taken)
 
 returns-4 : tie.Need-returns-4
 returns-4 c = let v = c .before .before in
     let k = v .before .before in
-    other-number _ _ _ _ _ (sym (k .before .byte-at .ensures) ∙ k .if2 .left) (sym (v .before .byte-at2 .ensures) ∙ v .if3 .left) _ (c .before .u16-at .ensures) (c .if4 .taken)
-
-add-u32-at : tie.Need-add-u32-at
-add-u32-at c = search needs
-
-u32-at-requires : tie.Need-u32-at-requires
-u32-at-requires c κs = search needs
+    other-number _ _ _ _ _ (sym (k .before .byte-at .ensures) ∙ k .if2 .left)
+    (sym (v .before .byte-at2 .ensures) ∙ v .if3 .left) _ (c .before .u16-at .ensures) (c .if4 .taken)
 
 returns-5 : tie.Need-returns-5
 returns-5 c = let n = c .before in
     let v = n .before .before in
     let k = v .before .before in
-    as-due _ _ _ _ _ (sym (k .before .byte-at .ensures) ∙ k .if2 .left) (sym (v .before .byte-at2 .ensures) ∙ v .if3 .left) _ (sym (n .before .u16-at .ensures) ∙ n .if4 .left) (c .u32-at .ensures)
+    as-due _ _ _ _ _ (sym (k .before .byte-at .ensures) ∙ k .if2 .left)
+    (sym (v .before .byte-at2 .ensures) ∙ v .if3 .left) _ (sym (n .before .u16-at .ensures) ∙ n .if4 .left)
+    (c .u32-at .ensures)
 
 pub starts-as-spec : {M : Type 1} → statement M
 starts-as-spec =
     tie.close
     (tie.spec
     returns
-    byte-at-requires
+    (λ c κs. search needs)
     returns-2
-    add-byte-at
-    byte-at-requires-2
+    (λ c. search needs) (λ c κs. search needs)
     returns-3
-    add-u16-at
-    u16-at-requires
-    cast-if4
+    (λ c. search needs) (λ c κs. search needs) (λ c. search needs)
     returns-4
-    add-u32-at
-    u32-at-requires
+    (λ c. search needs) (λ c κs. search needs)
     returns-5)

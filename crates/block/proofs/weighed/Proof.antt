@@ -18,26 +18,16 @@ loop-holds : tie.Need-loop-holds Inv-loop μ-loop
 unfolding weigh
 loop-holds c = (omega arith, refl, omega arith)
 
-add-sum : tie.Need-add-sum Inv-loop μ-loop
-add-sum c = omega arith
-
-cast-sum : tie.Need-cast-sum Inv-loop μ-loop
-cast-sum c = omega arith
-
-shared-slice-read-weight : tie.Need-shared-slice-read-weight Inv-loop μ-loop
-shared-slice-read-weight c = omega arith
-
 weight-requires : tie.Need-weight-requires Inv-loop μ-loop
 weight-requires c κs = tt
 
 mul-sum : tie.Need-mul-sum Inv-loop μ-loop
-mul-sum c = omega (arith, weight-bound (c .before .before .before .loop .p) (c .weight .result) (omega arith) (omega arith))
+mul-sum c =
+    omega (arith, weight-bound (c .before .before .before .loop .p) (c .weight .result) (omega arith) (omega arith))
 
 add-sum-2 : tie.Need-add-sum-2 Inv-loop μ-loop
-add-sum-2 c = omega (arith, weight-bound (c .before .before .before .loop .p) (c .weight .result) (omega arith) (omega arith))
-
-add-p : tie.Need-add-p Inv-loop μ-loop
-add-p c = omega arith
+add-sum-2 c =
+    omega (arith, weight-bound (c .before .before .before .loop .p) (c .weight .result) (omega arith) (omega arith))
 
 loop-less : tie.Need-loop-less Inv-loop μ-loop
 loop-less c = omega arith
@@ -45,8 +35,12 @@ loop-less c = omega arith
 loop-again : tie.Need-loop-again Inv-loop μ-loop
 loop-again c =
     let p = c .before .before .before .loop .p in
-    let bound = weight-bound p (c .weight .result) (omega arith) (omega arith) in
-    (omega arith, weigh-step _ _ _ _ (c .before .before .loop-test .taken) (c .before .before .before .loop .inv .1) (c .weight .ensures .0), omega arith)
+    let bound = weight-bound p (c .weight .result) (omega arith) (omega arith) in (
+      omega arith,
+      weigh-step _ _ _ _ (c .before .before .loop-test .taken) (c .before .before .before .loop .inv .1)
+          (c .weight .ensures .0),
+      omega arith,
+    )
 
 returns : tie.Need-returns Inv-loop μ-loop
 returns c = c .before .loop .inv .1 ∙ weigh-all _ _ (c .loop-test .left) (c .before .loop .inv .0)
@@ -58,13 +52,11 @@ weighed-spec =
     Inv-loop
     μ-loop
     loop-holds
-    add-sum
-    cast-sum
-    shared-slice-read-weight
+    (λ c. omega arith) (λ c. omega arith) (λ c. omega arith)
     weight-requires
     mul-sum
     add-sum-2
-    add-p
+    (λ c. omega arith)
     loop-less
     loop-again
     returns)

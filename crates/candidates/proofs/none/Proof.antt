@@ -4,12 +4,9 @@ use Rattle.candidates.specs.Generate.{filled}
 use Rattle.candidates.proofs.none.Statement.{statement}
 use Rattle.candidates.proofs.none.Tie as tie
 
-blank-requires : tie.Need-blank-requires
-blank-requires c κs = search needs
-
 returns : tie.Need-returns
 unfolding filled
 returns c = rw (c .blank .ensures)
 
 pub none-spec : {M : Type 1} → statement M
-none-spec = tie.close (tie.spec blank-requires returns)
+none-spec = tie.close (tie.spec (λ c κs. search needs) returns)

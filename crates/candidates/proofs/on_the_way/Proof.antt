@@ -1,4 +1,5 @@
--- `candidates::on_the_way` meets its contract: the second test is asked only where the first holds, as `&&` has it. Assumes nothing.
+-- `candidates::on_the_way` meets its contract: the second test is asked only where the first holds, as `&&` has it.
+-- Assumes nothing.
 use Rattle.candidates.specs.Along.{reaches}
 use Rattle.candidates.proofs.on_the_way.Statement.{statement}
 use Rattle.candidates.proofs.on_the_way.Tie as tie

@@ -5,39 +5,21 @@ use Rattle.candidates.specs.Question.{oneContour}
 use Rattle.candidates.proofs.one_contour.Statement.{statement}
 use Rattle.candidates.proofs.one_contour.Tie as tie
 
-outside-requires : tie.Need-outside-requires
-outside-requires c κs = search needs
-
-refused-requires : tie.Need-refused-requires
-refused-requires c κs = search needs
-
 returns : tie.Need-returns
 unfolding oneContour firstRefusal
 returns c = rw (← (c .before .before .outside .ensures), c .before .if1 .taken) (c .refused .ensures)
 
-add-v : tie.Need-add-v
-add-v c = search needs
-
-outside-requires-2 : tie.Need-outside-requires-2
-outside-requires-2 c κs = search needs
-
-refused-requires-2 : tie.Need-refused-requires-2
-refused-requires-2 c κs = search needs
-
 returns-2 : tie.Need-returns-2
 unfolding oneContour firstRefusal
 returns-2 c = let p = c .before in
-    rw (← (p .before .before .before .outside .ensures), p .before .before .if1 .left, ← (p .before .outside2 .ensures), p .if2 .taken)
+    rw (
+      ← (p .before .before .before .outside .ensures),
+      p .before .before .if1 .left,
+      ←
+          (p .before .outside2 .ensures),
+      p .if2 .taken,
+    )
     (c .refused2 .ensures)
-
-first-bad-requires : tie.Need-first-bad-requires
-first-bad-requires c κs = search needs
-
-enum-known-k : tie.Need-enum-known-k
-enum-known-k c = search needs
-
-refused-requires-3 : tie.Need-refused-requires-3
-refused-requires-3 c κs = search needs
 
 enum-told : tie.Need-enum-told
 enum-told c = search needs
@@ -57,22 +39,27 @@ returns-3 c = let p = c .before .before .before .before .before in
 
 returns-4 : tie.Need-returns-4
 unfolding oneContour firstRefusal
-returns-4 c = rw (← (c .before .before .before .before .before .before .outside .ensures), c .before .before .before .before .before .if1 .left, ← (c .before .before .before .before .outside2 .ensures), c .before .before .before .if2 .left, ← (c .before .before .first-bad .ensures), c .enum-told .given .1)
+returns-4 c =
+    rw (
+      ← (c .before .before .before .before .before .before .outside .ensures),
+      c .before .before .before .before
+          .before .if1 .left,
+      ← (c .before .before .before .before .outside2 .ensures),
+      c .before .before .before .if2
+          .left,
+      ← (c .before .before .first-bad .ensures),
+      c .enum-told .given .1,
+    )
 
 pub one-contour-spec : {M : Type 1} → statement M
 one-contour-spec =
     tie.close
     (tie.spec
-    outside-requires
-    refused-requires
+    (λ c κs. search needs) (λ c κs. search needs)
     returns
-    add-v
-    outside-requires-2
-    refused-requires-2
+    (λ c. search needs) (λ c κs. search needs) (λ c κs. search needs)
     returns-2
-    first-bad-requires
-    enum-known-k
-    refused-requires-3
+    (λ c κs. search needs) (λ c. search needs) (λ c κs. search needs)
     enum-told
     returns-3
     returns-4)

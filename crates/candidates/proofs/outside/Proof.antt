@@ -1,4 +1,5 @@
--- `candidates::outside` meets its contract: the second test is asked only where the first fails, as `||` has it. Assumes nothing.
+-- `candidates::outside` meets its contract: the second test is asked only where the first fails, as `||` has it.
+-- Assumes nothing.
 use borrow.Author.Tests.{lt-ltb, le-ltb}
 use Rattle.candidates.proofs.outside.Statement.{statement}
 use Rattle.candidates.proofs.outside.Tie as tie

@@ -1,4 +1,5 @@
--- `candidates::perimeter` meets its contract. The loop's invariant: adding up from edge i with the sum so far gives the perimeter. Assumes nothing.
+-- `candidates::perimeter` meets its contract. The loop's invariant: adding up from edge i with the sum so far gives the
+-- perimeter. Assumes nothing.
 use Prim.Native.Nat.{_≤_, _-_, _/_}
 use native.Mathlib.Omega.{arith}
 use borrow.Author.Needs.{needs}
@@ -22,14 +23,15 @@ edge-at-requires c κs = tt
 length-of-requires : tie.Need-length-of-requires Inv-loop μ-loop
 length-of-requires c κs = tt
 
-add-i : tie.Need-add-i Inv-loop μ-loop
-add-i c = search needs
-
 loop-less : tie.Need-loop-less Inv-loop μ-loop
 loop-less c = omega arith
 
 loop-again : tie.Need-loop-again Inv-loop μ-loop
-loop-again c = (search needs, rw (c .length-of .ensures, c .before .edge-at .ensures) (summed-step _ _ _ (c .before .before .loop-test .taken) (c .before .before .before .loop .inv .1)))
+loop-again c = (
+  search needs,
+  rw (c .length-of .ensures, c .before .edge-at .ensures)
+      (summed-step _ _ _ (c .before .before .loop-test .taken) (c .before .before .before .loop .inv .1)),
+)
 
 returns : tie.Need-returns Inv-loop μ-loop
 returns c = summed-done _ _ _ (c .loop-test .left) (c .before .loop .inv .1)
@@ -43,7 +45,7 @@ perimeter-spec =
     loop-holds
     edge-at-requires
     length-of-requires
-    add-i
+    (λ c. search needs)
     loop-less
     loop-again
     returns)

@@ -1,4 +1,5 @@
--- `candidates::spaced` meets its contract. The loop's invariant: the first k places are filled, the others blank. Assumes nothing.
+-- `candidates::spaced` meets its contract. The loop's invariant: the first k places are filled, the others blank.
+-- Assumes nothing.
 use mathlib.Core.Path.{_≡_}
 use Prim.Native.Nat.{_≤_, _-_}
 use native.Mathlib.Omega.{arith}
@@ -30,20 +31,20 @@ spot-at-requires c κs = tt
 candidate-at-requires : tie.Need-candidate-at-requires Inv-loop μ-loop
 candidate-at-requires c κs = tt
 
-mul-items : tie.Need-mul-items Inv-loop μ-loop
-mul-items c = omega arith
-
-array-set-from-items : tie.Need-array-set-from-items Inv-loop μ-loop
-array-set-from-items c = omega arith
-
-add-k : tie.Need-add-k Inv-loop μ-loop
-add-k c = omega arith
-
 loop-less : tie.Need-loop-less Inv-loop μ-loop
 loop-less c = omega arith
 
 loop-again : tie.Need-loop-again Inv-loop μ-loop
-loop-again c = (omega arith, rw (c .candidate-at .ensures, c .before .spot-at .ensures, c .before .before .target-of .ensures, c .before .before .before .before .loop .inv .1) (room-more _ _ _ _ _ (omega arith)))
+loop-again c = (
+  omega arith,
+  rw (
+    c .candidate-at .ensures,
+    c .before .spot-at .ensures,
+    c .before .before .target-of .ensures,
+    c
+        .before .before .before .before .loop .inv .1,
+  ) (room-more _ _ _ _ _ (omega arith)),
+)
 
 returns : tie.Need-returns Inv-loop μ-loop
 returns c =
@@ -61,9 +62,7 @@ spaced-spec =
     target-of-requires
     spot-at-requires
     candidate-at-requires
-    mul-items
-    array-set-from-items
-    add-k
+    (λ c. omega arith) (λ c. omega arith) (λ c. omega arith)
     loop-less
     loop-again
     returns)

@@ -1,4 +1,5 @@
--- `candidates::spot_at` meets its contract. The loop's invariant: looking on from edge i finds what looking from the start finds. Assumes nothing.
+-- `candidates::spot_at` meets its contract. The loop's invariant: looking on from edge i finds what looking from the
+-- start finds. Assumes nothing.
 use mathlib.Core.Path.{sym, _∙_}
 use Prim.Native.Nat.{_≤_, _-_, _/_}
 use native.Mathlib.Omega.{arith}
@@ -33,11 +34,9 @@ returns : tie.Need-returns Inv-loop μ-loop
 returns c =
     let t = sym (c .before .before .on-the-way .ensures) ∙ c .before .if1 .taken in
     rw (c .on-edge .ensures, c .before .before .before .before .edge-at .ensures)
-    (sought-here _ _ _ _ (c .before .before .before .before .before .loop-test .taken) (c .before .before .before .before .before .before .loop .inv .1)
+    (sought-here _ _ _ _ (c .before .before .before .before .before .loop-test .taken)
+    (c .before .before .before .before .before .before .loop .inv .1)
     (rw (c .before .before .before .length-of .ensures, c .before .before .before .before .edge-at .ensures) at t))
-
-add-i : tie.Need-add-i Inv-loop μ-loop
-add-i c = search needs
 
 loop-less : tie.Need-loop-less Inv-loop μ-loop
 loop-less c = omega arith
@@ -47,7 +46,8 @@ loop-again c =
     let t = sym (c .before .on-the-way .ensures) ∙ c .if1 .left in (
       search needs,
       rw (c .before .before .length-of .ensures, c .before .before .before .edge-at .ensures)
-          (sought-on _ _ _ _ (c .before .before .before .before .loop-test .taken) (c .before .before .before .before .before .loop .inv .1)
+          (sought-on _ _ _ _ (c .before .before .before .before .loop-test .taken)
+          (c .before .before .before .before .before .loop .inv .1)
           (rw (c .before .before .length-of .ensures, c .before .before .before .edge-at .ensures) at t)),
     )
 
@@ -55,7 +55,8 @@ last-spot-requires : tie.Need-last-spot-requires Inv-loop μ-loop
 last-spot-requires c κs = tt
 
 returns-2 : tie.Need-returns-2 Inv-loop μ-loop
-returns-2 c = rw (c .last-spot .ensures) (sought-last _ _ _ _ (c .before .loop-test .left) (c .before .before .loop .inv .1))
+returns-2 c =
+    rw (c .last-spot .ensures) (sought-last _ _ _ _ (c .before .loop-test .left) (c .before .before .loop .inv .1))
 
 pub spot-at-spec : {M : Type 1} → statement M
 spot-at-spec =
@@ -69,7 +70,7 @@ spot-at-spec =
     on-the-way-requires
     on-edge-requires
     returns
-    add-i
+    (λ c. search needs)
     loop-less
     loop-again
     last-spot-requires

@@ -4,16 +4,10 @@ use Rattle.candidates.specs.Generate.{target}
 use Rattle.candidates.proofs.target_of.Statement.{statement}
 use Rattle.candidates.proofs.target_of.Tie as tie
 
-nearest-u64-to-f64-requires : tie.Need-nearest-u64-to-f64-requires
-nearest-u64-to-f64-requires c κs = search needs
-
-nearest-u64-to-f64-requires-2 : tie.Need-nearest-u64-to-f64-requires-2
-nearest-u64-to-f64-requires-2 c κs = search needs
-
 returns : tie.Need-returns
 unfolding target
 returns c = rw (c .nearest-u64-to-f642 .ensures, c .before .nearest-u64-to-f64 .ensures)
 
 pub target-of-spec : {M : Type 1} → statement M
 target-of-spec =
-    tie.close (tie.spec nearest-u64-to-f64-requires nearest-u64-to-f64-requires-2 returns)
+    tie.close (tie.spec (λ c κs. search needs) (λ c κs. search needs) returns)

@@ -6,42 +6,19 @@ use Rattle.card.proofs.GroupLaws.{few-contours, few-pairs, head-stops, 
 use Rattle.card.proofs.check.Statement.{statement}
 use Rattle.card.proofs.check.Tie as tie
 
-check-head-requires : tie.Need-check-head-requires
-check-head-requires c κs = search needs
-
 enum-told : tie.Need-enum-told
 enum-told c = search needs
-
-enum-told-2 : tie.Need-enum-told-2
-enum-told-2 c = search needs
 
 returns : tie.Need-returns
 returns c = let g1 = c .before .before in
     head-stops _ _ _ (g1 .check-head .ensures) (c .enum-told2 .given .1)
 
-check-blocks-requires : tie.Need-check-blocks-requires
-check-blocks-requires c κs = search needs
-
-enum-told-3 : tie.Need-enum-told-3
-enum-told-3 c = search needs
-
-enum-told-4 : tie.Need-enum-told-4
-enum-told-4 c = search needs
-
 returns-2 : tie.Need-returns-2
 returns-2 c = let g2 = c .before .before in
     let t1 = g2 .before in
     let g1 = t1 .before .before in
-    blocks-stop _ _ (g1 .check-head .ensures) (t1 .enum-told .given .1) _ _ (g2 .check-blocks .ensures) (c .enum-told4 .given .1)
-
-check-contours-requires : tie.Need-check-contours-requires
-check-contours-requires c κs = search needs
-
-enum-told-5 : tie.Need-enum-told-5
-enum-told-5 c = search needs
-
-enum-told-6 : tie.Need-enum-told-6
-enum-told-6 c = search needs
+    blocks-stop _ _ (g1 .check-head .ensures) (t1 .enum-told .given .1) _ _ (g2 .check-blocks .ensures)
+    (c .enum-told4 .given .1)
 
 returns-3 : tie.Need-returns-3
 returns-3 c = let g3 = c .before .before in
@@ -49,7 +26,8 @@ returns-3 c = let g3 = c .before .before in
     let g2 = t2 .before .before in
     let t1 = g2 .before in
     let g1 = t1 .before .before in
-    contours-stop _ _ (g1 .check-head .ensures) (t1 .enum-told .given .1) _ (g2 .check-blocks .ensures) (t2 .enum-told3 .given .1) _ _ (g3 .check-contours .ensures) (c .enum-told6 .given .1)
+    contours-stop _ _ (g1 .check-head .ensures) (t1 .enum-told .given .1) _ (g2 .check-blocks .ensures)
+    (t2 .enum-told3 .given .1) _ _ (g3 .check-contours .ensures) (c .enum-told6 .given .1)
 
 check-pairs-requires : tie.Need-check-pairs-requires
 check-pairs-requires c κs = let t3 = c in
@@ -66,23 +44,21 @@ returns-4 c = let t3 = c .before in
     let g2 = t2 .before .before in
     let t1 = g2 .before in
     let g1 = t1 .before .before in
-    pairs-say _ _ (g1 .check-head .ensures) (t1 .enum-told .given .1) _ (g2 .check-blocks .ensures) (t2 .enum-told3 .given .1) _ _ (g3 .check-contours .ensures) (t3 .enum-told5 .given .1) (c .check-pairs .ensures)
+    pairs-say _ _ (g1 .check-head .ensures) (t1 .enum-told .given .1) _ (g2 .check-blocks .ensures)
+    (t2 .enum-told3 .given .1) _ _ (g3 .check-contours .ensures) (t3 .enum-told5 .given .1)
+    (c .check-pairs .ensures)
 
 pub check-spec : {M : Type 1} → statement M
 check-spec =
     tie.close
     (tie.spec
-    check-head-requires
+    (λ c κs. search needs)
     enum-told
-    enum-told-2
+    (λ c. search needs)
     returns
-    check-blocks-requires
-    enum-told-3
-    enum-told-4
+    (λ c κs. search needs) (λ c. search needs) (λ c. search needs)
     returns-2
-    check-contours-requires
-    enum-told-5
-    enum-told-6
+    (λ c κs. search needs) (λ c. search needs) (λ c. search needs)
     returns-3
     check-pairs-requires
     returns-4)

@@ -4,33 +4,12 @@ use Rattle.card.proofs.GroupLaws.{stops-at, goes-past, ends-with}
 use Rattle.card.proofs.check_blocks.Statement.{statement}
 use Rattle.card.proofs.check_blocks.Tie as tie
 
-count-fault-requires : tie.Need-count-fault-requires
-count-fault-requires c κs = search needs
-
-refused-at-requires : tie.Need-refused-at-requires
-refused-at-requires c κs = search needs
-
 enum-told : tie.Need-enum-told
 enum-told c = search needs
-
-enum-told-2 : tie.Need-enum-told-2
-enum-told-2 c = search needs
 
 returns : tie.Need-returns
 returns c = let r1 = c .before .before in
     stops-at 5 (r1 .refused-at .ensures) (r1 .before .count-fault .ensures) _ (c .enum-told2 .given .1)
-
-start-fault-requires : tie.Need-start-fault-requires
-start-fault-requires c κs = search needs
-
-refused-at-requires-2 : tie.Need-refused-at-requires-2
-refused-at-requires-2 c κs = search needs
-
-enum-told-3 : tie.Need-enum-told-3
-enum-told-3 c = search needs
-
-enum-told-4 : tie.Need-enum-told-4
-enum-told-4 c = search needs
 
 returns-2 : tie.Need-returns-2
 returns-2 c = let r2 = c .before .before in
@@ -38,18 +17,6 @@ returns-2 c = let r2 = c .before .before in
     let r1 = t1 .before .before in
     goes-past 5 (r1 .refused-at .ensures) (r1 .before .count-fault .ensures) _ (t1 .enum-told .given .1)
     (stops-at 3 (r2 .refused-at2 .ensures) (r2 .before .start-fault .ensures) _ (c .enum-told4 .given .1))
-
-contour-fault-requires : tie.Need-contour-fault-requires
-contour-fault-requires c κs = search needs
-
-refused-at-requires-3 : tie.Need-refused-at-requires-3
-refused-at-requires-3 c κs = search needs
-
-enum-told-5 : tie.Need-enum-told-5
-enum-told-5 c = search needs
-
-enum-told-6 : tie.Need-enum-told-6
-enum-told-6 c = search needs
 
 returns-3 : tie.Need-returns-3
 returns-3 c = let r3 = c .before .before in
@@ -60,12 +27,6 @@ returns-3 c = let r3 = c .before .before in
     goes-past 5 (r1 .refused-at .ensures) (r1 .before .count-fault .ensures) _ (t1 .enum-told .given .1)
     (goes-past 3 (r2 .refused-at2 .ensures) (r2 .before .start-fault .ensures) _ (t2 .enum-told3 .given .1)
     (stops-at 6 (r3 .refused-at3 .ensures) (r3 .before .contour-fault .ensures) _ (c .enum-told6 .given .1)))
-
-spare-fault-requires : tie.Need-spare-fault-requires
-spare-fault-requires c κs = search needs
-
-refused-at-requires-4 : tie.Need-refused-at-requires-4
-refused-at-requires-4 c κs = search needs
 
 returns-4 : tie.Need-returns-4
 returns-4 c = let r4 = c in
@@ -84,21 +45,13 @@ pub check-blocks-spec : {M : Type 1} → statement M
 check-blocks-spec =
     tie.close
     (tie.spec
-    count-fault-requires
-    refused-at-requires
+    (λ c κs. search needs) (λ c κs. search needs)
     enum-told
-    enum-told-2
+    (λ c. search needs)
     returns
-    start-fault-requires
-    refused-at-requires-2
-    enum-told-3
-    enum-told-4
+    (λ c κs. search needs) (λ c κs. search needs) (λ c. search needs) (λ c. search needs)
     returns-2
-    contour-fault-requires
-    refused-at-requires-3
-    enum-told-5
-    enum-told-6
+    (λ c κs. search needs) (λ c κs. search needs) (λ c. search needs) (λ c. search needs)
     returns-3
-    spare-fault-requires
-    refused-at-requires-4
+    (λ c κs. search needs) (λ c κs. search needs)
     returns-4)

@@ -4,27 +4,12 @@ use Rattle.card.proofs.GroupLaws.{stops-at, goes-past, ends-with}
 use Rattle.card.proofs.check_contours.Statement.{statement}
 use Rattle.card.proofs.check_contours.Tie as tie
 
-far-fault-requires : tie.Need-far-fault-requires
-far-fault-requires c κs = search needs
-
-refused-at-requires : tie.Need-refused-at-requires
-refused-at-requires c κs = search needs
-
 enum-told : tie.Need-enum-told
 enum-told c = search needs
-
-enum-told-2 : tie.Need-enum-told-2
-enum-told-2 c = search needs
 
 returns : tie.Need-returns
 returns c = let r1 = c .before .before in
     stops-at 8 (r1 .refused-at .ensures) (r1 .before .far-fault .ensures) _ (c .enum-told2 .given .1)
-
-repeat-fault-requires : tie.Need-repeat-fault-requires
-repeat-fault-requires c κs = search needs
-
-refused-at-requires-2 : tie.Need-refused-at-requires-2
-refused-at-requires-2 c κs = search needs
 
 returns-2 : tie.Need-returns-2
 returns-2 c = let r2 = c in
@@ -37,11 +22,9 @@ pub check-contours-spec : {M : Type 1} → statement M
 check-contours-spec =
     tie.close
     (tie.spec
-    far-fault-requires
-    refused-at-requires
+    (λ c κs. search needs) (λ c κs. search needs)
     enum-told
-    enum-told-2
+    (λ c. search needs)
     returns
-    repeat-fault-requires
-    refused-at-requires-2
+    (λ c κs. search needs) (λ c κs. search needs)
     returns-2)

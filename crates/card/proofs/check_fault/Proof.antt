@@ -18,26 +18,24 @@ abbrev μ-loop : tie.MeasureT-loop
 loop-holds : tie.Need-loop-holds Inv-loop μ-loop
 loop-holds c = (omega arith, none-yet (badCheck (now (c .before .args .card))))
 
-mul-is-checked : tie.Need-mul-is-checked Inv-loop μ-loop
-mul-is-checked c = omega arith
-
 is-checked-requires : tie.Need-is-checked-requires Inv-loop μ-loop
 is-checked-requires c κs = tt
 
 returns : tie.Need-returns Inv-loop μ-loop
 unfolding checkFault
 returns c = let s = now (c .before .before .before .before .before .args .card) in
-    found-here (badCheck s) (blocksOf s) _ (c .before .before .loop-test .taken) (c .before .before .before .loop .inv .1) (rw (← c .before .is-checked .ensures, c .if1 .taken))
-
-add-b : tie.Need-add-b Inv-loop μ-loop
-add-b c = omega arith
+    found-here (badCheck s) (blocksOf s) _ (c .before .before .loop-test .taken)
+    (c .before .before .before .loop .inv .1) (rw (← c .before .is-checked .ensures, c .if1 .taken))
 
 loop-less : tie.Need-loop-less Inv-loop μ-loop
 loop-less c = omega arith
 
 loop-again : tie.Need-loop-again Inv-loop μ-loop
-loop-again c = let s = now (c .before .before .before .before .before .args .card) in
-    (omega arith, one-more (badCheck s) _ (c .before .before .before .loop .inv .1) (rw (← c .before .is-checked .ensures, c .if1 .left)))
+loop-again c = let s = now (c .before .before .before .before .before .args .card) in (
+  omega arith,
+  one-more (badCheck s) _ (c .before .before .before .loop .inv .1)
+      (rw (← c .before .is-checked .ensures, c .if1 .left)),
+)
 
 returns-2 : tie.Need-returns-2 Inv-loop μ-loop
 unfolding checkFault
@@ -51,10 +49,10 @@ check-fault-spec =
     Inv-loop
     μ-loop
     loop-holds
-    mul-is-checked
+    (λ c. omega arith)
     is-checked-requires
     returns
-    add-b
+    (λ c. omega arith)
     loop-less
     loop-again
     returns-2)

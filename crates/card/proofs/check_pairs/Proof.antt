@@ -5,18 +5,13 @@ use Rattle.card.proofs.GroupLaws.{stopped, passed, named-stage, named-s
 use Rattle.card.proofs.check_pairs.Statement.{statement}
 use Rattle.card.proofs.check_pairs.Tie as tie
 
-named-pairs-requires : tie.Need-named-pairs-requires
-named-pairs-requires c κs = search needs
-
 enum-told : tie.Need-enum-told
 enum-told c = search needs
 
-enum-told-2 : tie.Need-enum-told-2
-enum-told-2 c = search needs
-
 returns : tie.Need-returns
 returns c = let n = c .before .before in
-    stopped _ _ _ (named-stage (now (n .before .before .args .card)) _ (n .named-pairs .ensures)) _ (c .enum-told2 .given .1)
+    stopped _ _ _ (named-stage (now (n .before .before .args .card)) _ (n .named-pairs .ensures)) _
+    (c .enum-told2 .given .1)
 
 array-share-prefix-places : tie.Need-array-share-prefix-places
 array-share-prefix-places c = let t = c .before in
@@ -36,16 +31,17 @@ check-seats-requires c κs = let t = c .before .before in
 returns-2 : tie.Need-returns-2
 returns-2 c = let t = c .before .before .before in
     let n = t .before .before in
-    passed _ _ _ (named-stage (now (n .before .before .args .card)) _ (n .named-pairs .ensures)) _ (t .enum-told .given .1)
+    passed _ _ _ (named-stage (now (n .before .before .args .card)) _ (n .named-pairs .ensures)) _
+    (t .enum-told .given .1)
     (c .check-seats .ensures)
 
 pub check-pairs-spec : {M : Type 1} → statement M
 check-pairs-spec =
     tie.close
     (tie.spec
-    named-pairs-requires
+    (λ c κs. search needs)
     enum-told
-    enum-told-2
+    (λ c. search needs)
     returns
     array-share-prefix-places
     slice-aggregate-check-seats

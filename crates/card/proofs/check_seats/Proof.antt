@@ -5,30 +5,12 @@ use Rattle.card.proofs.GroupLaws.{stops-at, goes-past, ends-with, cycle
 use Rattle.card.proofs.check_seats.Statement.{statement}
 use Rattle.card.proofs.check_seats.Tie as tie
 
-tag-fault-requires : tie.Need-tag-fault-requires
-tag-fault-requires c κs = search needs
-
-refused-at-requires : tie.Need-refused-at-requires
-refused-at-requires c κs = search needs
-
 enum-told : tie.Need-enum-told
 enum-told c = search needs
-
-enum-told-2 : tie.Need-enum-told-2
-enum-told-2 c = search needs
 
 returns : tie.Need-returns
 returns c = let r1 = c .before .before in
     stops-at 11 (r1 .refused-at .ensures) (r1 .before .tag-fault .ensures) _ (c .enum-told2 .given .1)
-
-contours-requires : tie.Need-contours-requires
-contours-requires c κs = search needs
-
-first-on-cycle-requires : tie.Need-first-on-cycle-requires
-first-on-cycle-requires c κs = search needs
-
-refused-at-requires-2 : tie.Need-refused-at-requires-2
-refused-at-requires-2 c κs = search needs
 
 returns-2 : tie.Need-returns-2
 returns-2 c = let t1 = c .before .before .before in
@@ -43,12 +25,9 @@ pub check-seats-spec : {M : Type 1} → statement M
 check-seats-spec =
     tie.close
     (tie.spec
-    tag-fault-requires
-    refused-at-requires
+    (λ c κs. search needs) (λ c κs. search needs)
     enum-told
-    enum-told-2
+    (λ c. search needs)
     returns
-    contours-requires
-    first-on-cycle-requires
-    refused-at-requires-2
+    (λ c κs. search needs) (λ c κs. search needs) (λ c κs. search needs)
     returns-2)

@@ -29,10 +29,8 @@ returns : tie.Need-returns Inv-loop μ-loop
 unfolding contourFault
 returns c = let s = now (c .before .before .before .before .before .before .args .card) in
     let n = c .before .before .before .loop .inv .0 in
-    found-here (badContour s) (contoursOf s) _ (omega arith) (c .before .before .before .loop .inv .2) (rw (← c .before .bad-contour .ensures, c .if1 .taken))
-
-add-k : tie.Need-add-k Inv-loop μ-loop
-add-k c = omega arith
+    found-here (badContour s) (contoursOf s) _ (omega arith) (c .before .before .before .loop .inv .2)
+    (rw (← c .before .bad-contour .ensures, c .if1 .taken))
 
 loop-less : tie.Need-loop-less Inv-loop μ-loop
 loop-less c = omega arith
@@ -58,7 +56,7 @@ contour-fault-spec =
     loop-holds
     bad-contour-requires
     returns
-    add-k
+    (λ c. omega arith)
     loop-less
     loop-again
     returns-2)

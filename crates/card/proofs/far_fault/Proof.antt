@@ -18,20 +18,22 @@ Inv-loop card n k₀ k = (n ≡ contoursOf card) × (k ≤ n) × Nowhere (farPla
 abbrev μ-loop : tie.MeasureT-loop
 μ-loop card n k₀ k = n - k
 
-far-point-requires : tie.Need-far-point-requires Inv-loop μ-loop
-far-point-requires c κs = omega arith
-
 returns : tie.Need-returns Inv-loop μ-loop
 unfolding farFault
 returns c = let s = now (c .before .before .before .args .card) in
-    found-here (farPlace s) (contoursOf s + 1) 0 (omega arith) (none-yet (farPlace s)) (sym (c .before .far-point .ensures) ∙ c .if1 .taken)
+    found-here (farPlace s) (contoursOf s + 1) 0 (omega arith) (none-yet (farPlace s))
+    (sym (c .before .far-point .ensures) ∙ c .if1 .taken)
 
 contours-requires : tie.Need-contours-requires Inv-loop μ-loop
 contours-requires c κs = tt
 
 loop-holds : tie.Need-loop-holds Inv-loop μ-loop
-loop-holds c = let s = now (c .before .before .before .before .args .card) in
-    (c .contours .ensures, omega arith, home-near s (sym (c .before .before .far-point .ensures) ∙ c .before .if1 .left))
+loop-holds c = let s = now (c .before .before .before .before .args .card) in (
+  c .contours .ensures,
+  omega arith,
+  home-near s
+      (sym (c .before .before .far-point .ensures) ∙ c .before .if1 .left),
+)
 
 far-vertex-requires : tie.Need-far-vertex-requires Inv-loop μ-loop
 far-vertex-requires c κs = tt
@@ -39,28 +41,24 @@ far-vertex-requires c κs = tt
 enum-told : tie.Need-enum-told Inv-loop μ-loop
 enum-told c = search needs
 
-enum-told-2 : tie.Need-enum-told-2 Inv-loop μ-loop
-enum-told-2 c = search needs
-
-add-t7 : tie.Need-add-t7 Inv-loop μ-loop
-add-t7 c = omega arith
-
 returns-2 : tie.Need-returns-2 Inv-loop μ-loop
 unfolding farFault
 returns-2 c = let s = now (c .before .before .before .before .before .before .before .before .before .args .card) in
     let i = c .before .before .before .before .loop .inv in
-    found-here (farPlace s) (contoursOf s + 1) _ (omega arith) (i .2) (contour-far s _ _ _ (c .before .before .far-vertex .ensures) (c .enum-told2 .given .1))
-
-add-k : tie.Need-add-k Inv-loop μ-loop
-add-k c = omega arith
+    found-here (farPlace s) (contoursOf s + 1) _ (omega arith) (i .2)
+    (contour-far s _ _ _ (c .before .before .far-vertex .ensures) (c .enum-told2 .given .1))
 
 loop-less : tie.Need-loop-less Inv-loop μ-loop
 loop-less c = omega arith
 
 loop-again : tie.Need-loop-again Inv-loop μ-loop
 loop-again c = let s = now (c .before .before .before .before .before .before .before .before .before .args .card) in
-    let i = c .before .before .before .before .loop .inv in
-    (i .0, omega arith, one-more (farPlace s) _ (i .2) (contour-near s _ _ (c .before .before .far-vertex .ensures) (c .enum-told .given .1)))
+    let i = c .before .before .before .before .loop .inv in (
+      i .0,
+      omega arith,
+      one-more (farPlace s) _ (i .2)
+          (contour-near s _ _ (c .before .before .far-vertex .ensures) (c .enum-told .given .1)),
+    )
 
 returns-3 : tie.Need-returns-3 Inv-loop μ-loop
 unfolding farFault
@@ -74,16 +72,15 @@ far-fault-spec =
     (tie.spec
     Inv-loop
     μ-loop
-    far-point-requires
+    (λ c κs. omega arith)
     returns
     contours-requires
     loop-holds
     far-vertex-requires
     enum-told
-    enum-told-2
-    add-t7
+    (λ c. search needs) (λ c. omega arith)
     returns-2
-    add-k
+    (λ c. omega arith)
     loop-less
     loop-again
     returns-3)

@@ -14,7 +14,9 @@ use Rattle.card.proofs.far_vertex.Statement.{statement}
 use Rattle.card.proofs.far_vertex.Tie as tie
 
 abbrev Inv-loop : tie.InvT-loop
-Inv-loop card k start v j₀ j = (start ≡ min (payload (k + 1) + 12) (length card)) × (v ≡ vertexCountOf card k) × (v < 65536) × (j ≤ v) × Nowhere (λ i. farPoint card (vertexPlace k i)) j
+Inv-loop card k start v j₀ j =
+    (start ≡ min (payload (k + 1) + 12) (length card)) × (v ≡ vertexCountOf card k) × (v < 65536) × (j ≤ v) × Nowhere
+    (λ i. farPoint card (vertexPlace k i)) j
 
 abbrev μ-loop : tie.MeasureT-loop
 μ-loop card k start v j₀ j = v - j
@@ -28,31 +30,24 @@ contour-place-requires-2 c κs = tt
 u16-at-requires : tie.Need-u16-at-requires Inv-loop μ-loop
 u16-at-requires c κs = tt
 
-cast-v : tie.Need-cast-v Inv-loop μ-loop
-cast-v c = omega arith
-
 loop-holds : tie.Need-loop-holds Inv-loop μ-loop
-loop-holds c = let a = c .before .before .before .before .args in
-    (c .before .before .contour-place .ensures, u16-of _ _ _ (c .before .contour-place2 .ensures) _ (c .u16-at .ensures), omega arith, omega arith, none-yet (λ i. farPoint (now (a .card)) (vertexPlace (a .k) i)))
-
-mul-far-point : tie.Need-mul-far-point Inv-loop μ-loop
-mul-far-point c = omega arith
-
-add-far-point : tie.Need-add-far-point Inv-loop μ-loop
-add-far-point c = omega arith
-
-far-point-requires : tie.Need-far-point-requires Inv-loop μ-loop
-far-point-requires c κs = omega arith
+loop-holds c = let a = c .before .before .before .before .args in (
+  c .before .before .contour-place .ensures,
+  u16-of _ _ _ (c .before .contour-place2 .ensures) _
+      (c .u16-at .ensures),
+  omega arith,
+  omega arith,
+  none-yet (λ i. farPoint (now (a .card)) (vertexPlace (a .k) i)),
+)
 
 returns : tie.Need-returns Inv-loop μ-loop
 unfolding farVertex
 returns c = let a = c .before .before .before .before .before .before .before .before .args in
     let i = c .before .before .before .loop .inv in
-    found-here (λ i. farPoint (now (a .card)) (vertexPlace (a .k) i)) (vertexCountOf (now (a .card)) (a .k)) _ (omega arith) (i .4)
-    (vertex-looked-at (now (a .card)) (payload (a .k + 1) + 12) _ _ _ (i .0) (c .before .far-point .ensures) ∙ c .if1 .taken)
-
-add-j : tie.Need-add-j Inv-loop μ-loop
-add-j c = omega arith
+    found-here (λ i. farPoint (now (a .card)) (vertexPlace (a .k) i)) (vertexCountOf (now (a .card)) (a .k)) _
+    (omega arith) (i .4)
+    (vertex-looked-at (now (a .card)) (payload (a .k + 1) + 12) _ _ _ (i .0) (c .before .far-point .ensures)
+    ∙ c .if1 .taken)
 
 loop-less : tie.Need-loop-less Inv-loop μ-loop
 loop-less c = omega arith
@@ -65,14 +60,16 @@ loop-again c = let a = c .before .before .before .before .before .before .before
       i .2,
       omega arith,
       one-more (λ i. farPoint (now (a .card)) (vertexPlace (a .k) i)) _ (i .4)
-          (vertex-looked-at (now (a .card)) (payload (a .k + 1) + 12) _ _ _ (i .0) (c .before .far-point .ensures) ∙ c .if1 .left),
+          (vertex-looked-at (now (a .card)) (payload (a .k + 1) + 12) _ _ _ (i .0) (c .before .far-point .ensures)
+          ∙ c .if1 .left),
     )
 
 returns-2 : tie.Need-returns-2 Inv-loop μ-loop
 unfolding farVertex
 returns-2 c = let a = c .before .before .before .before .before .before .args in
     let i = c .before .loop .inv in
-    none-found (λ i. farPoint (now (a .card)) (vertexPlace (a .k) i)) (vertexCountOf (now (a .card)) (a .k)) _ (omega arith) (i .4)
+    none-found (λ i. farPoint (now (a .card)) (vertexPlace (a .k) i)) (vertexCountOf (now (a .card)) (a .k)) _
+    (omega arith) (i .4)
 
 pub far-vertex-spec : {M : Type 1} → statement M
 far-vertex-spec =
@@ -83,13 +80,11 @@ far-vertex-spec =
     contour-place-requires
     contour-place-requires-2
     u16-at-requires
-    cast-v
+    (λ c. omega arith)
     loop-holds
-    mul-far-point
-    add-far-point
-    far-point-requires
+    (λ c. omega arith) (λ c. omega arith) (λ c κs. omega arith)
     returns
-    add-j
+    (λ c. omega arith)
     loop-less
     loop-again
     returns-2)

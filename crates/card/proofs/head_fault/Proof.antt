@@ -22,19 +22,19 @@ head-faults-requires : tie.Need-head-faults-requires Inv-loop μ-loop
 head-faults-requires c κs = tt
 
 loop-holds : tie.Need-loop-holds Inv-loop μ-loop
-loop-holds c = (c .head-faults .ensures, omega arith, none-yet (λ i. getD (headFaults (now (c .before .before .args .card))) i false))
-
-array-read-if1 : tie.Need-array-read-if1 Inv-loop μ-loop
-array-read-if1 c = omega arith
+loop-holds c = (
+  c .head-faults .ensures,
+  omega arith,
+  none-yet
+      (λ i. getD (headFaults (now (c .before .before .args .card))) i false),
+)
 
 returns : tie.Need-returns Inv-loop μ-loop
 unfolding headFault
 returns c = let s = now (c .before .before .before .before .before .args .card) in
     let i = c .before .before .loop .inv in
-    found-here (λ i. getD (headFaults s) i false) 8 _ (c .before .loop-test .taken) (i .2) (field-is s _ _ _ (i .0) (c .if1 .taken))
-
-add-f : tie.Need-add-f Inv-loop μ-loop
-add-f c = omega arith
+    found-here (λ i. getD (headFaults s) i false) 8 _ (c .before .loop-test .taken) (i .2)
+    (field-is s _ _ _ (i .0) (c .if1 .taken))
 
 loop-less : tie.Need-loop-less Inv-loop μ-loop
 loop-less c = omega arith
@@ -57,9 +57,9 @@ head-fault-spec =
     μ-loop
     head-faults-requires
     loop-holds
-    array-read-if1
+    (λ c. omega arith)
     returns
-    add-f
+    (λ c. omega arith)
     loop-less
     loop-again
     returns-2)

@@ -4,9 +4,6 @@ use Rattle.card.proofs.FaultLaws.{too-long, no-blocks, whole-blocks}
 use Rattle.card.proofs.length_fault.Statement.{statement}
 use Rattle.card.proofs.length_fault.Tie as tie
 
-add-t4 : tie.Need-add-t4
-add-t4 c = search needs
-
 returns : tie.Need-returns
 returns c = too-long _ (c .if1 .taken)
 
@@ -17,4 +14,4 @@ returns-3 : tie.Need-returns-3
 returns-3 c = whole-blocks _ (c .before .if1 .left) (c .if2 .left)
 
 pub length-fault-spec : {M : Type 1} → statement M
-length-fault-spec = tie.close (tie.spec add-t4 returns returns-2 returns-3)
+length-fault-spec = tie.close (tie.spec (λ c. search needs) returns returns-2 returns-3)

@@ -11,12 +11,14 @@ use Rattle.fields.specs.Layout.{pairsOf}
 use Rattle.card.specs.Stages.{unnamed}
 use Rattle.card.specs.Names.{seatsOf}
 use Rattle.card.proofs.LoopLaws.{none-yet, one-more}
-use Rattle.card.proofs.NameLaws.{position-below, first-unknown, second-unknown, both-known, before-is, after-is, places-none, places-more, named-until, named-all}
+use Rattle.card.proofs.NameLaws.{position-below, first-unknown, second-unknown, both-known, before-is, after-is}
+use Rattle.card.proofs.NameLaws.{places-none, places-more, named-until, named-all}
 use Rattle.card.proofs.named_pairs.Statement.{statement}
 use Rattle.card.proofs.named_pairs.Tie as tie
 
 abbrev Inv-loop : tie.InvT-loop
-Inv-loop card m places₀ q₀ places q = (m ≡ pairsOf card) × (q ≤ m) × Nowhere (unnamed card) q × (places ≡ padded (2 * PAIRS) 0 (seatsOf card q))
+Inv-loop card m places₀ q₀ places q =
+    (m ≡ pairsOf card) × (q ≤ m) × Nowhere (unnamed card) q × (places ≡ padded (2 * PAIRS) 0 (seatsOf card q))
 
 abbrev μ-loop : tie.MeasureT-loop
 μ-loop card m places₀ q₀ places q = m - q
@@ -34,24 +36,20 @@ before-id-requires c κs = tt
 position-of-requires : tie.Need-position-of-requires Inv-loop μ-loop
 position-of-requires c κs = tt
 
-enum-known-before : tie.Need-enum-known-before Inv-loop μ-loop
-enum-known-before c = search needs
-
 enum-told : tie.Need-enum-told Inv-loop μ-loop
 enum-told c = search needs
 
 refused-requires : tie.Need-refused-requires Inv-loop μ-loop
 refused-requires c κs = tt
 
-mul-t12 : tie.Need-mul-t12 Inv-loop μ-loop
-mul-t12 c = omega arith
-
 returns : tie.Need-returns Inv-loop μ-loop
 returns c = let p = c .before .before .before in
     let l = p .before .before .before in
     let s = now (l .before .before .before .args .card) in
     let i = l .loop .inv in
-    named-until s _ _ _ (i .2) (i .3) (omega arith) (first-unknown s _ _ _ (p .before .before-id .ensures) (p .position-of .ensures) (c .before .enum-told .given .1)) (c .refused .ensures)
+    named-until s _ _ _ (i .2) (i .3) (omega arith)
+    (first-unknown s _ _ _ (p .before .before-id .ensures) (p .position-of .ensures)
+    (c .before .enum-told .given .1)) (c .refused .ensures)
 
 after-id-requires : tie.Need-after-id-requires Inv-loop μ-loop
 after-id-requires c κs = tt
@@ -59,52 +57,37 @@ after-id-requires c κs = tt
 position-of-requires-2 : tie.Need-position-of-requires-2 Inv-loop μ-loop
 position-of-requires-2 c κs = tt
 
-enum-known-after : tie.Need-enum-known-after Inv-loop μ-loop
-enum-known-after c = search needs
-
-enum-told-2 : tie.Need-enum-told-2 Inv-loop μ-loop
-enum-told-2 c = search needs
-
 refused-requires-2 : tie.Need-refused-requires-2 Inv-loop μ-loop
 refused-requires-2 c κs = tt
-
-mul-t16 : tie.Need-mul-t16 Inv-loop μ-loop
-mul-t16 c = omega arith
 
 returns-2 : tie.Need-returns-2 Inv-loop μ-loop
 returns-2 c = let p = c .before .before .before in
     let l = p .before .before .before .before .before .before .before .before in
     let s = now (l .before .before .before .args .card) in
     let i = l .loop .inv in
-    named-until s _ _ _ (i .2) (i .3) (omega (arith, l)) (second-unknown s _ _ _ (p .before .after-id .ensures) (p .position-of2 .ensures) (c .before .enum-told2 .given .1)) (c .refused2 .ensures)
+    named-until s _ _ _ (i .2) (i .3) (omega (arith, l))
+    (second-unknown s _ _ _ (p .before .after-id .ensures) (p .position-of2 .ensures)
+    (c .before .enum-told2 .given .1)) (c .refused2 .ensures)
 
 cast-places : tie.Need-cast-places Inv-loop μ-loop
 cast-places c = let k = c .before .before .before .before .before .before in
     let p = k .before .before in
-    omega (arith, p .before .before .before .before .before .before .pre, position-below _ _ _ _ (p .position-of .ensures) (k .before2 .given .1))
-
-mul-places : tie.Need-mul-places Inv-loop μ-loop
-mul-places c = omega arith
-
-array-write-places : tie.Need-array-write-places Inv-loop μ-loop
-array-write-places c = omega arith
+    omega (
+      arith,
+      p .before .before .before .before .before .before .pre,
+      position-below _ _ _ _
+          (p .position-of .ensures) (k .before2 .given .1),
+    )
 
 cast-places-2 : tie.Need-cast-places-2 Inv-loop μ-loop
 cast-places-2 c = let k = c .before in
     let p = k .before .before in
-    omega (arith, c .before .before .before .before .before .before .before .before .before .before .before .before .before .before .pre, position-below _ _ _ _ (p .position-of2 .ensures) (k .after .given .1))
-
-mul-places-2 : tie.Need-mul-places-2 Inv-loop μ-loop
-mul-places-2 c = omega arith
-
-add-places : tie.Need-add-places Inv-loop μ-loop
-add-places c = omega arith
-
-array-write-places-2 : tie.Need-array-write-places-2 Inv-loop μ-loop
-array-write-places-2 c = omega arith
-
-add-q : tie.Need-add-q Inv-loop μ-loop
-add-q c = omega arith
+    omega (
+      arith,
+      c .before .before .before .before .before .before .before .before .before .before .before .before
+          .before .before .pre,
+      position-below _ _ _ _ (p .position-of2 .ensures) (k .after .given .1),
+    )
 
 loop-less : tie.Need-loop-less Inv-loop μ-loop
 loop-less c = omega arith
@@ -117,13 +100,19 @@ loop-again c = let k′ = c .before in
     let l = p .before .before .before in
     let s = now (l .before .before .before .args .card) in
     let i = l .loop .inv in
-    let known = both-known s (l .loop .q) _ _ _ _ _ _ (p .before .before-id .ensures) (p .position-of .ensures) (k .before2 .given .1) (p′ .before .after-id .ensures) (p′ .position-of2 .ensures) (k′ .after .given .1) in
-    let b = before-is s (l .loop .q) _ _ _ _ _ _ (p .before .before-id .ensures) (p .position-of .ensures) (k .before2 .given .1) (p′ .before .after-id .ensures) (p′ .position-of2 .ensures) (k′ .after .given .1) in
-    let a = after-is s (l .loop .q) _ _ _ _ _ _ (p .before .before-id .ensures) (p .position-of .ensures) (k .before2 .given .1) (p′ .before .after-id .ensures) (p′ .position-of2 .ensures) (k′ .after .given .1) in
-    (i .0, omega arith, one-more (unnamed s) _ (i .2) known, places-more s _ _ _ _ (omega (arith, l .before .before .before .pre)) (i .3) b a)
-
-mul-t26 : tie.Need-mul-t26 Inv-loop μ-loop
-mul-t26 c = omega arith
+    let known =
+    both-known s (l .loop .q) _ _ _ _ _ _ (p .before .before-id .ensures) (p .position-of .ensures)
+    (k .before2 .given .1) (p′ .before .after-id .ensures) (p′ .position-of2 .ensures) (k′ .after .given .1) in
+    let b = before-is s (l .loop .q) _ _ _ _ _ _ (p .before .before-id .ensures) (p .position-of .ensures)
+    (k .before2 .given .1) (p′ .before .after-id .ensures) (p′ .position-of2 .ensures) (k′ .after .given .1) in
+    let a = after-is s (l .loop .q) _ _ _ _ _ _ (p .before .before-id .ensures) (p .position-of .ensures)
+    (k .before2 .given .1) (p′ .before .after-id .ensures) (p′ .position-of2 .ensures) (k′ .after .given .1) in (
+      i .0,
+      omega arith,
+      one-more (unnamed s) _ (i .2) known,
+      places-more s _ _ _ _
+          (omega (arith, l .before .before .before .pre)) (i .3) b a,
+    )
 
 returns-3 : tie.Need-returns-3 Inv-loop μ-loop
 returns-3 c = let s = now (c .before .before .before .before .args .card) in
@@ -140,27 +129,22 @@ named-pairs-spec =
     loop-holds
     before-id-requires
     position-of-requires
-    enum-known-before
+    (λ c. search needs)
     enum-told
     refused-requires
-    mul-t12
+    (λ c. omega arith)
     returns
     after-id-requires
     position-of-requires-2
-    enum-known-after
-    enum-told-2
+    (λ c. search needs) (λ c. search needs)
     refused-requires-2
-    mul-t16
+    (λ c. omega arith)
     returns-2
     cast-places
-    mul-places
-    array-write-places
+    (λ c. omega arith) (λ c. omega arith)
     cast-places-2
-    mul-places-2
-    add-places
-    array-write-places-2
-    add-q
+    (λ c. omega arith) (λ c. omega arith) (λ c. omega arith) (λ c. omega arith)
     loop-less
     loop-again
-    mul-t26
+    (λ c. omega arith)
     returns-3)

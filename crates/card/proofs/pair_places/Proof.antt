@@ -6,27 +6,13 @@ use Rattle.card.proofs.NameLaws.{too-many-contours, too-many-pairs, few
 use Rattle.card.proofs.pair_places.Statement.{statement}
 use Rattle.card.proofs.pair_places.Tie as tie
 
-contours-requires : tie.Need-contours-requires
-contours-requires c κs = search needs
-
-refused-requires : tie.Need-refused-requires
-refused-requires c κs = search needs
-
 returns : tie.Need-returns
-returns c = too-many-contours (now (c .before .before .before .before .args .card)) _ (omega arith) (c .refused .ensures)
-
-pairs-requires : tie.Need-pairs-requires
-pairs-requires c κs = search needs
-
-refused-requires-2 : tie.Need-refused-requires-2
-refused-requires-2 c κs = search needs
+returns c =
+    too-many-contours (now (c .before .before .before .before .args .card)) _ (omega arith) (c .refused .ensures)
 
 returns-2 : tie.Need-returns-2
 returns-2 c = let s = now (c .before .before .before .before .before .before .args .card) in
     too-many-pairs s (omega arith) _ (omega arith) (c .refused2 .ensures)
-
-named-pairs-requires : tie.Need-named-pairs-requires
-named-pairs-requires c κs = search needs
 
 returns-3 : tie.Need-returns-3
 returns-3 c = let s = now (c .before .before .before .before .before .before .args .card) in
@@ -36,11 +22,9 @@ pub pair-places-spec : {M : Type 1} → statement M
 pair-places-spec =
     tie.close
     (tie.spec
-    contours-requires
-    refused-requires
+    (λ c κs. search needs) (λ c κs. search needs)
     returns
-    pairs-requires
-    refused-requires-2
+    (λ c κs. search needs) (λ c κs. search needs)
     returns-2
-    named-pairs-requires
+    (λ c κs. search needs)
     returns-3)

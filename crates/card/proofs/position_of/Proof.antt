@@ -7,15 +7,9 @@ use Rattle.card.specs.Stages.{seekOf}
 use Rattle.card.proofs.position_of.Statement.{statement}
 use Rattle.card.proofs.position_of.Tie as tie
 
-contours-requires : tie.Need-contours-requires
-contours-requires c κs = search needs
-
-seek-requires : tie.Need-seek-requires
-seek-requires c κs = search needs
-
 returns : tie.Need-returns
 returns c = let a = c .before .before .before .args in
     c .seek .ensures ∙ ap (λ (n : ℕ). seekOf (now (a .card)) n (a .wanted)) (c .before .contours .ensures)
 
 pub position-of-spec : {M : Type 1} → statement M
-position-of-spec = tie.close (tie.spec contours-requires seek-requires returns)
+position-of-spec = tie.close (tie.spec (λ c κs. search needs) (λ c κs. search needs) returns)

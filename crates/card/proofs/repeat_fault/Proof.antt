@@ -33,25 +33,26 @@ seek-requires c κs = tt
 enum-told : tie.Need-enum-told Inv-loop μ-loop
 enum-told c = search needs
 
-enum-told-2 : tie.Need-enum-told-2 Inv-loop μ-loop
-enum-told-2 c = search needs
-
 returns : tie.Need-returns Inv-loop μ-loop
 unfolding repeatFault
 returns c = let s = now (c .before .before .before .before .before .before .before .before .args .card) in
     let i = c .before .before .before .before .before .loop .inv in
-    found-here (repeats s) (contoursOf s) _ (omega arith) (i .2) (id-repeats s _ _ _ (c .before .before .before .id .ensures) (c .before .before .seek .ensures) _ (c .enum-told2 .given .1))
-
-add-k : tie.Need-add-k Inv-loop μ-loop
-add-k c = omega arith
+    found-here (repeats s) (contoursOf s) _ (omega arith) (i .2)
+    (id-repeats s _ _ _ (c .before .before .before .id .ensures) (c .before .before .seek .ensures) _
+    (c .enum-told2 .given .1))
 
 loop-less : tie.Need-loop-less Inv-loop μ-loop
 loop-less c = omega arith
 
 loop-again : tie.Need-loop-again Inv-loop μ-loop
 loop-again c = let s = now (c .before .before .before .before .before .before .before .before .args .card) in
-    let i = c .before .before .before .before .before .loop .inv in
-    (i .0, omega arith, one-more (repeats s) _ (i .2) (id-is-new s _ _ _ (c .before .before .before .id .ensures) (c .before .before .seek .ensures) (c .enum-told .given .1)))
+    let i = c .before .before .before .before .before .loop .inv in (
+      i .0,
+      omega arith,
+      one-more (repeats s) _ (i .2)
+          (id-is-new s _ _ _ (c .before .before .before .id .ensures) (c .before .before .seek .ensures)
+          (c .enum-told .given .1)),
+    )
 
 returns-2 : tie.Need-returns-2 Inv-loop μ-loop
 unfolding repeatFault
@@ -70,9 +71,9 @@ repeat-fault-spec =
     id-requires
     seek-requires
     enum-told
-    enum-told-2
+    (λ c. search needs)
     returns
-    add-k
+    (λ c. omega arith)
     loop-less
     loop-again
     returns-2)

@@ -26,24 +26,26 @@ id-requires c κs = tt
 returns : tie.Need-returns Inv-loop μ-loop
 unfolding seekOf
 returns c = let a = c .before .before .before .before .before .args in
-    found-here (λ i. eqb (idOf (now (a .card)) i) (a .wanted)) (a .count) _ (c .before .before .loop-test .taken) (c .before .before .before .loop .inv .1) (rw (← c .before .id .ensures, eq-eqb _ _ (c .if1 .taken)))
-
-add-k : tie.Need-add-k Inv-loop μ-loop
-add-k c = omega arith
+    found-here (λ i. eqb (idOf (now (a .card)) i) (a .wanted)) (a .count) _ (c .before .before .loop-test .taken)
+    (c .before .before .before .loop .inv .1) (rw (← c .before .id .ensures, eq-eqb _ _ (c .if1 .taken)))
 
 loop-less : tie.Need-loop-less Inv-loop μ-loop
 loop-less c = omega arith
 
 loop-again : tie.Need-loop-again Inv-loop μ-loop
-loop-again c = let a = c .before .before .before .before .before .args in
-    (omega arith, one-more (λ i. eqb (idOf (now (a .card)) i) (a .wanted)) _ (c .before .before .before .loop .inv .1) (rw (← c .before .id .ensures, ne-eqb _ _ (c .if1 .left))))
+loop-again c = let a = c .before .before .before .before .before .args in (
+  omega arith,
+  one-more (λ i. eqb (idOf (now (a .card)) i) (a .wanted)) _ (c .before .before .before .loop .inv .1)
+      (rw (← c .before .id .ensures, ne-eqb _ _ (c .if1 .left))),
+)
 
 returns-2 : tie.Need-returns-2 Inv-loop μ-loop
 unfolding seekOf
 returns-2 c = let a = c .before .before .before .args in
-    none-found (λ i. eqb (idOf (now (a .card)) i) (a .wanted)) (a .count) _ (c .loop-test .left) (c .before .loop .inv .1)
+    none-found (λ i. eqb (idOf (now (a .card)) i) (a .wanted)) (a .count) _ (c .loop-test .left)
+    (c .before .loop .inv .1)
 
 pub seek-spec : {M : Type 1} → statement M
 seek-spec =
     tie.close
-    (tie.spec Inv-loop μ-loop loop-holds id-requires returns add-k loop-less loop-again returns-2)
+    (tie.spec Inv-loop μ-loop loop-holds id-requires returns (λ c. omega arith) loop-less loop-again returns-2)

@@ -18,23 +18,21 @@ abbrev μ-loop : tie.MeasureT-loop
 loop-holds : tie.Need-loop-holds Inv-loop μ-loop
 loop-holds c = (omega arith, none-yet (badSpare (now (c .before .args .card))))
 
-bad-spare-requires : tie.Need-bad-spare-requires Inv-loop μ-loop
-bad-spare-requires c κs = omega arith
-
 returns : tie.Need-returns Inv-loop μ-loop
 unfolding spareFault
 returns c = let s = now (c .before .before .before .before .before .args .card) in
-    found-here (badSpare s) (blocksOf s) _ (c .before .before .loop-test .taken) (c .before .before .before .loop .inv .1) (rw (← c .before .bad-spare .ensures, c .if1 .taken))
-
-add-b : tie.Need-add-b Inv-loop μ-loop
-add-b c = omega arith
+    found-here (badSpare s) (blocksOf s) _ (c .before .before .loop-test .taken)
+    (c .before .before .before .loop .inv .1) (rw (← c .before .bad-spare .ensures, c .if1 .taken))
 
 loop-less : tie.Need-loop-less Inv-loop μ-loop
 loop-less c = omega arith
 
 loop-again : tie.Need-loop-again Inv-loop μ-loop
-loop-again c = let s = now (c .before .before .before .before .before .args .card) in
-    (omega arith, one-more (badSpare s) _ (c .before .before .before .loop .inv .1) (rw (← c .before .bad-spare .ensures, c .if1 .left)))
+loop-again c = let s = now (c .before .before .before .before .before .args .card) in (
+  omega arith,
+  one-more (badSpare s) _ (c .before .before .before .loop .inv .1)
+      (rw (← c .before .bad-spare .ensures, c .if1 .left)),
+)
 
 returns-2 : tie.Need-returns-2 Inv-loop μ-loop
 unfolding spareFault
@@ -48,9 +46,9 @@ spare-fault-spec =
     Inv-loop
     μ-loop
     loop-holds
-    bad-spare-requires
+    (λ c κs. omega arith)
     returns
-    add-b
+    (λ c. omega arith)
     loop-less
     loop-again
     returns-2)

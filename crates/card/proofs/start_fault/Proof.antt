@@ -20,9 +20,6 @@ loop-holds c = (omega arith, none-yet (badStart (now (c .before .args .card))))
 kind-due-requires : tie.Need-kind-due-requires Inv-loop μ-loop
 kind-due-requires c κs = tt
 
-mul-starts-as : tie.Need-mul-starts-as Inv-loop μ-loop
-mul-starts-as c = omega arith
-
 starts-as-requires : tie.Need-starts-as-requires Inv-loop μ-loop
 starts-as-requires c κs = tt
 
@@ -30,18 +27,19 @@ returns : tie.Need-returns Inv-loop μ-loop
 unfolding startFault
 returns c = let a = c .before .before .before .before .before .before .args in
     let kind = c .before .before .kind-due .ensures in
-    found-here (badStart (now (a .card))) (a .count) _ (c .before .before .before .loop-test .taken) (c .before .before .before .before .loop .inv .1) (rw (← kind, ← c .before .starts-as .ensures, c .if1 .taken))
-
-add-b : tie.Need-add-b Inv-loop μ-loop
-add-b c = omega arith
+    found-here (badStart (now (a .card))) (a .count) _ (c .before .before .before .loop-test .taken)
+    (c .before .before .before .before .loop .inv .1) (rw (← kind, ← c .before .starts-as .ensures, c .if1 .taken))
 
 loop-less : tie.Need-loop-less Inv-loop μ-loop
 loop-less c = omega arith
 
 loop-again : tie.Need-loop-again Inv-loop μ-loop
 loop-again c = let s = now (c .before .before .before .before .before .before .args .card) in
-    let kind = c .before .before .kind-due .ensures in
-    (omega arith, one-more (badStart s) _ (c .before .before .before .before .loop .inv .1) (rw (← kind, ← c .before .starts-as .ensures, c .if1 .left)))
+    let kind = c .before .before .kind-due .ensures in (
+      omega arith,
+      one-more (badStart s) _ (c .before .before .before .before .loop .inv .1)
+          (rw (← kind, ← c .before .starts-as .ensures, c .if1 .left)),
+    )
 
 returns-2 : tie.Need-returns-2 Inv-loop μ-loop
 unfolding startFault
@@ -56,10 +54,10 @@ start-fault-spec =
     μ-loop
     loop-holds
     kind-due-requires
-    mul-starts-as
+    (λ c. omega arith)
     starts-as-requires
     returns
-    add-b
+    (λ c. omega arith)
     loop-less
     loop-again
     returns-2)

@@ -28,23 +28,8 @@ loop-holds c = let st = c .before .before .before in
     let l = seats-handed s _ _ (st .pre) in
     (e, omega arith, omega arith, none-yet (otherTag s))
 
-mul-wide : tie.Need-mul-wide Inv-loop μ-loop
-mul-wide c = omega arith
-
-shared-slice-read-wide : tie.Need-shared-slice-read-wide Inv-loop μ-loop
-shared-slice-read-wide c = omega arith
-
 wide-requires : tie.Need-wide-requires Inv-loop μ-loop
 wide-requires c κs = tt
-
-mul-wide-2 : tie.Need-mul-wide-2 Inv-loop μ-loop
-mul-wide-2 c = omega arith
-
-add-wide : tie.Need-add-wide Inv-loop μ-loop
-add-wide c = omega arith
-
-shared-slice-read-wide-2 : tie.Need-shared-slice-read-wide-2 Inv-loop μ-loop
-shared-slice-read-wide-2 c = omega arith
 
 wide-requires-2 : tie.Need-wide-requires-2 Inv-loop μ-loop
 wide-requires-2 c κs = tt
@@ -72,10 +57,9 @@ returns c = let t′ = c .before .before in
     let s = now (st .args .card) in
     let i = l .loop .inv in
     found-here (otherTag s) (pairsOf s) _ (omega (arith, l)) (i .3)
-    (tags-compared s _ _ _ _ _ _ _ _ _ (st .pre) (omega (arith, l)) (w .wide .ensures) (w′ .wide2 .ensures) (t .tag .ensures) (t′ .before .before-tag .ensures) (t′ .tag2 .ensures) (c .before .after-tag .ensures) ∙ c .if1 .taken)
-
-add-q : tie.Need-add-q Inv-loop μ-loop
-add-q c = omega arith
+    (tags-compared s _ _ _ _ _ _ _ _ _ (st .pre) (omega (arith, l)) (w .wide .ensures) (w′ .wide2 .ensures)
+    (t .tag .ensures) (t′ .before .before-tag .ensures) (t′ .tag2 .ensures) (c .before .after-tag .ensures)
+    ∙ c .if1 .taken)
 
 loop-less : tie.Need-loop-less Inv-loop μ-loop
 loop-less c = omega arith
@@ -93,7 +77,9 @@ loop-again c = let t′ = c .before .before in
       i .1,
       omega (arith, l),
       one-more (otherTag s) _ (i .3)
-          (tags-compared s _ _ _ _ _ _ _ _ _ (st .pre) (omega (arith, l)) (w .wide .ensures) (w′ .wide2 .ensures) (t .tag .ensures) (t′ .before .before-tag .ensures) (t′ .tag2 .ensures) (c .before .after-tag .ensures) ∙ c .if1 .left),
+          (tags-compared s _ _ _ _ _ _ _ _ _ (st .pre) (omega (arith, l)) (w .wide .ensures) (w′ .wide2 .ensures)
+          (t .tag .ensures) (t′ .before .before-tag .ensures) (t′ .tag2 .ensures) (c .before .after-tag .ensures)
+          ∙ c .if1 .left),
     )
 
 returns-2 : tie.Need-returns-2 Inv-loop μ-loop
@@ -110,19 +96,16 @@ tag-fault-spec =
     μ-loop
     pairs-requires
     loop-holds
-    mul-wide
-    shared-slice-read-wide
+    (λ c. omega arith) (λ c. omega arith)
     wide-requires
-    mul-wide-2
-    add-wide
-    shared-slice-read-wide-2
+    (λ c. omega arith) (λ c. omega arith) (λ c. omega arith)
     wide-requires-2
     tag-requires
     before-tag-requires
     tag-requires-2
     after-tag-requires
     returns
-    add-q
+    (λ c. omega arith)
     loop-less
     loop-again
     returns-2)

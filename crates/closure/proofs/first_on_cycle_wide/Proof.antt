@@ -5,22 +5,13 @@ use borrow.Author.Needs.{needs}
 use Rattle.closure.proofs.first_on_cycle_wide.Statement.{statement}
 use Rattle.closure.proofs.first_on_cycle_wide.Tie as tie
 
-capped-requires : tie.Need-capped-requires
-capped-requires c κs = search needs
-
-note-wide-requires : tie.Need-note-wide-requires
-note-wide-requires c κs = search needs
-
-close-requires : tie.Need-close-requires
-close-requires c κs = search needs
-
-on-diagonal-requires : tie.Need-on-diagonal-requires
-on-diagonal-requires c κs = search needs
-
 returns : tie.Need-returns
-returns c = c .on-diagonal .ensures ∙ diagonal-capped _ _ _ _ _ (c .before .before .before .before .before .before .capped .ensures) (c .before .before .before .before .note-wide .ensures) (c .before .before .close .ensures)
+returns c =
+    c .on-diagonal .ensures ∙ diagonal-capped _ _ _ _ _
+    (c .before .before .before .before .before .before .capped .ensures)
+    (c .before .before .before .before .note-wide .ensures) (c .before .before .close .ensures)
 
 pub first-on-cycle-wide-spec : {M : Type 1} → statement M
 first-on-cycle-wide-spec =
     tie.close
-    (tie.spec capped-requires note-wide-requires close-requires on-diagonal-requires returns)
+    (tie.spec (λ c κs. search needs) (λ c κs. search needs) (λ c κs. search needs) (λ c κs. search needs) returns)

@@ -19,7 +19,8 @@ loop-holds c = noted-none _ _ _ (c .before .pre .1)
 loop-again : tie.Need-loop-again Inv-loop μ-loop
 loop-again c =
     let h = c .before .before .before .before .before .before in
-    noted-set _ _ _ _ _ (h .loop-test .taken) (h .before .loop .inv) _ _ (c .before .before .before .before .wide .ensures)
+    noted-set _ _ _ _ _ (h .loop-test .taken) (h .before .loop .inv) _ _
+    (c .before .before .before .before .wide .ensures)
     (c .before .before .wide2 .ensures) (search needs) (search needs) (search needs)
 
 loop-again-2 : tie.Need-loop-again-2 Inv-loop μ-loop

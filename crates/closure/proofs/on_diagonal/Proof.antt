@@ -19,20 +19,14 @@ abbrev μ-loop : tie.MeasureT-loop
 loop-holds : tie.Need-loop-holds Inv-loop μ-loop
 loop-holds c = (search needs, below-none _)
 
-mul-if1 : tie.Need-mul-if1 Inv-loop μ-loop
-mul-if1 c = search needs
-
-add-if1 : tie.Need-add-if1 Inv-loop μ-loop
-add-if1 c = search needs
-
-element-copy-out-if1 : tie.Need-element-copy-out-if1 Inv-loop μ-loop
-element-copy-out-if1 c = search needs
-
 returns : tie.Need-returns Inv-loop μ-loop
-returns c = sym (at-is _ _ _ (record { within = search needs; holds = c .if1 .taken; before = c .before .before .before .loop .inv .1 }))
-
-add-k : tie.Need-add-k Inv-loop μ-loop
-add-k c = search needs
+returns c =
+    sym (at-is _ _ _ (record {
+      within = search needs;
+      holds = c .if1 .taken;
+      before =
+          c .before .before .before .loop .inv .1;
+    }))
 
 loop-less : tie.Need-loop-less Inv-loop μ-loop
 loop-less c = search needs
@@ -50,11 +44,9 @@ on-diagonal-spec =
     Inv-loop
     μ-loop
     loop-holds
-    mul-if1
-    add-if1
-    element-copy-out-if1
+    (λ c. search needs) (λ c. search needs) (λ c. search needs)
     returns
-    add-k
+    (λ c. search needs)
     loop-less
     loop-again
     returns-2)

@@ -6,30 +6,21 @@ use Rattle.cost.specs.Sequence.{amounts}
 use Rattle.cost.proofs.amounts.Statement.{statement}
 use Rattle.cost.proofs.amounts.Tie as tie
 
-no-amount-requires : tie.Need-no-amount-requires
-no-amount-requires c κs = search needs
-
-refused-requires : tie.Need-refused-requires
-refused-requires c κs = search needs
-
 returns : tie.Need-returns
 unfolding amounts firstRefusal
 returns c = rw (← (c .before .before .no-amount .ensures), c .before .if1 .taken) (c .refused .ensures)
 
-no-amount-requires-2 : tie.Need-no-amount-requires-2
-no-amount-requires-2 c κs = search needs
-
-refused-requires-2 : tie.Need-refused-requires-2
-refused-requires-2 c κs = search needs
-
 returns-2 : tie.Need-returns-2
 unfolding amounts firstRefusal
 returns-2 c = let p = c .before in
-    rw (← (p .before .before .before .no-amount .ensures), p .before .before .if1 .left, ← (p .before .no-amount2 .ensures), p .if2 .taken)
+    rw (
+      ← (p .before .before .before .no-amount .ensures),
+      p .before .before .if1 .left,
+      ←
+          (p .before .no-amount2 .ensures),
+      p .if2 .taken,
+    )
     (c .refused2 .ensures)
-
-refused-requires-3 : tie.Need-refused-requires-3
-refused-requires-3 c κs = search needs
 
 returns-3 : tie.Need-returns-3
 unfolding amounts firstRefusal
@@ -45,18 +36,24 @@ returns-3 c = let p = c .before in
 
 returns-4 : tie.Need-returns-4
 unfolding amounts firstRefusal
-returns-4 c = rw (← (c .before .before .before .before .no-amount .ensures), c .before .before .before .if1 .left, ← (c .before .before .no-amount2 .ensures), c .before .if2 .left, le-ltb _ _ (c .if3 .left))
+returns-4 c =
+    rw (
+      ← (c .before .before .before .before .no-amount .ensures),
+      c .before .before .before .if1 .left,
+      ←
+          (c .before .before .no-amount2 .ensures),
+      c .before .if2 .left,
+      le-ltb _ _ (c .if3 .left),
+    )
 
 pub amounts-spec : {M : Type 1} → statement M
 amounts-spec =
     tie.close
     (tie.spec
-    no-amount-requires
-    refused-requires
+    (λ c κs. search needs) (λ c κs. search needs)
     returns
-    no-amount-requires-2
-    refused-requires-2
+    (λ c κs. search needs) (λ c κs. search needs)
     returns-2
-    refused-requires-3
+    (λ c κs. search needs)
     returns-3
     returns-4)

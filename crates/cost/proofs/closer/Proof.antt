@@ -4,27 +4,34 @@ use Rattle.cost.specs.Closest.{closerOf}
 use Rattle.cost.proofs.closer.Statement.{statement}
 use Rattle.cost.proofs.closer.Tie as tie
 
-foot-requires : tie.Need-foot-requires
-foot-requires c κs = search needs
-
-clamp-requires : tie.Need-clamp-requires
-clamp-requires c κs = search needs
-
-along-requires : tie.Need-along-requires
-along-requires c κs = search needs
-
-distance-sq-requires : tie.Need-distance-sq-requires
-distance-sq-requires c κs = search needs
-
 returns : tie.Need-returns
 unfolding closerOf
-returns c = rw (← (c .before .before .before .before .before .foot .ensures), ← (c .before .before .before .before .clamp .ensures), ← (c .before .before .before .along .ensures), ← (c .before .before .distance-sq .ensures), c .if1 .taken)
+returns c =
+    rw (
+      ← (c .before .before .before .before .before .foot .ensures),
+      ←
+          (c .before .before .before .before .clamp .ensures),
+      ← (c .before .before .before .along .ensures),
+      ←
+          (c .before .before .distance-sq .ensures),
+      c .if1 .taken,
+    )
 
 returns-2 : tie.Need-returns-2
 unfolding closerOf
-returns-2 c = rw (← (c .before .before .before .before .before .foot .ensures), ← (c .before .before .before .before .clamp .ensures), ← (c .before .before .before .along .ensures), ← (c .before .before .distance-sq .ensures), c .if1 .left)
+returns-2 c =
+    rw (
+      ← (c .before .before .before .before .before .foot .ensures),
+      ←
+          (c .before .before .before .before .clamp .ensures),
+      ← (c .before .before .before .along .ensures),
+      ←
+          (c .before .before .distance-sq .ensures),
+      c .if1 .left,
+    )
 
 pub closer-spec : {M : Type 1} → statement M
 closer-spec =
     tie.close
-    (tie.spec foot-requires clamp-requires along-requires distance-sq-requires returns returns-2)
+    (tie.spec (λ c κs. search needs) (λ c κs. search needs) (λ c κs. search needs) (λ c κs. search needs) returns
+    returns-2)

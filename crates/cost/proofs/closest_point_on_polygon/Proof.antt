@@ -4,21 +4,18 @@ use Rattle.cost.specs.Closest.{closestOnPolygonOf}
 use Rattle.cost.proofs.closest_point_on_polygon.Statement.{statement}
 use Rattle.cost.proofs.closest_point_on_polygon.Tie as tie
 
-polygon-and-point-requires : tie.Need-polygon-and-point-requires
-polygon-and-point-requires c κs = search needs
-
 enum-told : tie.Need-enum-told
 enum-told c = search needs
 
-closest-to-requires : tie.Need-closest-to-requires
-closest-to-requires c κs = search needs
-
-enum-known-r : tie.Need-enum-known-r
-enum-known-r c = search needs
-
 returns : tie.Need-returns
 unfolding closestOnPolygonOf
-returns c = rw (← (c .before .before .before .polygon-and-point .ensures), c .before .enum-told .given .1, c .closest-to .ensures)
+returns c =
+    rw (
+      ← (c .before .before .before .polygon-and-point .ensures),
+      c .before .enum-told .given .1,
+      c .closest-to
+          .ensures,
+    )
 
 returns-2 : tie.Need-returns-2
 unfolding closestOnPolygonOf
@@ -28,9 +25,8 @@ pub closest-point-on-polygon-spec : {M : Type 1} → statement M
 closest-point-on-polygon-spec =
     tie.close
     (tie.spec
-    polygon-and-point-requires
+    (λ c κs. search needs)
     enum-told
-    closest-to-requires
-    enum-known-r
+    (λ c κs. search needs) (λ c. search needs)
     returns
     returns-2)

@@ -1,4 +1,5 @@
--- `cost::closest_to` meets its contract. The loop's invariant: finishing from edge i with the best so far gives what the whole walk gives. Assumes nothing.
+-- `cost::closest_to` meets its contract. The loop's invariant: finishing from edge i with the best so far gives what
+-- the whole walk gives. Assumes nothing.
 use Prim.Native.Nat.{_≤_, _-_, _/_}
 use native.Mathlib.Omega.{arith}
 use borrow.Author.Needs.{needs}
@@ -28,14 +29,15 @@ edge-at-requires c κs = tt
 closer-requires : tie.Need-closer-requires Inv-loop μ-loop
 closer-requires c κs = tt
 
-add-i : tie.Need-add-i Inv-loop μ-loop
-add-i c = search needs
-
 loop-less : tie.Need-loop-less Inv-loop μ-loop
 loop-less c = omega arith
 
 loop-again : tie.Need-loop-again Inv-loop μ-loop
-loop-again c = (search needs, rw (c .closer .ensures, c .before .edge-at .ensures) (onwards-step _ _ _ _ (c .before .before .loop-test .taken) (c .before .before .before .loop .inv .1)))
+loop-again c = (
+  search needs,
+  rw (c .closer .ensures, c .before .edge-at .ensures)
+      (onwards-step _ _ _ _ (c .before .before .loop-test .taken) (c .before .before .before .loop .inv .1)),
+)
 
 returns-2 : tie.Need-returns-2 Inv-loop μ-loop
 returns-2 c = onwards-done _ _ _ _ (omega arith) (c .before .loop-test .left) (c .before .before .loop .inv .1)
@@ -51,7 +53,7 @@ closest-to-spec =
     loop-holds
     edge-at-requires
     closer-requires
-    add-i
+    (λ c. search needs)
     loop-less
     loop-again
     returns-2)

@@ -1,4 +1,5 @@
--- `cost::home_and_legs` meets its contract: the test on home, else the first bad point of the legs, counted on by one. Assumes nothing.
+-- `cost::home_and_legs` meets its contract: the test on home, else the first bad point of the legs, counted on by one.
+-- Assumes nothing.
 use mathlib.Core.Path.{sym, _∙_}
 use native.Mathlib.Omega.{arith}
 use borrow.Author.Needs.{needs}
@@ -8,33 +9,13 @@ use Rattle.cost.proofs.RapidLaws.{bad-within}
 use Rattle.cost.proofs.home_and_legs.Statement.{statement}
 use Rattle.cost.proofs.home_and_legs.Tie as tie
 
-bad-point-requires : tie.Need-bad-point-requires
-bad-point-requires c κs = search needs
-
-refused-requires : tie.Need-refused-requires
-refused-requires c κs = search needs
-
 returns : tie.Need-returns
 unfolding homeAndLegs firstRefusal
 returns c = rw (← (c .before .before .bad-point .ensures), c .before .if1 .taken) (c .refused .ensures)
 
-add-count : tie.Need-add-count
-add-count c = search needs
-
-mul-count : tie.Need-mul-count
-mul-count c = search needs
-
-first-bad-requires : tie.Need-first-bad-requires
-first-bad-requires c κs = search needs
-
-enum-known-k : tie.Need-enum-known-k
-enum-known-k c = search needs
-
 add-refused : tie.Need-add-refused
-add-refused c = omega (arith, bad-within _ _ _ (sym (c .before .before .before .first-bad .ensures) ∙ c .before .k .given .1))
-
-refused-requires-2 : tie.Need-refused-requires-2
-refused-requires-2 c κs = search needs
+add-refused c =
+    omega (arith, bad-within _ _ _ (sym (c .before .before .before .first-bad .ensures) ∙ c .before .k .given .1))
 
 enum-told : tie.Need-enum-told
 enum-told c = search needs
@@ -52,21 +33,24 @@ returns-2 c = let p = c .before in
 
 returns-3 : tie.Need-returns-3
 unfolding homeAndLegs firstRefusal
-returns-3 c = rw (← (c .before .before .before .before .bad-point .ensures), c .before .before .before .if1 .left, ← (c .before .before .first-bad .ensures), c .enum-told .given .1)
+returns-3 c =
+    rw (
+      ← (c .before .before .before .before .bad-point .ensures),
+      c .before .before .before .if1 .left,
+      ←
+          (c .before .before .first-bad .ensures),
+      c .enum-told .given .1,
+    )
 
 pub home-and-legs-spec : {M : Type 1} → statement M
 home-and-legs-spec =
     tie.close
     (tie.spec
-    bad-point-requires
-    refused-requires
+    (λ c κs. search needs) (λ c κs. search needs)
     returns
-    add-count
-    mul-count
-    first-bad-requires
-    enum-known-k
+    (λ c. search needs) (λ c. search needs) (λ c κs. search needs) (λ c. search needs)
     add-refused
-    refused-requires-2
+    (λ c κs. search needs)
     enum-told
     returns-2
     returns-3)

@@ -4,21 +4,13 @@ use Rattle.cost.specs.Distance.{pointDistanceSqOf}
 use Rattle.cost.proofs.point_distance_sq.Statement.{statement}
 use Rattle.cost.proofs.point_distance_sq.Tie as tie
 
-two-points-requires : tie.Need-two-points-requires
-two-points-requires c κs = search needs
-
 enum-told : tie.Need-enum-told
 enum-told c = search needs
 
-distance-sq-requires : tie.Need-distance-sq-requires
-distance-sq-requires c κs = search needs
-
-enum-known-r : tie.Need-enum-known-r
-enum-known-r c = search needs
-
 returns : tie.Need-returns
 unfolding pointDistanceSqOf
-returns c = rw (← (c .before .before .before .two-points .ensures), c .before .enum-told .given .1, c .distance-sq .ensures)
+returns c =
+    rw (← (c .before .before .before .two-points .ensures), c .before .enum-told .given .1, c .distance-sq .ensures)
 
 returns-2 : tie.Need-returns-2
 unfolding pointDistanceSqOf
@@ -27,4 +19,4 @@ returns-2 c = rw (← (c .before .before .before .two-points .ensures), c .befor
 pub point-distance-sq-spec : {M : Type 1} → statement M
 point-distance-sq-spec =
     tie.close
-    (tie.spec two-points-requires enum-told distance-sq-requires enum-known-r returns returns-2)
+    (tie.spec (λ c κs. search needs) enum-told (λ c κs. search needs) (λ c. search needs) returns returns-2)

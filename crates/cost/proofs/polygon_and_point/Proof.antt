@@ -5,26 +5,8 @@ use Rattle.cost.specs.Closest.{polygonAndPoint}
 use Rattle.cost.proofs.polygon_and_point.Statement.{statement}
 use Rattle.cost.proofs.polygon_and_point.Tie as tie
 
-add-count : tie.Need-add-count
-add-count c = search needs
-
-first-bad-requires : tie.Need-first-bad-requires
-first-bad-requires c κs = search needs
-
-enum-known-k : tie.Need-enum-known-k
-enum-known-k c = search needs
-
-refused-requires : tie.Need-refused-requires
-refused-requires c κs = search needs
-
 enum-told : tie.Need-enum-told
 enum-told c = search needs
-
-bad-point-requires : tie.Need-bad-point-requires
-bad-point-requires c κs = search needs
-
-refused-requires-2 : tie.Need-refused-requires-2
-refused-requires-2 c κs = search needs
 
 returns : tie.Need-returns
 unfolding polygonAndPoint firstRefusal
@@ -39,23 +21,27 @@ returns c = let p = c .before in
 
 returns-2 : tie.Need-returns-2
 unfolding polygonAndPoint firstRefusal
-returns-2 c = rw (← (c .before .before .before .before .first-bad .ensures), c .before .before .k .given .1) (c .refused .ensures)
+returns-2 c =
+    rw (← (c .before .before .before .before .first-bad .ensures), c .before .before .k .given .1) (c .refused .ensures)
 
 returns-3 : tie.Need-returns-3
 unfolding polygonAndPoint firstRefusal
-returns-3 c = rw (← (c .before .before .before .before .first-bad .ensures), c .before .before .enum-told .given .1, ← (c .before .bad-point .ensures), c .if1 .left)
+returns-3 c =
+    rw (
+      ← (c .before .before .before .before .first-bad .ensures),
+      c .before .before .enum-told .given .1,
+      ←
+          (c .before .bad-point .ensures),
+      c .if1 .left,
+    )
 
 pub polygon-and-point-spec : {M : Type 1} → statement M
 polygon-and-point-spec =
     tie.close
     (tie.spec
-    add-count
-    first-bad-requires
-    enum-known-k
-    refused-requires
+    (λ c. search needs) (λ c κs. search needs) (λ c. search needs) (λ c κs. search needs)
     enum-told
-    bad-point-requires
-    refused-requires-2
+    (λ c κs. search needs) (λ c κs. search needs)
     returns
     returns-2
     returns-3)

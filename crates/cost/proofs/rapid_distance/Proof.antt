@@ -1,4 +1,5 @@
--- `cost::rapid_distance` meets its contract. The loop's invariant: going on from leg k with the sum so far gives what going on from leg 1 gave. Assumes nothing.
+-- `cost::rapid_distance` meets its contract. The loop's invariant: going on from leg k with the sum so far gives what
+-- going on from leg 1 gave. Assumes nothing.
 use mathlib.Core.Path.{refl}
 use Prim.Native.Nat.{_≤_, _-_, _/_}
 use native.Mathlib.Omega.{arith}
@@ -17,9 +18,6 @@ abbrev μ-loop : tie.MeasureT-loop
 returns : tie.Need-returns Inv-loop μ-loop
 returns c = no-legs _ _ (c .if1 .taken)
 
-leg-at-requires : tie.Need-leg-at-requires Inv-loop μ-loop
-leg-at-requires c κs = omega arith
-
 distance-requires : tie.Need-distance-requires Inv-loop μ-loop
 distance-requires c κs = tt
 
@@ -32,14 +30,17 @@ leg-at-requires-2 c κs = c .loop-test .taken
 distance-requires-2 : tie.Need-distance-requires-2 Inv-loop μ-loop
 distance-requires-2 c κs = tt
 
-add-k : tie.Need-add-k Inv-loop μ-loop
-add-k c = search needs
-
 loop-less : tie.Need-loop-less Inv-loop μ-loop
 loop-less c = omega arith
 
 loop-again : tie.Need-loop-again Inv-loop μ-loop
-loop-again c = (omega arith, omega arith, rw (c .before .distance2 .ensures, c .before .before .before .leg-at2 .ensures) (onwards-step _ _ _ _ _ _ (c .before .before .before .before .loop-test .taken) (c .before .before .before .before .before .loop .inv .2)))
+loop-again c = (
+  omega arith,
+  omega arith,
+  rw (c .before .distance2 .ensures, c .before .before .before .leg-at2 .ensures)
+      (onwards-step _ _ _ _ _ _ (c .before .before .before .before .loop-test .taken)
+      (c .before .before .before .before .before .loop .inv .2)),
+)
 
 returns-2 : tie.Need-returns-2 Inv-loop μ-loop
 returns-2 c =
@@ -54,12 +55,12 @@ rapid-distance-spec =
     Inv-loop
     μ-loop
     returns
-    leg-at-requires
+    (λ c κs. omega arith)
     distance-requires
     loop-holds
     leg-at-requires-2
     distance-requires-2
-    add-k
+    (λ c. search needs)
     loop-less
     loop-again
     returns-2)

@@ -4,21 +4,13 @@ use Rattle.cost.specs.Sequence.{sequenceCostOf}
 use Rattle.cost.proofs.sequence_cost.Statement.{statement}
 use Rattle.cost.proofs.sequence_cost.Tie as tie
 
-amounts-requires : tie.Need-amounts-requires
-amounts-requires c κs = search needs
-
 enum-told : tie.Need-enum-told
 enum-told c = search needs
 
-nearest-u64-to-f64-requires : tie.Need-nearest-u64-to-f64-requires
-nearest-u64-to-f64-requires c κs = search needs
-
-enum-known-r : tie.Need-enum-known-r
-enum-known-r c = search needs
-
 returns : tie.Need-returns
 unfolding sequenceCostOf
-returns c = rw (← (c .before .before .before .amounts .ensures), c .before .enum-told .given .1, c .nearest-u64-to-f64 .ensures)
+returns c =
+    rw (← (c .before .before .before .amounts .ensures), c .before .enum-told .given .1, c .nearest-u64-to-f64 .ensures)
 
 returns-2 : tie.Need-returns-2
 unfolding sequenceCostOf
@@ -28,9 +20,8 @@ pub sequence-cost-spec : {M : Type 1} → statement M
 sequence-cost-spec =
     tie.close
     (tie.spec
-    amounts-requires
+    (λ c κs. search needs)
     enum-told
-    nearest-u64-to-f64-requires
-    enum-known-r
+    (λ c κs. search needs) (λ c. search needs)
     returns
     returns-2)

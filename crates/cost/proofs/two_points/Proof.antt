@@ -5,40 +5,39 @@ use Rattle.cost.specs.Distance.{twoPoints}
 use Rattle.cost.proofs.two_points.Statement.{statement}
 use Rattle.cost.proofs.two_points.Tie as tie
 
-bad-point-requires : tie.Need-bad-point-requires
-bad-point-requires c κs = search needs
-
-refused-requires : tie.Need-refused-requires
-refused-requires c κs = search needs
-
 returns : tie.Need-returns
 unfolding twoPoints firstRefusal
 returns c = rw (← (c .before .before .bad-point .ensures), c .before .if1 .taken) (c .refused .ensures)
 
-bad-point-requires-2 : tie.Need-bad-point-requires-2
-bad-point-requires-2 c κs = search needs
-
-refused-requires-2 : tie.Need-refused-requires-2
-refused-requires-2 c κs = search needs
-
 returns-2 : tie.Need-returns-2
 unfolding twoPoints firstRefusal
 returns-2 c = let p = c .before in
-    rw (← (p .before .before .before .bad-point .ensures), p .before .before .if1 .left, ← (p .before .bad-point2 .ensures), p .if2 .taken)
+    rw (
+      ← (p .before .before .before .bad-point .ensures),
+      p .before .before .if1 .left,
+      ←
+          (p .before .bad-point2 .ensures),
+      p .if2 .taken,
+    )
     (c .refused2 .ensures)
 
 returns-3 : tie.Need-returns-3
 unfolding twoPoints firstRefusal
-returns-3 c = rw (← (c .before .before .before .bad-point .ensures), c .before .before .if1 .left, ← (c .before .bad-point2 .ensures), c .if2 .left)
+returns-3 c =
+    rw (
+      ← (c .before .before .before .bad-point .ensures),
+      c .before .before .if1 .left,
+      ←
+          (c .before .bad-point2 .ensures),
+      c .if2 .left,
+    )
 
 pub two-points-spec : {M : Type 1} → statement M
 two-points-spec =
     tie.close
     (tie.spec
-    bad-point-requires
-    refused-requires
+    (λ c κs. search needs) (λ c κs. search needs)
     returns
-    bad-point-requires-2
-    refused-requires-2
+    (λ c κs. search needs) (λ c κs. search needs)
     returns-2
     returns-3)

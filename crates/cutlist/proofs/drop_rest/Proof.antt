@@ -13,14 +13,8 @@ abbrev μ-loop : tie.MeasureT-loop
 loop-holds : tie.Need-loop-holds Inv-loop μ-loop
 loop-holds c = search needs
 
-drop-part-requires : tie.Need-drop-part-requires Inv-loop μ-loop
-drop-part-requires c κs = search needs
-
 returns : tie.Need-returns Inv-loop μ-loop
 returns c = search needs
-
-add-parts : tie.Need-add-parts Inv-loop μ-loop
-add-parts c = search needs
 
 loop-less : tie.Need-loop-less Inv-loop μ-loop
 loop-less c = search needs
@@ -38,9 +32,9 @@ drop-rest-spec =
     Inv-loop
     μ-loop
     loop-holds
-    drop-part-requires
+    (λ c κs. search needs)
     returns
-    add-parts
+    (λ c. search needs)
     loop-less
     loop-again
     returns-2)

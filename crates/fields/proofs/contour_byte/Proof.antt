@@ -1,4 +1,4 @@
--- `card::contour_byte` meets its contract. Assumes nothing.
+-- `fields::contour_byte` meets its contract. Assumes nothing.
 use Prim.Native.Nat.{_+_}
 use denote.Ref.{now}
 use borrow.Author.Needs.{needs}
@@ -7,15 +7,10 @@ use Rattle.block.proofs.Readings.{byte-of}
 use Rattle.fields.proofs.contour_byte.Statement.{statement}
 use Rattle.fields.proofs.contour_byte.Tie as tie
 
-contour-place-requires : tie.Need-contour-place-requires
-contour-place-requires c κs = search needs
-
-byte-at-requires : tie.Need-byte-at-requires
-byte-at-requires c κs = search needs
-
 returns : tie.Need-returns
 returns c = let a = c .before .before .before .args in
-    byte-of (now (a .card)) (payload (a .k + 1) + a .offset) _ (c .before .contour-place .ensures) _ (c .byte-at .ensures)
+    byte-of (now (a .card)) (payload (a .k + 1) + a .offset) _ (c .before .contour-place .ensures) _
+    (c .byte-at .ensures)
 
 pub contour-byte-spec : {M : Type 1} → statement M
-contour-byte-spec = tie.close (tie.spec contour-place-requires byte-at-requires returns)
+contour-byte-spec = tie.close (tie.spec (λ c κs. search needs) (λ c κs. search needs) returns)

@@ -1,18 +1,12 @@
--- `card::interior` meets its contract. Assumes nothing.
+-- `fields::interior` meets its contract. Assumes nothing.
 use mathlib.Core.Path.{ap, _∙_}
 use borrow.Author.Needs.{needs}
 use Rattle.fields.specs.Values.{asPreference}
 use Rattle.fields.proofs.interior.Statement.{statement}
 use Rattle.fields.proofs.interior.Tie as tie
 
-byte-at-requires : tie.Need-byte-at-requires
-byte-at-requires c κs = search needs
-
-preference-requires : tie.Need-preference-requires
-preference-requires c κs = search needs
-
 returns : tie.Need-returns
 returns c = c .preference .ensures ∙ ap asPreference (c .before .byte-at .ensures)
 
 pub interior-spec : {M : Type 1} → statement M
-interior-spec = tie.close (tie.spec byte-at-requires preference-requires returns)
+interior-spec = tie.close (tie.spec (λ c κs. search needs) (λ c κs. search needs) returns)

@@ -1,4 +1,4 @@
--- `card::preference` meets its contract. Assumes nothing.
+-- `fields::preference` meets its contract. Assumes nothing.
 use borrow.Author.Tests.{eq-eqb, ne-eqb}
 use Rattle.fields.specs.Values.{asPreference}
 use Rattle.fields.proofs.preference.Statement.{statement}

@@ -3,7 +3,8 @@ use Prim.Native.Nat.{_-_}
 use lib.ListN.{length}
 use borrow.Author.Needs.{needs}
 use Rattle.closure.specs.Pairs.{isPair}
-use Rattle.closure.proofs.PairLaws.{SomePart, some-none, some-more, some-found, some-all, is-pair, other-first, other-second}
+use Rattle.closure.proofs.PairLaws.{SomePart, some-none, some-more, some-found, some-all, is-pair, other-first}
+use Rattle.closure.proofs.PairLaws.{other-second}
 use Rattle.hierarchy.proofs.has_pair.Statement.{statement}
 use Rattle.hierarchy.proofs.has_pair.Tie as tie
 
@@ -16,29 +17,10 @@ abbrev μ-loop : tie.MeasureT-loop
 loop-holds : tie.Need-loop-holds Inv-loop μ-loop
 loop-holds c = some-none _ _
 
-add-loop : tie.Need-add-loop Inv-loop μ-loop
-add-loop c = search needs
-
-mul-b : tie.Need-mul-b Inv-loop μ-loop
-mul-b c = search needs
-
-shared-slice-read-b : tie.Need-shared-slice-read-b Inv-loop μ-loop
-shared-slice-read-b c = search needs
-
-add-a : tie.Need-add-a Inv-loop μ-loop
-add-a c = search needs
-
-mul-a : tie.Need-mul-a Inv-loop μ-loop
-mul-a c = search needs
-
-shared-slice-read-a : tie.Need-shared-slice-read-a Inv-loop μ-loop
-shared-slice-read-a c = search needs
-
-add-at : tie.Need-add-at Inv-loop μ-loop
-add-at c = search needs
-
 returns : tie.Need-returns Inv-loop μ-loop
-returns c = let h = c .before .before .before .before in some-found _ _ _ (h .loop-test .taken) (h .before .loop .inv) (is-pair _ _ _ _ (c .before .if1 .taken) (c .if2 .taken))
+returns c = let h =
+    c .before .before .before .before in some-found _ _ _ (h .loop-test .taken) (h .before .loop .inv)
+    (is-pair _ _ _ _ (c .before .if1 .taken) (c .if2 .taken))
 
 loop-less : tie.Need-loop-less Inv-loop μ-loop
 loop-less c = search needs
@@ -47,7 +29,8 @@ loop-again : tie.Need-loop-again Inv-loop μ-loop
 loop-again c =
     let h = c .before .before .before .before in
     let g = h .before .before .args in
-    some-more _ _ _ (h .loop-test .taken) (h .before .loop .inv) (other-second (g .pairs .now) (h .before .loop .at) (g .before) (g .after) (c .if2 .left))
+    some-more _ _ _ (h .loop-test .taken) (h .before .loop .inv)
+    (other-second (g .pairs .now) (h .before .loop .at) (g .before) (g .after) (c .if2 .left))
 
 loop-less-2 : tie.Need-loop-less-2 Inv-loop μ-loop
 loop-less-2 c = search needs
@@ -56,7 +39,8 @@ loop-again-2 : tie.Need-loop-again-2 Inv-loop μ-loop
 loop-again-2 c =
     let h = c .before .before .before in
     let g = h .before .before .args in
-    some-more _ _ _ (h .loop-test .taken) (h .before .loop .inv) (other-first (g .pairs .now) (h .before .loop .at) (g .before) (g .after) (c .if1 .left))
+    some-more _ _ _ (h .loop-test .taken) (h .before .loop .inv)
+    (other-first (g .pairs .now) (h .before .loop .at) (g .before) (g .after) (c .if1 .left))
 
 returns-2 : tie.Need-returns-2 Inv-loop μ-loop
 returns-2 c = some-all _ _ _ (c .loop-test .left) (c .before .loop .inv)
@@ -68,13 +52,8 @@ has-pair-spec =
     Inv-loop
     μ-loop
     loop-holds
-    add-loop
-    mul-b
-    shared-slice-read-b
-    add-a
-    mul-a
-    shared-slice-read-a
-    add-at
+    (λ c. search needs) (λ c. search needs) (λ c. search needs) (λ c. search needs) (λ c. search needs)
+    (λ c. search needs) (λ c. search needs)
     returns
     loop-less
     loop-again

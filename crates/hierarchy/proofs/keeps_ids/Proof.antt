@@ -18,42 +18,12 @@ abbrev μ-loop : tie.MeasureT-loop
 loop-holds : tie.Need-loop-holds Inv-loop μ-loop
 loop-holds c = every-none _ _
 
-add-loop : tie.Need-add-loop Inv-loop μ-loop
-add-loop c = search needs
-
-mul-last-rank : tie.Need-mul-last-rank Inv-loop μ-loop
-mul-last-rank c = search needs
-
-shared-slice-read-last-rank : tie.Need-shared-slice-read-last-rank Inv-loop μ-loop
-shared-slice-read-last-rank c = search needs
-
-last-rank-requires : tie.Need-last-rank-requires Inv-loop μ-loop
-last-rank-requires c κs = search needs
-
-add-last-rank : tie.Need-add-last-rank Inv-loop μ-loop
-add-last-rank c = search needs
-
-mul-last-rank-2 : tie.Need-mul-last-rank-2 Inv-loop μ-loop
-mul-last-rank-2 c = search needs
-
-shared-slice-read-last-rank-2 : tie.Need-shared-slice-read-last-rank-2 Inv-loop μ-loop
-shared-slice-read-last-rank-2 c = search needs
-
-last-rank-requires-2 : tie.Need-last-rank-requires-2 Inv-loop μ-loop
-last-rank-requires-2 c κs = search needs
-
-kept-at-requires : tie.Need-kept-at-requires Inv-loop μ-loop
-kept-at-requires c κs = search needs
-
 returns : tie.Need-returns Inv-loop μ-loop
 returns c =
     let h = c .before .before .before .before .before .before in
     pair-broken _ _ _ _ _ _
     (c .before .before .before .before .last-rank .ensures) (c .before .before .last-rank2 .ensures)
     (h .loop-test .taken) (h .before .loop .inv) (c .before .kept-at .ensures) (not-true _ (c .if1 .taken))
-
-add-at : tie.Need-add-at Inv-loop μ-loop
-add-at c = search needs
 
 loop-less : tie.Need-loop-less Inv-loop μ-loop
 loop-less c = search needs
@@ -75,17 +45,10 @@ keeps-ids-spec =
     Inv-loop
     μ-loop
     loop-holds
-    add-loop
-    mul-last-rank
-    shared-slice-read-last-rank
-    last-rank-requires
-    add-last-rank
-    mul-last-rank-2
-    shared-slice-read-last-rank-2
-    last-rank-requires-2
-    kept-at-requires
+    (λ c. search needs) (λ c. search needs) (λ c. search needs) (λ c κs. search needs) (λ c. search needs)
+    (λ c. search needs) (λ c. search needs) (λ c κs. search needs) (λ c κs. search needs)
     returns
-    add-at
+    (λ c. search needs)
     loop-less
     loop-again
     returns-2)

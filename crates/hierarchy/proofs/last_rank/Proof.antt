@@ -15,26 +15,19 @@ abbrev μ-loop : tie.MeasureT-loop
 loop-holds : tie.Need-loop-holds Inv-loop μ-loop
 loop-holds c = latest-none _ _
 
-mul-x : tie.Need-mul-x Inv-loop μ-loop
-mul-x c = search needs
-
-shared-slice-read-x : tie.Need-shared-slice-read-x Inv-loop μ-loop
-shared-slice-read-x c = search needs
-
-add-i : tie.Need-add-i Inv-loop μ-loop
-add-i c = search needs
-
 loop-less : tie.Need-loop-less Inv-loop μ-loop
 loop-less c = search needs
 
 loop-again : tie.Need-loop-again Inv-loop μ-loop
-loop-again c = let h = c .before .before in latest-here _ _ _ _ (h .loop-test .taken) (h .before .loop .inv) (c .if1 .taken)
+loop-again c = let h =
+    c .before .before in latest-here _ _ _ _ (h .loop-test .taken) (h .before .loop .inv) (c .if1 .taken)
 
 loop-less-2 : tie.Need-loop-less-2 Inv-loop μ-loop
 loop-less-2 c = search needs
 
 loop-again-2 : tie.Need-loop-again-2 Inv-loop μ-loop
-loop-again-2 c = let h = c .before .before in latest-other _ _ _ _ (h .loop-test .taken) (h .before .loop .inv) (c .if1 .left)
+loop-again-2 c = let h =
+    c .before .before in latest-other _ _ _ _ (h .loop-test .taken) (h .before .loop .inv) (c .if1 .left)
 
 returns : tie.Need-returns Inv-loop μ-loop
 returns c = latest-all _ _ _ _ (c .loop-test .left) (c .before .loop .inv)
@@ -46,9 +39,7 @@ last-rank-spec =
     Inv-loop
     μ-loop
     loop-holds
-    mul-x
-    shared-slice-read-x
-    add-i
+    (λ c. search needs) (λ c. search needs) (λ c. search needs)
     loop-less
     loop-again
     loop-less-2

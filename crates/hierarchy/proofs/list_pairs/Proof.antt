@@ -20,26 +20,16 @@ abbrev μ-loop : tie.MeasureT-loop
 loop-holds : tie.Need-loop-holds Inv-loop μ-loop
 loop-holds c = (search needs, filled-none (2 * PAIRS))
 
-mul-ids : tie.Need-mul-ids Inv-loop μ-loop
-mul-ids c = search needs
-
-shared-slice-read-ids : tie.Need-shared-slice-read-ids Inv-loop μ-loop
-shared-slice-read-ids c = search needs
-
-mul-ids-2 : tie.Need-mul-ids-2 Inv-loop μ-loop
-mul-ids-2 c = search needs
-
-array-write-ids : tie.Need-array-write-ids Inv-loop μ-loop
-array-write-ids c = search needs
-
-add-i : tie.Need-add-i Inv-loop μ-loop
-add-i c = search needs
-
 loop-less : tie.Need-loop-less Inv-loop μ-loop
 loop-less c = search needs
 
 loop-again : tie.Need-loop-again Inv-loop μ-loop
-loop-again c = let h = c .before in (search needs, copy-more (2 * PAIRS) _ _ _ (h .loop-test .taken) (search needs) (h .before .loop .inv .1))
+loop-again c = let h =
+    c .before in (
+      search needs,
+      copy-more (2 * PAIRS) _ _ _ (h .loop-test .taken) (search needs)
+          (h .before .loop .inv .1),
+    )
 
 returns : tie.Need-returns Inv-loop μ-loop
 returns c = pairs-of _ _ _ _ (c .loop-test .left) (c .before .loop .inv .1) refl
@@ -51,11 +41,7 @@ list-pairs-spec =
     Inv-loop
     μ-loop
     loop-holds
-    mul-ids
-    shared-slice-read-ids
-    mul-ids-2
-    array-write-ids
-    add-i
+    (λ c. search needs) (λ c. search needs) (λ c. search needs) (λ c. search needs) (λ c. search needs)
     loop-less
     loop-again
     returns)

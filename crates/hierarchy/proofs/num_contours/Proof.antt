@@ -6,14 +6,8 @@ use borrow.Author.Needs.{needs}
 use Rattle.hierarchy.proofs.num_contours.Statement.{statement}
 use Rattle.hierarchy.proofs.num_contours.Tie as tie
 
-check-pairs-requires : tie.Need-check-pairs-requires
-check-pairs-requires c κs = search needs
-
 enum-told : tie.Need-enum-told
 enum-told c = search needs
-
-enum-known-check : tie.Need-enum-known-check
-enum-known-check c = search needs
 
 returns : tie.Need-returns
 returns c =
@@ -27,4 +21,4 @@ returns-2 c =
 
 pub num-contours-spec : {M : Type 1} → statement M
 num-contours-spec =
-    tie.close (tie.spec check-pairs-requires enum-told enum-known-check returns returns-2)
+    tie.close (tie.spec (λ c κs. search needs) enum-told (λ c. search needs) returns returns-2)

@@ -3,45 +3,20 @@ use Prim.Native.Nat.{_-_}
 use lib.ListN.{length}
 use borrow.Author.Needs.{needs}
 use Rattle.hierarchy.specs.Code.{standing}
-use Rattle.hierarchy.proofs.SortLaws.{ReleasePart, release-none, release-hit, release-miss, release-low, release-all}
+use Rattle.hierarchy.proofs.SortLaws.{ReleasePart, release-none, release-hit, release-miss, release-low}
+use Rattle.hierarchy.proofs.SortLaws.{release-all}
 use Rattle.hierarchy.proofs.release.Statement.{statement}
 use Rattle.hierarchy.proofs.release.Tie as tie
 
 abbrev Inv-loop : tie.InvT-loop
-Inv-loop pairs n x waits₀ order₀ before count₀ at₀ waits order count at = ReleasePart n x pairs at (standing waits₀ order₀ before) waits order count
+Inv-loop pairs n x waits₀ order₀ before count₀ at₀ waits order count at =
+    ReleasePart n x pairs at (standing waits₀ order₀ before) waits order count
 
 abbrev μ-loop : tie.MeasureT-loop
 μ-loop pairs n x waits₀ order₀ before count₀ at₀ waits order count at = length pairs - at
 
 loop-holds : tie.Need-loop-holds Inv-loop μ-loop
 loop-holds c = release-none _ _ _ _ _ _ (c .before .pre .1)
-
-add-loop : tie.Need-add-loop Inv-loop μ-loop
-add-loop c = search needs
-
-mul-b : tie.Need-mul-b Inv-loop μ-loop
-mul-b c = search needs
-
-shared-slice-read-b : tie.Need-shared-slice-read-b Inv-loop μ-loop
-shared-slice-read-b c = search needs
-
-add-a : tie.Need-add-a Inv-loop μ-loop
-add-a c = search needs
-
-mul-a : tie.Need-mul-a Inv-loop μ-loop
-mul-a c = search needs
-
-shared-slice-read-a : tie.Need-shared-slice-read-a Inv-loop μ-loop
-shared-slice-read-a c = search needs
-
-add-at : tie.Need-add-at Inv-loop μ-loop
-add-at c = search needs
-
-counts-requires : tie.Need-counts-requires Inv-loop μ-loop
-counts-requires c κs = search needs
-
-wide32-requires : tie.Need-wide32-requires Inv-loop μ-loop
-wide32-requires c κs = search needs
 
 loosen-requires : tie.Need-loosen-requires Inv-loop μ-loop
 loosen-requires c κs = let h = c .before .before .before .before .before .before .before in (
@@ -55,13 +30,18 @@ loop-less : tie.Need-loop-less Inv-loop μ-loop
 loop-less c = search needs
 
 loop-again : tie.Need-loop-again Inv-loop μ-loop
-loop-again c = let h = c .before .before .before .before .before .before .before .before in release-hit _ _ _ _ _ _ _ _ _ (h .loop-test .taken) (h .before .loop .inv) (c .before .before .before .before .before .counts .ensures) _ _ _ _ (c .before .before .before .wide32 .ensures) (c .before .before .before .before .if1 .taken) (c .loosen .ensures)
+loop-again c = let h =
+    c .before .before .before .before .before .before .before .before in release-hit _ _ _ _ _ _ _ _ _
+    (h .loop-test .taken) (h .before .loop .inv) (c .before .before .before .before .before .counts .ensures) _ _ _ _
+    (c .before .before .before .wide32 .ensures) (c .before .before .before .before .if1 .taken) (c .loosen .ensures)
 
 loop-less-2 : tie.Need-loop-less-2 Inv-loop μ-loop
 loop-less-2 c = search needs
 
 loop-again-2 : tie.Need-loop-again-2 Inv-loop μ-loop
-loop-again-2 c = let h = c .before .before .before .before in release-miss _ _ _ _ _ _ _ _ _ (h .loop-test .taken) (h .before .loop .inv) (c .before .counts .ensures) (c .if1 .left)
+loop-again-2 c = let h =
+    c .before .before .before .before in release-miss _ _ _ _ _ _ _ _ _ (h .loop-test .taken) (h .before .loop .inv)
+    (c .before .counts .ensures) (c .if1 .left)
 
 returns : tie.Need-returns Inv-loop μ-loop
 returns c = release-all _ _ _ _ _ _ _ _ (c .loop-test .left) (c .before .loop .inv)
@@ -73,15 +53,8 @@ release-spec =
     Inv-loop
     μ-loop
     loop-holds
-    add-loop
-    mul-b
-    shared-slice-read-b
-    add-a
-    mul-a
-    shared-slice-read-a
-    add-at
-    counts-requires
-    wide32-requires
+    (λ c. search needs) (λ c. search needs) (λ c. search needs) (λ c. search needs) (λ c. search needs)
+    (λ c. search needs) (λ c. search needs) (λ c κs. search needs) (λ c κs. search needs)
     loosen-requires
     loop-less
     loop-again

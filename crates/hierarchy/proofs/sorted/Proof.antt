@@ -4,12 +4,6 @@ use borrow.Author.Needs.{needs}
 use Rattle.hierarchy.proofs.sorted.Statement.{statement}
 use Rattle.hierarchy.proofs.sorted.Tie as tie
 
-tally-requires : tie.Need-tally-requires
-tally-requires c κs = search needs
-
-list-free-requires : tie.Need-list-free-requires
-list-free-requires c κs = search needs
-
 take-queue-requires : tie.Need-take-queue-requires
 take-queue-requires c κs = let g = c .before .before .before .before .before .before .before in (
   search needs,
@@ -26,4 +20,4 @@ returns c =
     (c .take-queue .ensures)
 
 pub sorted-spec : {M : Type 1} → statement M
-sorted-spec = tie.close (tie.spec tally-requires list-free-requires take-queue-requires returns)
+sorted-spec = tie.close (tie.spec (λ c κs. search needs) (λ c κs. search needs) take-queue-requires returns)

@@ -18,17 +18,8 @@ abbrev μ-loop : tie.MeasureT-loop
 loop-holds : tie.Need-loop-holds Inv-loop μ-loop
 loop-holds c = queue-none _ _ _ _ _ (c .before .pre .1)
 
-mul-x : tie.Need-mul-x Inv-loop μ-loop
-mul-x c = search needs
-
-element-copy-out-x : tie.Need-element-copy-out-x Inv-loop μ-loop
-element-copy-out-x c = search needs
-
 release-requires : tie.Need-release-requires Inv-loop μ-loop
 release-requires c κs = (search needs, c .before .before .before .before .loop .inv .roomy)
-
-add-i : tie.Need-add-i Inv-loop μ-loop
-add-i c = search needs
 
 loop-less : tie.Need-loop-less Inv-loop μ-loop
 loop-less c = search needs
@@ -48,10 +39,9 @@ take-queue-spec =
     Inv-loop
     μ-loop
     loop-holds
-    mul-x
-    element-copy-out-x
+    (λ c. search needs) (λ c. search needs)
     release-requires
-    add-i
+    (λ c. search needs)
     loop-less
     loop-again
     returns)

@@ -16,46 +16,10 @@ abbrev μ-loop : tie.MeasureT-loop
 loop-holds : tie.Need-loop-holds Inv-loop μ-loop
 loop-holds c = tally-none _ _
 
-add-loop : tie.Need-add-loop Inv-loop μ-loop
-add-loop c = search needs
-
-mul-wide32 : tie.Need-mul-wide32 Inv-loop μ-loop
-mul-wide32 c = search needs
-
-shared-slice-read-wide32 : tie.Need-shared-slice-read-wide32 Inv-loop μ-loop
-shared-slice-read-wide32 c = search needs
-
-wide32-requires : tie.Need-wide32-requires Inv-loop μ-loop
-wide32-requires c κs = search needs
-
-add-wide32 : tie.Need-add-wide32 Inv-loop μ-loop
-add-wide32 c = search needs
-
-mul-wide32-2 : tie.Need-mul-wide32-2 Inv-loop μ-loop
-mul-wide32-2 c = search needs
-
-shared-slice-read-wide32-2 : tie.Need-shared-slice-read-wide32-2 Inv-loop μ-loop
-shared-slice-read-wide32-2 c = search needs
-
-wide32-requires-2 : tie.Need-wide32-requires-2 Inv-loop μ-loop
-wide32-requires-2 c κs = search needs
-
-add-at : tie.Need-add-at Inv-loop μ-loop
-add-at c = search needs
-
-mul-waits : tie.Need-mul-waits Inv-loop μ-loop
-mul-waits c = search needs
-
-array-read-waits : tie.Need-array-read-waits Inv-loop μ-loop
-array-read-waits c = search needs
-
 add-waits : tie.Need-add-waits Inv-loop μ-loop
 add-waits c =
     let h = c .before .before .before .before .before .before .before in
     omega (arith, h .loop .inv .small (c .before .before .wide322 .result))
-
-array-write-waits : tie.Need-array-write-waits Inv-loop μ-loop
-array-write-waits c = search needs
 
 loop-less : tie.Need-loop-less Inv-loop μ-loop
 loop-less c = search needs
@@ -63,7 +27,9 @@ loop-less c = search needs
 loop-again : tie.Need-loop-again Inv-loop μ-loop
 loop-again c =
     let h = c .before .before .before .before .before .before in
-    tally-hit _ _ _ _ (h .loop-test .taken) (h .before .loop .inv) _ _ (c .before .before .before .before .wide32 .ensures) (c .before .before .wide322 .ensures) (search needs) (search needs) (search needs)
+    tally-hit _ _ _ _ (h .loop-test .taken) (h .before .loop .inv) _ _
+    (c .before .before .before .before .wide32 .ensures) (c .before .before .wide322 .ensures) (search needs)
+    (search needs) (search needs)
 
 loop-less-2 : tie.Need-loop-less-2 Inv-loop μ-loop
 loop-less-2 c = search needs
@@ -71,7 +37,8 @@ loop-less-2 c = search needs
 loop-again-2 : tie.Need-loop-again-2 Inv-loop μ-loop
 loop-again-2 c =
     let h = c .before .before .before .before .before .before in
-    tally-miss _ _ _ _ (h .loop-test .taken) (h .before .loop .inv) (λ p q. omega (arith, c .before .before .wide322 .ensures, c .if2 .left))
+    tally-miss _ _ _ _ (h .loop-test .taken) (h .before .loop .inv)
+    (λ p q. omega (arith, c .before .before .wide322 .ensures, c .if2 .left))
 
 loop-less-3 : tie.Need-loop-less-3 Inv-loop μ-loop
 loop-less-3 c = search needs
@@ -79,7 +46,8 @@ loop-less-3 c = search needs
 loop-again-3 : tie.Need-loop-again-3 Inv-loop μ-loop
 loop-again-3 c =
     let h = c .before .before .before .before .before in
-    tally-miss _ _ _ _ (h .loop-test .taken) (h .before .loop .inv) (λ p q. omega (arith, c .before .before .before .wide32 .ensures, c .if1 .left))
+    tally-miss _ _ _ _ (h .loop-test .taken) (h .before .loop .inv)
+    (λ p q. omega (arith, c .before .before .before .wide32 .ensures, c .if1 .left))
 
 returns : tie.Need-returns Inv-loop μ-loop
 returns c = tally-all _ _ _ _ (c .loop-test .left) (c .before .loop .inv)
@@ -91,19 +59,11 @@ tally-spec =
     Inv-loop
     μ-loop
     loop-holds
-    add-loop
-    mul-wide32
-    shared-slice-read-wide32
-    wide32-requires
-    add-wide32
-    mul-wide32-2
-    shared-slice-read-wide32-2
-    wide32-requires-2
-    add-at
-    mul-waits
-    array-read-waits
+    (λ c. search needs) (λ c. search needs) (λ c. search needs) (λ c κs. search needs) (λ c. search needs)
+    (λ c. search needs) (λ c. search needs) (λ c κs. search needs) (λ c. search needs) (λ c. search needs)
+    (λ c. search needs)
     add-waits
-    array-write-waits
+    (λ c. search needs)
     loop-less
     loop-again
     loop-less-2

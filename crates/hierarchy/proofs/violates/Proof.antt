@@ -4,20 +4,13 @@ use borrow.Author.Needs.{needs}
 use Rattle.hierarchy.proofs.violates.Statement.{statement}
 use Rattle.hierarchy.proofs.violates.Tie as tie
 
-check-pairs-requires : tie.Need-check-pairs-requires
-check-pairs-requires c κs = search needs
-
-enum-known-check : tie.Need-enum-known-check
-enum-known-check c = search needs
-
 enum-told : tie.Need-enum-told
 enum-told c = search needs
 
-has-pair-requires : tie.Need-has-pair-requires
-has-pair-requires c κs = search needs
-
 returns : tie.Need-returns
-returns c = verdict-fine _ _ (c .before .before .before .check-pairs .ensures) _ _ (c .before .enum-told .given .1) (c .has-pair .ensures)
+returns c =
+    verdict-fine _ _ (c .before .before .before .check-pairs .ensures) _ _ (c .before .enum-told .given .1)
+    (c .has-pair .ensures)
 
 returns-2 : tie.Need-returns-2
 returns-2 c = verdict-refused _ _ (c .before .before .before .check-pairs .ensures) _ _ (c .before .check .given .1)
@@ -25,4 +18,4 @@ returns-2 c = verdict-refused _ _ (c .before .before .before .check-pairs .ensur
 pub violates-spec : {M : Type 1} → statement M
 violates-spec =
     tie.close
-    (tie.spec check-pairs-requires enum-known-check enum-told has-pair-requires returns returns-2)
+    (tie.spec (λ c κs. search needs) (λ c. search needs) enum-told (λ c κs. search needs) returns returns-2)

@@ -5,14 +5,8 @@ use borrow.Author.Needs.{needs}
 use Rattle.host.proofs.jl_check.Statement.{statement}
 use Rattle.host.proofs.jl_check.Tie as tie
 
-check-requires : tie.Need-check-requires
-check-requires c κs = search needs
-
-code-requires : tie.Need-code-requires
-code-requires c κs = search needs
-
 returns : tie.Need-returns
 returns c = c .code .ensures ∙ ap codeOf (c .before .check .ensures)
 
 pub jl-check-spec : {M : Type 1} → statement M
-jl-check-spec = tie.close (tie.spec check-requires code-requires returns)
+jl-check-spec = tie.close (tie.spec (λ c κs. search needs) (λ c κs. search needs) returns)

@@ -4,20 +4,10 @@ use borrow.Author.Needs.{needs}
 use Rattle.host.proofs.jl_place.Statement.{statement}
 use Rattle.host.proofs.jl_place.Tie as tie
 
-global-to-local-requires : tie.Need-global-to-local-requires
-global-to-local-requires c κs = search needs
-
-enum-known-r : tie.Need-enum-known-r
-enum-known-r c = search needs
-
-told-requires : tie.Need-told-requires
-told-requires c κs = search needs
-
-enum-known-p : tie.Need-enum-known-p
-enum-known-p c = search needs
-
 returns : tie.Need-returns
-returns c = place-told-refused _ _ _ _ _ _ (c .before .before .before .before .global-to-local .ensures) (c .before .before .r .given .1) (c .told .ensures)
+returns c =
+    place-told-refused _ _ _ _ _ _ (c .before .before .before .before .global-to-local .ensures)
+    (c .before .before .r .given .1) (c .told .ensures)
 
 returns-2 : tie.Need-returns-2
 returns-2 c = place-told _ _ _ _ _ (c .before .before .before .global-to-local .ensures) (c .before .p .given .1)
@@ -25,4 +15,4 @@ returns-2 c = place-told _ _ _ _ _ (c .before .before .before .global-to-local .
 pub jl-place-spec : {M : Type 1} → statement M
 jl-place-spec =
     tie.close
-    (tie.spec global-to-local-requires enum-known-r told-requires enum-known-p returns returns-2)
+    (tie.spec (λ c κs. search needs) (λ c. search needs) (λ c κs. search needs) (λ c. search needs) returns returns-2)

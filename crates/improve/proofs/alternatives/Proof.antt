@@ -1,4 +1,5 @@
--- `improve::alternatives` meets its contract. The invariant: the candidates still to come make of this state what all of them make of the first; the count has grown by no more than the candidates passed. Assumes nothing.
+-- `improve::alternatives` meets its contract. The invariant: the candidates still to come make of this state what all
+-- of them make of the first; the count has grown by no more than the candidates passed. Assumes nothing.
 use mathlib.Core.List.{[]}
 use mathlib.Core.Path.{_≡_, refl, sym, _∙_}
 use Prim.Native.Nat.{_+_, _-_, _≤_, _<_}
@@ -15,7 +16,8 @@ use Rattle.improve.proofs.alternatives.Statement.{statement}
 use Rattle.improve.proofs.alternatives.Tie as tie
 
 abbrev Inv-loop : tie.InvT-loop
-Inv-loop home table t tour₀ p held from end limit cost better moves shortest₀ found₀ count₀ a₀ tour shortest found count a =
+Inv-loop home table t tour₀ p held from end limit cost better moves shortest₀ found₀ count₀ a₀ tour shortest found
+    count a =
     (onwards (alternative (chartOf home table t [] [] []) limit p held) end a (going tour shortest found count)
     ≡ each (alternative (chartOf home table t [] [] []) limit p held) (end - from) from (going tour₀ cost better moves))
     × (length tour ≡ length tour₀)
@@ -24,24 +26,25 @@ Inv-loop home table t tour₀ p held from end limit cost better moves shortest�
     × (count + from ≤ moves + a)
 
 abbrev μ-loop : tie.MeasureT-loop
-μ-loop home table t tour₀ p held from end limit cost better moves shortest₀ found₀ count₀ a₀ tour shortest found count a = end - a
+μ-loop home table t tour₀ p held from end limit cost better moves shortest₀ found₀ count₀ a₀ tour shortest found count
+    a = end - a
 
 loop-holds : tie.Need-loop-holds Inv-loop μ-loop
 loop-holds c = (sym (begin _ _ _ _), refl, omega arith, omega arith, omega arith)
-
-add-a : tie.Need-add-a Inv-loop μ-loop
-add-a c = omega arith
 
 loop-less : tie.Need-loop-less Inv-loop μ-loop
 loop-less c = omega arith
 
 loop-again : tie.Need-loop-again Inv-loop μ-loop
 loop-again c =
-    let l = c .before .before .loop in
-    (carry _ _ _ _ _ _ (l .inv .0) (c .before .loop-test .taken) (alternative-held _ _ _ _ _ _ (c .if1 .taken)), l .inv .1, omega arith, omega arith, omega arith)
-
-at-limit-requires : tie.Need-at-limit-requires Inv-loop μ-loop
-at-limit-requires c κs = search needs
+    let l = c .before .before .loop in (
+      carry _ _ _ _ _ _ (l .inv .0) (c .before .loop-test .taken) (alternative-held _ _ _ _ _ _ (c .if1 .taken)),
+      l
+          .inv .1,
+      omega arith,
+      omega arith,
+      omega arith,
+    )
 
 same-length : tie.Need-same-length Inv-loop μ-loop
 same-length c = c .before .before .before .before .loop .inv .1
@@ -50,18 +53,13 @@ returns : tie.Need-returns Inv-loop μ-loop
 returns c =
     let l = c .before .before .before .before .loop in (
       halt _ _ _ _ _ _ (alternative-idle _ _ _ _) (l .inv .0) (c .before .before .before .loop-test .taken)
-          (alternative-stops _ _ _ _ _ _ _ _ _ _ (c .before .before .if1 .left) (c .before .at-limit .ensures) (c .if2 .taken)) refl,
+          (alternative-stops _ _ _ _ _ _ _ _ _ _ (c .before .before .if1 .left) (c .before .at-limit .ensures)
+          (c .if2 .taken)) refl,
       omega arith,
     )
 
 try-candidate-requires : tie.Need-try-candidate-requires Inv-loop μ-loop
 try-candidate-requires c κs = omega (arith, c .before .before .before .before .before .loop .inv .1)
-
-add-count : tie.Need-add-count Inv-loop μ-loop
-add-count c = omega arith
-
-add-a-2 : tie.Need-add-a-2 Inv-loop μ-loop
-add-a-2 c = omega arith
 
 loop-less-2 : tie.Need-loop-less-2 Inv-loop μ-loop
 loop-less-2 c = omega arith
@@ -69,8 +67,12 @@ loop-less-2 c = omega arith
 loop-again-2 : tie.Need-loop-again-2 Inv-loop μ-loop
 loop-again-2 c =
     let l = c .before .before .before .before .before .before .before .before .before .loop in (
-      carry _ _ _ _ _ _ (l .inv .0) (c .before .before .before .before .before .before .before .before .loop-test .taken)
-          (alternative-goes _ _ _ _ _ _ _ _ _ _ (c .before .before .before .before .before .before .before .if1 .left) (c .before .before .before .before .before .before .at-limit .ensures) _ _ (c .before .before .before .before .before .if2 .left) (c .before .before .before .try-candidate .ensures)),
+      carry _ _ _ _ _ _ (l .inv .0) (c .before .before .before .before .before .before .before .before .loop-test
+          .taken)
+          (alternative-goes _ _ _ _ _ _ _ _ _ _ (c .before .before .before .before .before .before .before .if1 .left)
+          (c .before .before .before .before .before .before .at-limit .ensures) _ _
+          (c .before .before .before .before .before .if2 .left)
+          (c .before .before .before .try-candidate .ensures)),
       c .before .before .before .try-candidate .kept .1 .1 .1 .0 ∙ l .inv .1,
       omega arith,
       omega arith,
@@ -92,15 +94,14 @@ alternatives-spec =
     Inv-loop
     μ-loop
     loop-holds
-    add-a
+    (λ c. omega arith)
     loop-less
     loop-again
-    at-limit-requires
+    (λ c κs. search needs)
     same-length
     returns
     try-candidate-requires
-    add-count
-    add-a-2
+    (λ c. omega arith) (λ c. omega arith)
     loop-less-2
     loop-again-2
     same-length-2

@@ -13,14 +13,11 @@ returns-2 c = too-few _ _ _ _ (c .if2 .taken)
 returns-3 : tie.Need-returns-3
 returns-3 c = too-many _ _ _ _ (c .if3 .taken)
 
-run-requires : tie.Need-run-requires
-run-requires c κs = search needs
-
-same-length : tie.Need-same-length
-same-length c = search needs
-
 returns-4 : tie.Need-returns-4
-returns-4 c = worthy _ _ _ _ _ _ (c .before .before .before .before .before .before .if1 .left) (c .before .before .before .before .before .if2 .left) (c .before .before .before .before .if3 .left) (c .before .before .run .ensures)
+returns-4 c =
+    worthy _ _ _ _ _ _ (c .before .before .before .before .before .before .if1 .left)
+    (c .before .before .before .before .before .if2 .left) (c .before .before .before .before .if3 .left)
+    (c .before .before .run .ensures)
 
 pub improve-spec : {M : Type 1} → statement M
-improve-spec = tie.close (tie.spec returns returns-2 returns-3 run-requires same-length returns-4)
+improve-spec = tie.close (tie.spec returns returns-2 returns-3 (λ c κs. search needs) (λ c. search needs) returns-4)

@@ -1,4 +1,5 @@
--- `improve::run` meets its contract. Each loop's invariant: what is still to come in it makes of this state what the whole loop makes of the state at its beginning. Assumes nothing.
+-- `improve::run` meets its contract. Each loop's invariant: what is still to come in it makes of this state what the
+-- whole loop makes of the state at its beginning. Assumes nothing.
 use mathlib.Core.Bool.{true}
 use mathlib.Core.Path.{_≡_, refl, sym, _∙_}
 use Prim.Native.Nat.{_+_, _*_, _-_, _≤_}
@@ -10,7 +11,8 @@ use Rattle.table.proofs.EachLaws.{onwards, begin, begin-zero, carry, arrive}
 use Rattle.table.specs.Each.{each}
 use Rattle.improve.specs.Code.{going, chartOf}
 use Rattle.improve.specs.Search.{reversal, row, repeated, begun}
-use Rattle.improve.proofs.PassLaws.{moves-fit, repeat-begin, repeat-over, cut-in-turns, cut-in-rows, pass-again, pass-quiet, row-is, reached}
+use Rattle.improve.proofs.PassLaws.{moves-fit, repeat-begin, repeat-over, cut-in-turns, cut-in-rows, pass-again}
+use Rattle.improve.proofs.PassLaws.{pass-quiet, row-is, reached}
 use Rattle.improve.proofs.TrialLaws.{reversal-stops, reversal-goes}
 use Rattle.improve.proofs.run.Statement.{statement}
 use Rattle.improve.proofs.run.Tie as tie
@@ -26,7 +28,8 @@ Inv-loop2 home table t owner first pairs tour₀ passes limit n cost₀ moves₀
     × (moves + i + 2 ≤ moves₀ + j)
 
 abbrev μ-loop2 : tie.MeasureT-loop2
-μ-loop2 home table t owner first pairs tour₀ passes limit n cost₀ moves₀ pass better₀ i j₀ tour cost moves better j = n - j
+μ-loop2 home table t owner first pairs tour₀ passes limit n cost₀ moves₀ pass better₀ i j₀ tour cost moves better j =
+    n - j
 
 abbrev Inv-loop : tie.InvT-loop
 Inv-loop home table t owner first pairs tour₀ passes limit n cost₀ moves₀ pass better₀ i₀ tour cost moves better i =
@@ -59,20 +62,11 @@ evaluate-solution-requires c κs = search needs
 search-holds : tie.Need-search-holds Inv-loop2 μ-loop2 Inv-loop μ-loop Inv-search μ-search
 search-holds c = (repeat-begin _ _ _ _ _ _ (c .evaluate-solution .ensures), refl, omega arith, omega arith)
 
-add-pass : tie.Need-add-pass Inv-loop2 μ-loop2 Inv-loop μ-loop Inv-search μ-search
-add-pass c = omega arith
-
 turns-requires : tie.Need-turns-requires Inv-loop2 μ-loop2 Inv-loop μ-loop Inv-search μ-search
 turns-requires c κs = omega (arith, c .before .before .search .inv)
 
 loop-holds : tie.Need-loop-holds Inv-loop2 μ-loop2 Inv-loop μ-loop Inv-search μ-search
 loop-holds c = (begin-zero _ _ _, refl, omega arith, omega arith)
-
-add-loop : tie.Need-add-loop Inv-loop2 μ-loop2 Inv-loop μ-loop Inv-search μ-search
-add-loop c = omega arith
-
-add-j : tie.Need-add-j Inv-loop2 μ-loop2 Inv-loop μ-loop Inv-search μ-search
-add-j c = omega arith
 
 loop2-holds : tie.Need-loop2-holds Inv-loop2 μ-loop2 Inv-loop μ-loop Inv-search μ-search
 loop2-holds c = (sym (begin _ _ _ _), refl, omega arith, omega arith, omega arith)
@@ -83,20 +77,50 @@ at-limit-requires c κs = search needs
 
 try-reversal-requires :
     tie.Need-try-reversal-requires Inv-loop2 μ-loop2 Inv-loop μ-loop Inv-search μ-search
-try-reversal-requires c κs = omega (arith, c .before .before .before .before .before .before .before .before .before .before .before .before .before .search .inv, c .before .before .before .before .before .before .before .before .before .before .turns .kept .1 .1 .1 .1 .1 .0, c .before .before .before .before .before .before .loop .inv, c .before .before .before .before .loop2 .inv)
+try-reversal-requires c κs =
+    omega (
+      arith,
+      c .before .before .before .before .before .before .before .before .before .before .before .before
+          .before .search .inv,
+      c .before .before .before .before .before .before .before .before .before .before .turns
+          .kept .1 .1 .1 .1 .1 .0,
+      c .before .before .before .before .before .before .loop .inv,
+      c .before .before .before
+          .before .loop2 .inv,
+    )
 
 add-moves : tie.Need-add-moves Inv-loop2 μ-loop2 Inv-loop μ-loop Inv-search μ-search
 add-moves c =
     record {
-      fits = moves-fit _ _ _ _ _ _ _ _ _ (c .before .before .before .before .before .before .before .before .before .before .before .before .before .before .before .before .search-test .taken) (c .before .before .before .before .before .before .before .before .before .before .before .before .before .before .before .before .before .before .before .before .before .before .before .before .before .before .fits .passes .fits) (omega (arith, c .before .before .before .before .before .before .before .before .before .before .before .before .before .before .before .before .before .before .before .before .before .before .before .before .before .before .pre)) (c .before .before .before .before .before .before .before .before .before .loop-test .taken)
-          (c .before .before .before .before .before .before .before .loop2-test .taken) (c .before .before .before .before .before .before .before .before .before .before .before .before .before .before .before .before .before .search .inv .3) (c .before .before .before .before .before .before .before .before .before .before .before .before .before .before .turns .ensures .1) (c .before .before .before .before .before .before .before .before .before .before .loop .inv .3) (c .before .before .before .before .before .before .before .before .loop2 .inv .4);
+      fits = moves-fit _ _ _ _ _ _ _ _ _ (c .before .before .before .before .before .before .before .before .before
+          .before .before .before .before .before .before .before .search-test .taken)
+          (c .before .before .before .before .before .before .before .before .before .before .before .before .before
+          .before .before .before .before .before .before .before .before .before .before .before .before .before
+          .fits .passes .fits) (omega (
+            arith,
+            c .before .before .before .before .before .before .before .before
+                .before .before .before .before .before .before .before .before .before .before .before .before .before
+                .before .before .before .before .before .pre,
+          ))
+          (c .before .before .before .before .before .before .before .before .before .loop-test .taken)
+          (c .before .before .before .before .before .before .before .loop2-test .taken)
+          (c .before .before .before .before .before .before .before .before .before .before .before .before
+          .before .before .before .before .before .search .inv .3)
+          (c .before .before .before .before .before .before .before .before .before .before .before .before
+          .before .before .turns .ensures .1) (c .before .before .before .before .before .before .before .before
+          .before .before .loop .inv .3) (c .before .before .before .before .before .before .before .before .loop2
+          .inv .4);
     }
 
 add-j-2 : tie.Need-add-j-2 Inv-loop2 μ-loop2 Inv-loop μ-loop Inv-search μ-search
-add-j-2 c = omega (arith, c .before .before .before .before .before .before .before .loop2-test .taken, c .before .before .before .before .before .before .before .before .before .before .before .before .before .before .before .before .before .before .before .before .before .before .before .before .before .before .pre)
-
-loop2-less : tie.Need-loop2-less Inv-loop2 μ-loop2 Inv-loop μ-loop Inv-search μ-search
-loop2-less c = omega arith
+add-j-2 c =
+    omega (
+      arith,
+      c .before .before .before .before .before .before .before .loop2-test .taken,
+      c .before .before
+          .before .before .before .before .before .before .before .before .before .before .before .before .before .before
+          .before .before .before .before .before .before .before .before .before .before .pre,
+    )
 
 loop2-again : tie.Need-loop2-again Inv-loop2 μ-loop2 Inv-loop μ-loop Inv-search μ-search
 loop2-again c =
@@ -109,9 +133,6 @@ loop2-again c =
       omega arith,
       omega arith,
     )
-
-add-i : tie.Need-add-i Inv-loop2 μ-loop2 Inv-loop μ-loop Inv-search μ-search
-add-i c = omega arith
 
 loop-less : tie.Need-loop-less Inv-loop2 μ-loop2 Inv-loop μ-loop Inv-search μ-search
 loop-less c = omega arith
@@ -127,14 +148,14 @@ loop-again c =
       omega arith,
     )
 
-search-less : tie.Need-search-less Inv-loop2 μ-loop2 Inv-loop μ-loop Inv-search μ-search
-search-less c = omega arith
-
 search-again : tie.Need-search-again Inv-loop2 μ-loop2 Inv-loop μ-loop Inv-search μ-search
 search-again c =
     let s = c .before .before .before .before .before .before .before .before .before .search in
     let l = c .before .before .loop in (
-      pass-again _ _ _ _ _ _ _ _ _ (s .inv .0) (c .before .before .before .before .before .before .before .before .search-test .taken) _ _ (rw (c .before .before .before .before .before .before .before .before .before .search .inv .1) at (c .before .before .before .before .before .before .turns .ensures .0)) (c .before .before .before .if1 .left) _ _ _ _ (omega arith) _ (l .inv .0) (not-false _ (c .if3 .left)),
+      pass-again _ _ _ _ _ _ _ _ _ (s .inv .0) (c .before .before .before .before .before .before .before .before
+          .search-test .taken) _ _ (rw (c .before .before .before .before .before .before .before .before .before
+          .search .inv .1) at (c .before .before .before .before .before .before .turns .ensures .0))
+          (c .before .before .before .if1 .left) _ _ _ _ (omega arith) _ (l .inv .0) (not-false _ (c .if3 .left)),
       l .inv .1 ∙ c .before .before .before .before .before .before .turns .kept .1 .1 .1 .1 .1 .0 ∙ s .inv .1,
       omega arith,
       omega arith,
@@ -147,26 +168,47 @@ returns : tie.Need-returns Inv-loop2 μ-loop2 Inv-loop μ-loop Inv-search μ-sea
 returns c = reached _ _ (repeat-over _ _ _ _ _ _ _ _ _ (c .before .search .inv .0) (c .search-test .left))
 
 same-length-2 : tie.Need-same-length-2 Inv-loop2 μ-loop2 Inv-loop μ-loop Inv-search μ-search
-same-length-2 c = c .before .before .before .turns .kept .1 .1 .1 .1 .1 .0 ∙ c .before .before .before .before .before .before .search .inv .1
+same-length-2 c =
+    c .before .before .before .turns .kept .1 .1 .1 .1 .1 .0
+    ∙ c .before .before .before .before .before .before .search .inv .1
 
 returns-2 : tie.Need-returns-2 Inv-loop2 μ-loop2 Inv-loop μ-loop Inv-search μ-search
-returns-2 c = reached _ _ (cut-in-turns _ _ _ _ _ _ _ _ _ (c .before .before .before .before .before .before .search .inv .0) (c .before .before .before .before .before .search-test .taken) _ _ (rw (c .before .before .before .before .before .before .search .inv .1) at (c .before .before .before .turns .ensures .0)) (c .if1 .taken))
+returns-2 c =
+    reached _ _ (cut-in-turns _ _ _ _ _ _ _ _ _ (c .before .before .before .before .before .before .search .inv .0)
+    (c .before .before .before .before .before .search-test .taken) _ _
+    (rw (c .before .before .before .before .before .before .search .inv .1) at
+    (c .before .before .before .turns .ensures .0)) (c .if1 .taken))
 
 same-length-3 : tie.Need-same-length-3 Inv-loop2 μ-loop2 Inv-loop μ-loop Inv-search μ-search
-same-length-3 c = c .before .before .before .loop2 .inv .1 ∙ c .before .before .before .before .before .loop .inv .1 ∙ c .before .before .before .before .before .before .before .before .before .turns .kept .1 .1 .1 .1 .1 .0 ∙ c .before .before .before .before .before .before .before .before .before .before .before .before .search .inv .1
+same-length-3 c =
+    c .before .before .before .loop2 .inv .1 ∙ c .before .before .before .before .before .loop .inv .1
+    ∙ c .before .before .before .before .before .before .before .before .before .turns .kept .1 .1 .1 .1 .1 .0
+    ∙ c .before .before .before .before .before .before .before .before .before .before .before .before .search .inv .1
 
 returns-3 : tie.Need-returns-3 Inv-loop2 μ-loop2 Inv-loop μ-loop Inv-search μ-search
 returns-3 c =
-    reached _ _ (cut-in-rows _ _ _ _ _ _ _ _ _ (c .before .before .before .before .before .before .before .before .before .before .before .before .search .inv .0) (c .before .before .before .before .before .before .before .before .before .before .before .search-test .taken) _ _ (rw (c .before .before .before .before .before .before .before .before .before .before .before .before .search .inv .1) at (c .before .before .before .before .before .before .before .before .before .turns .ensures .0)) (c .before .before .before .before .before .before .if1 .left) _ _ _ _ _ _ _ _ _ _
-    (c .before .before .before .before .before .loop .inv .0) (omega arith) (c .before .before .before .loop2 .inv .0) (c .before .before .loop2-test .taken)
+    reached _ _ (cut-in-rows _ _ _ _ _ _ _ _ _ (c .before .before .before .before .before .before .before .before
+    .before .before .before .before .search .inv .0)
+    (c .before .before .before .before .before .before .before .before .before .before .before .search-test
+    .taken) _ _ (rw (c .before .before .before .before .before .before .before .before .before .before .before
+    .before .search .inv .1) at (c .before .before .before .before .before .before .before .before .before .turns
+    .ensures .0)) (c .before .before .before .before .before .before .if1 .left) _ _ _ _ _ _ _ _ _ _
+    (c .before .before .before .before .before .loop .inv .0) (omega arith) (c .before .before .before .loop2 .inv .0)
+    (c .before .before .loop2-test .taken)
     (reversal-stops _ _ _ _ _ _ _ _ _ (c .before .at-limit .ensures) (c .if2 .taken)))
 
 same-length-4 : tie.Need-same-length-4 Inv-loop2 μ-loop2 Inv-loop μ-loop Inv-search μ-search
-same-length-4 c = c .before .before .loop .inv .1 ∙ c .before .before .before .before .before .before .turns .kept .1 .1 .1 .1 .1 .0 ∙ c .before .before .before .before .before .before .before .before .before .search .inv .1
+same-length-4 c =
+    c .before .before .loop .inv .1 ∙ c .before .before .before .before .before .before .turns .kept .1 .1 .1 .1 .1 .0
+    ∙ c .before .before .before .before .before .before .before .before .before .search .inv .1
 
 returns-4 : tie.Need-returns-4 Inv-loop2 μ-loop2 Inv-loop μ-loop Inv-search μ-search
 returns-4 c =
-    reached _ _ (pass-quiet _ _ _ _ _ _ _ _ _ (c .before .before .before .before .before .before .before .before .before .search .inv .0) (c .before .before .before .before .before .before .before .before .search-test .taken) _ _ (rw (c .before .before .before .before .before .before .before .before .before .search .inv .1) at (c .before .before .before .before .before .before .turns .ensures .0)) (c .before .before .before .if1 .left) _ _ _ _ (omega arith) _ (c .before .before .loop .inv .0) (not-true _ (c .if3 .taken)))
+    reached _ _ (pass-quiet _ _ _ _ _ _ _ _ _ (c .before .before .before .before .before .before .before .before
+    .before .search .inv .0) (c .before .before .before .before .before .before .before .before .search-test
+    .taken) _ _ (rw (c .before .before .before .before .before .before .before .before .before .search .inv .1) at
+    (c .before .before .before .before .before .before .turns .ensures .0)) (c .before .before .before .if1 .left)
+    _ _ _ _ (omega arith) _ (c .before .before .loop .inv .0) (not-true _ (c .if3 .taken)))
 
 pub run-spec : {M : Type 1} → statement M
 run-spec =
@@ -180,22 +222,21 @@ run-spec =
     μ-search
     evaluate-solution-requires
     search-holds
-    add-pass
+    (λ c. omega arith)
     turns-requires
     loop-holds
-    add-loop
-    add-j
+    (λ c. omega arith) (λ c. omega arith)
     loop2-holds
     at-limit-requires
     try-reversal-requires
     add-moves
     add-j-2
-    loop2-less
+    (λ c. omega arith)
     loop2-again
-    add-i
+    (λ c. omega arith)
     loop-less
     loop-again
-    search-less
+    (λ c. omega arith)
     search-again
     same-length
     returns

@@ -10,49 +10,29 @@ use Rattle.improve.proofs.TrialLaws.{reversal-held, reversal-back}
 use Rattle.improve.proofs.try_reversal.Statement.{statement}
 use Rattle.improve.proofs.try_reversal.Tie as tie
 
-add-from : tie.Need-add-from
-add-from c = search needs
-
-add-to : tie.Need-add-to
-add-to c = search needs
-
-reverse-requires : tie.Need-reverse-requires
-reverse-requires c κs = search needs
-
-weigh-requires : tie.Need-weigh-requires
-weigh-requires c κs = search needs
-
-same-length : tie.Need-same-length
-same-length c = search needs
-
 returns : tie.Need-returns
 returns c =
     let a = c .before .before .before .before .before .before .before .before .before .before .before .before .args in
-    reversal-held (lengthOf (a .home .now) (a .table .now) (a .t)) (λ (o : List ℕ). keepsPairs (contours (a .owner .now) o) (a .pairs .now))
-    (a .i) (a .j) (a .tour .now) _ (a .cost) _ (c .before .before .before .before .before .reverse .ensures) (c .before .weigh .ensures) (c .if1 .taken)
-
-reverse-requires-2 : tie.Need-reverse-requires-2
-reverse-requires-2 c κs = search needs
-
-same-length-2 : tie.Need-same-length-2
-same-length-2 c = search needs
+    reversal-held (lengthOf (a .home .now) (a .table .now) (a .t))
+    (λ (o : List ℕ). keepsPairs (contours (a .owner .now) o) (a .pairs .now))
+    (a .i) (a .j) (a .tour .now) _ (a .cost) _ (c .before .before .before .before .before .reverse .ensures)
+    (c .before .weigh .ensures) (c .if1 .taken)
 
 returns-2 : tie.Need-returns-2
 returns-2 c =
-    let a = c .before .before .before .before .before .before .before .before .before .before .before .before .before .before .before .before .args in
-    reversal-back (lengthOf (a .home .now) (a .table .now) (a .t)) (λ (o : List ℕ). keepsPairs (contours (a .owner .now) o) (a .pairs .now))
-    (a .i) (a .j) (a .tour .now) _ (a .cost) _ (c .before .before .before .before .before .before .before .before .before .reverse .ensures) (c .before .before .before .before .before .weigh .ensures) _ (omega arith) (omega arith) (c .before .before .reverse2 .ensures) (c .before .before .before .before .if1 .left)
+    let a = c .before .before .before .before .before .before .before .before .before .before .before .before .before
+    .before .before .before .args in
+    reversal-back (lengthOf (a .home .now) (a .table .now) (a .t))
+    (λ (o : List ℕ). keepsPairs (contours (a .owner .now) o) (a .pairs .now))
+    (a .i) (a .j) (a .tour .now) _ (a .cost) _ (c .before .before .before .before .before .before .before .before
+    .before .reverse .ensures) (c .before .before .before .before .before .weigh .ensures) _ (omega arith)
+    (omega arith) (c .before .before .reverse2 .ensures) (c .before .before .before .before .if1 .left)
 
 pub try-reversal-spec : {M : Type 1} → statement M
 try-reversal-spec =
     tie.close
     (tie.spec
-    add-from
-    add-to
-    reverse-requires
-    weigh-requires
-    same-length
+    (λ c. search needs) (λ c. search needs) (λ c κs. search needs) (λ c κs. search needs) (λ c. search needs)
     returns
-    reverse-requires-2
-    same-length-2
+    (λ c κs. search needs) (λ c. search needs)
     returns-2)

@@ -1,4 +1,5 @@
--- `improve::turns` meets its contract. The invariant: the turns still to come make of this state what all of them make of the first. Assumes nothing.
+-- `improve::turns` meets its contract. The invariant: the turns still to come make of this state what all of them make
+-- of the first. Assumes nothing.
 use mathlib.Core.Bool.{false}
 use mathlib.Core.List.{[]}
 use mathlib.Core.Path.{_≡_, refl, sym, _∙_}
@@ -32,7 +33,9 @@ turn-at-requires : tie.Need-turn-at-requires Inv-loop μ-loop
 turn-at-requires c κs = omega (arith, c .before .before .loop .inv .1)
 
 same-length : tie.Need-same-length Inv-loop μ-loop
-same-length c = c .before .before .before .turn-at .kept .1 .1 .1 .1 .1 .0 ∙ c .before .before .before .before .before .before .loop .inv .1
+same-length c =
+    c .before .before .before .turn-at .kept .1 .1 .1 .1 .1 .0
+    ∙ c .before .before .before .before .before .before .loop .inv .1
 
 returns : tie.Need-returns Inv-loop μ-loop
 returns c =
@@ -42,16 +45,14 @@ returns c =
       omega arith,
     )
 
-add-p : tie.Need-add-p Inv-loop μ-loop
-add-p c = omega arith
-
 loop-less : tie.Need-loop-less Inv-loop μ-loop
 loop-less c = omega arith
 
 loop-again : tie.Need-loop-again Inv-loop μ-loop
 loop-again c =
     let l = c .before .before .before .before .before .before .loop in (
-      carry _ _ _ _ _ _ (l .inv .0) (c .before .before .before .before .before .loop-test .taken) (goes-on _ _ _ (c .before .before .before .turn-at .ensures .0) (c .if1 .left)),
+      carry _ _ _ _ _ _ (l .inv .0) (c .before .before .before .before .before .loop-test .taken)
+          (goes-on _ _ _ (c .before .before .before .turn-at .ensures .0) (c .if1 .left)),
       c .before .before .before .turn-at .kept .1 .1 .1 .1 .1 .0 ∙ l .inv .1,
       omega arith,
       omega arith,
@@ -75,7 +76,7 @@ turns-spec =
     turn-at-requires
     same-length
     returns
-    add-p
+    (λ c. omega arith)
     loop-less
     loop-again
     same-length-2

@@ -4,31 +4,27 @@ use Rattle.improve.proofs.TrialLaws.{weighs-in, weighs-illegal, weighs-
 use Rattle.improve.proofs.weigh.Statement.{statement}
 use Rattle.improve.proofs.weigh.Tie as tie
 
-evaluate-solution-requires : tie.Need-evaluate-solution-requires
-evaluate-solution-requires c κs = search needs
-
-is-shorter-requires : tie.Need-is-shorter-requires
-is-shorter-requires c κs = search needs
-
-is-legal-requires : tie.Need-is-legal-requires
-is-legal-requires c κs = search needs
-
 returns : tie.Need-returns
-returns c = weighs-in _ _ _ _ _ _ (c .before .before .before .before .evaluate-solution .ensures) (c .before .before .before .is-shorter .ensures) (c .before .before .if1 .taken) (c .before .is-legal .ensures) (c .if2 .taken)
+returns c =
+    weighs-in _ _ _ _ _ _ (c .before .before .before .before .evaluate-solution .ensures)
+    (c .before .before .before .is-shorter .ensures) (c .before .before .if1 .taken) (c .before .is-legal .ensures)
+    (c .if2 .taken)
 
 returns-2 : tie.Need-returns-2
-returns-2 c = weighs-illegal _ _ _ _ _ _ (c .before .before .before .before .evaluate-solution .ensures) (c .before .before .before .is-shorter .ensures) (c .before .before .if1 .taken) (c .before .is-legal .ensures) (c .if2 .left)
+returns-2 c =
+    weighs-illegal _ _ _ _ _ _ (c .before .before .before .before .evaluate-solution .ensures)
+    (c .before .before .before .is-shorter .ensures) (c .before .before .if1 .taken) (c .before .is-legal .ensures)
+    (c .if2 .left)
 
 returns-3 : tie.Need-returns-3
-returns-3 c = weighs-out _ _ _ _ _ (c .before .before .evaluate-solution .ensures) (c .before .is-shorter .ensures) (c .if1 .left)
+returns-3 c =
+    weighs-out _ _ _ _ _ (c .before .before .evaluate-solution .ensures) (c .before .is-shorter .ensures) (c .if1 .left)
 
 pub weigh-spec : {M : Type 1} → statement M
 weigh-spec =
     tie.close
     (tie.spec
-    evaluate-solution-requires
-    is-shorter-requires
-    is-legal-requires
+    (λ c κs. search needs) (λ c κs. search needs) (λ c κs. search needs)
     returns
     returns-2
     returns-3)

@@ -30,16 +30,16 @@ joined-requires c κs = let t = c .before .loop-test .taken in
     let e = c .before .before .before .before .held .ensures in
     roomy _ _ _ _ (rw e at t) (c .before .before .loop .inv .1) (c .offers .ensures)
 
-add-k : tie.Need-add-k Inv-loop μ-loop
-add-k c = omega arith
-
 loop-less : tie.Need-loop-less Inv-loop μ-loop
 loop-less c = omega arith
 
 loop-again : tie.Need-loop-again Inv-loop μ-loop
 loop-again c = let t = c .before .before .loop-test .taken in
-    let e = c .before .before .before .before .before .held .ensures in
-    (omega arith, joined-more _ _ _ _ _ (rw e at t) (c .before .before .before .loop .inv .1) (c .before .offers .ensures) (c .joined .ensures))
+    let e = c .before .before .before .before .before .held .ensures in (
+      omega arith,
+      joined-more _ _ _ _ _ (rw e at t) (c .before .before .before .loop .inv .1)
+          (c .before .offers .ensures) (c .joined .ensures),
+    )
 
 returns : tie.Need-returns Inv-loop μ-loop
 returns c = let e : c .before .loop .k ≡ c .before .before .before .held .result = omega arith in
@@ -56,7 +56,7 @@ gather-spec =
     loop-holds
     offers-requires
     joined-requires
-    add-k
+    (λ c. omega arith)
     loop-less
     loop-again
     returns)

@@ -1,4 +1,5 @@
--- `instance::outline_of` meets its contract. The loop's invariant: the numbers of the first j vertices stand in their room. Assumes nothing.
+-- `instance::outline_of` meets its contract. The loop's invariant: the numbers of the first j vertices stand in their
+-- room. Assumes nothing.
 use mathlib.Core.Path.{_≡_, _∙_}
 use Prim.Native.Nat.{_≤_, _-_}
 use native.Mathlib.Omega.{arith}
@@ -24,38 +25,15 @@ loop-holds c = (omega arith, numbers-none _ _)
 vertex-requires : tie.Need-vertex-requires Inv-loop μ-loop
 vertex-requires c κs = tt
 
-mul-numbers : tie.Need-mul-numbers Inv-loop μ-loop
-mul-numbers c = omega arith
-
-mul-numbers-2 : tie.Need-mul-numbers-2 Inv-loop μ-loop
-mul-numbers-2 c = omega arith
-
-array-write-numbers : tie.Need-array-write-numbers Inv-loop μ-loop
-array-write-numbers c = omega arith
-
-mul-numbers-3 : tie.Need-mul-numbers-3 Inv-loop μ-loop
-mul-numbers-3 c = omega arith
-
-add-numbers : tie.Need-add-numbers Inv-loop μ-loop
-add-numbers c = omega arith
-
-mul-numbers-4 : tie.Need-mul-numbers-4 Inv-loop μ-loop
-mul-numbers-4 c = omega arith
-
-array-write-numbers-2 : tie.Need-array-write-numbers-2 Inv-loop μ-loop
-array-write-numbers-2 c = omega arith
-
-add-j : tie.Need-add-j Inv-loop μ-loop
-add-j c = omega arith
-
 loop-less : tie.Need-loop-less Inv-loop μ-loop
 loop-less c = omega arith
 
 loop-again : tie.Need-loop-again Inv-loop μ-loop
-loop-again c = (omega arith, numbers-more _ _ _ (c .vertex .result) _ (omega arith) (c .vertex .ensures) (c .before .before .loop .inv .1))
-
-mul-t7 : tie.Need-mul-t7 Inv-loop μ-loop
-mul-t7 c = omega arith
+loop-again c = (
+  omega arith,
+  numbers-more _ _ _ (c .vertex .result) _ (omega arith) (c .vertex .ensures)
+      (c .before .before .loop .inv .1),
+)
 
 returns : tie.Need-returns Inv-loop μ-loop
 returns c = let v = c .before .before .before .vertices .ensures in
@@ -72,15 +50,9 @@ outline-of-spec =
     most-requires
     loop-holds
     vertex-requires
-    mul-numbers
-    mul-numbers-2
-    array-write-numbers
-    mul-numbers-3
-    add-numbers
-    mul-numbers-4
-    array-write-numbers-2
-    add-j
+    (λ c. omega arith) (λ c. omega arith) (λ c. omega arith) (λ c. omega arith) (λ c. omega arith) (λ c. omega arith)
+    (λ c. omega arith) (λ c. omega arith)
     loop-less
     loop-again
-    mul-t7
+    (λ c. omega arith)
     returns)

@@ -7,15 +7,13 @@ use Rattle.instance.proofs.prepare.Tie as tie
 returns : tie.Need-returns
 returns c =
     let b = c in
-    prepared-is _ (b .before .before .before .gather .ensures) (b .before .before .home .ensures) (b .before .homes-of .ensures)
+    prepared-is _ (b .before .before .before .gather .ensures) (b .before .before .home .ensures)
+    (b .before .homes-of .ensures)
     (b .pair-places .ensures)
 
 pub prepare-spec : {M : Type 1} → statement M
 prepare-spec =
     tie.close
     (tie.spec
-    (λ c κs. search needs)
-    (λ c κs. search needs)
-    (λ c κs. search needs)
-    (λ c κs. search needs)
+    (λ c κs. search needs) (λ c κs. search needs) (λ c κs. search needs) (λ c κs. search needs)
     returns)

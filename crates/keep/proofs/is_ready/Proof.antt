@@ -18,32 +18,18 @@ abbrev μ-loop : tie.MeasureT-loop
 loop-holds : tie.Need-loop-holds Inv-loop μ-loop
 loop-holds c = every-none _ _
 
-add-loop : tie.Need-add-loop Inv-loop μ-loop
-add-loop c = search needs
-
-shared-slice-read-ready-by : tie.Need-shared-slice-read-ready-by Inv-loop μ-loop
-shared-slice-read-ready-by c = search needs
-
-add-ready-by : tie.Need-add-ready-by Inv-loop μ-loop
-add-ready-by c = search needs
-
-shared-slice-read-ready-by-2 : tie.Need-shared-slice-read-ready-by-2 Inv-loop μ-loop
-shared-slice-read-ready-by-2 c = search needs
-
-ready-by-requires : tie.Need-ready-by-requires Inv-loop μ-loop
-ready-by-requires c κs = search needs
-
 returns : tie.Need-returns Inv-loop μ-loop
-returns c = let h = c .before .before .before .before in pair-waits _ _ _ _ _ (h .loop-test .taken) (h .before .loop .inv) (c .before .ready-by .ensures) (not-true _ (c .if1 .taken))
-
-add-at : tie.Need-add-at Inv-loop μ-loop
-add-at c = search needs
+returns c = let h =
+    c .before .before .before .before in pair-waits _ _ _ _ _ (h .loop-test .taken) (h .before .loop .inv)
+    (c .before .ready-by .ensures) (not-true _ (c .if1 .taken))
 
 loop-less : tie.Need-loop-less Inv-loop μ-loop
 loop-less c = search needs
 
 loop-again : tie.Need-loop-again Inv-loop μ-loop
-loop-again c = let h = c .before .before .before .before in pair-ready _ _ _ _ _ (h .loop-test .taken) (h .before .loop .inv) (c .before .ready-by .ensures) (not-false _ (c .if1 .left))
+loop-again c = let h =
+    c .before .before .before .before in pair-ready _ _ _ _ _ (h .loop-test .taken) (h .before .loop .inv)
+    (c .before .ready-by .ensures) (not-false _ (c .if1 .left))
 
 returns-2 : tie.Need-returns-2 Inv-loop μ-loop
 returns-2 c = pairs-ready _ _ _ _ (c .loop-test .left) (c .before .loop .inv)
@@ -55,13 +41,9 @@ is-ready-spec =
     Inv-loop
     μ-loop
     loop-holds
-    add-loop
-    shared-slice-read-ready-by
-    add-ready-by
-    shared-slice-read-ready-by-2
-    ready-by-requires
+    (λ c. search needs) (λ c. search needs) (λ c. search needs) (λ c. search needs) (λ c κs. search needs)
     returns
-    add-at
+    (λ c. search needs)
     loop-less
     loop-again
     returns-2)

@@ -15,44 +15,8 @@ Inv-loop order pairs ranks at₀ at = EveryPart (keptIn order) pairs at
 abbrev μ-loop : tie.MeasureT-loop
 μ-loop order pairs ranks at₀ at = length pairs - at
 
-note-long-requires : tie.Need-note-long-requires Inv-loop μ-loop
-note-long-requires c κs = search needs
-
 loop-holds : tie.Need-loop-holds Inv-loop μ-loop
 loop-holds c = every-none _ _
-
-add-loop : tie.Need-add-loop Inv-loop μ-loop
-add-loop c = search needs
-
-shared-slice-read-wide : tie.Need-shared-slice-read-wide Inv-loop μ-loop
-shared-slice-read-wide c = search needs
-
-wide-requires : tie.Need-wide-requires Inv-loop μ-loop
-wide-requires c κs = search needs
-
-add-wide : tie.Need-add-wide Inv-loop μ-loop
-add-wide c = search needs
-
-shared-slice-read-wide-2 : tie.Need-shared-slice-read-wide-2 Inv-loop μ-loop
-shared-slice-read-wide-2 c = search needs
-
-wide-requires-2 : tie.Need-wide-requires-2 Inv-loop μ-loop
-wide-requires-2 c κs = search needs
-
-mul-kept-at : tie.Need-mul-kept-at Inv-loop μ-loop
-mul-kept-at c = search needs
-
-array-read-kept-at : tie.Need-array-read-kept-at Inv-loop μ-loop
-array-read-kept-at c = search needs
-
-mul-kept-at-2 : tie.Need-mul-kept-at-2 Inv-loop μ-loop
-mul-kept-at-2 c = search needs
-
-array-read-kept-at-2 : tie.Need-array-read-kept-at-2 Inv-loop μ-loop
-array-read-kept-at-2 c = search needs
-
-kept-at-requires : tie.Need-kept-at-requires Inv-loop μ-loop
-kept-at-requires c κs = search needs
 
 returns : tie.Need-returns Inv-loop μ-loop
 returns c =
@@ -62,9 +26,6 @@ returns c =
     let table = h .before .before .note-long .ensures in
     pair-broken _ _ _ _ _ _ (table-rank _ _ _ _ table (w .0) (w .1)) (table-rank _ _ _ _ table (v .0) (v .1))
     (h .loop-test .taken) (h .before .loop .inv) (c .before .kept-at .ensures) (not-true _ (c .if1 .taken))
-
-add-at : tie.Need-add-at Inv-loop μ-loop
-add-at c = search needs
 
 loop-less : tie.Need-loop-less Inv-loop μ-loop
 loop-less c = search needs
@@ -87,21 +48,13 @@ keeps-long-spec =
     (tie.spec
     Inv-loop
     μ-loop
-    note-long-requires
+    (λ c κs. search needs)
     loop-holds
-    add-loop
-    shared-slice-read-wide
-    wide-requires
-    add-wide
-    shared-slice-read-wide-2
-    wide-requires-2
-    mul-kept-at
-    array-read-kept-at
-    mul-kept-at-2
-    array-read-kept-at-2
-    kept-at-requires
+    (λ c. search needs) (λ c. search needs) (λ c κs. search needs) (λ c. search needs) (λ c. search needs)
+    (λ c κs. search needs) (λ c. search needs) (λ c. search needs) (λ c. search needs) (λ c. search needs)
+    (λ c κs. search needs)
     returns
-    add-at
+    (λ c. search needs)
     loop-less
     loop-again
     returns-2)

@@ -7,14 +7,8 @@ use Rattle.keep.proofs.ready_by.Tie as tie
 returns : tie.Need-returns
 returns c = ready-other _ _ _ _ (c .if1 .taken)
 
-wide-requires : tie.Need-wide-requires
-wide-requires c κs = search needs
-
-flag-at-requires : tie.Need-flag-at-requires
-flag-at-requires c κs = search needs
-
 returns-2 : tie.Need-returns-2
 returns-2 c = ready-flag _ _ _ _ _ _ (c .before .before .if1 .left) (c .before .wide .ensures .0) (c .flag-at .ensures)
 
 pub ready-by-spec : {M : Type 1} → statement M
-ready-by-spec = tie.close (tie.spec returns wide-requires flag-at-requires returns-2)
+ready-by-spec = tie.close (tie.spec returns (λ c κs. search needs) (λ c κs. search needs) returns-2)

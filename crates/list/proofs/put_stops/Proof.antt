@@ -1,4 +1,5 @@
--- `list::put_stops` meets its contract. The loop's invariant: the lines of the stops passed have been put. Assumes nothing.
+-- `list::put_stops` meets its contract. The loop's invariant: the lines of the stops passed have been put. Assumes
+-- nothing.
 use mathlib.Core.Path.{_≡_, refl}
 use Prim.Native.Nat.{_≤_, _-_}
 use native.Mathlib.Omega.{arith}
@@ -11,7 +12,8 @@ use Rattle.list.proofs.put_stops.Tie as tie
 
 abbrev Inv-loop : tie.InvT-loop
 Inv-loop card all tour page₀ at next₀ p₀ page next p =
-    (p ≤ length tour) × (length page ≡ length page₀) × (paged next page ≡ put (stopLines card (take p tour)) (paged at page₀))
+    (p ≤ length tour) × (length page ≡ length page₀) ×
+    (paged next page ≡ put (stopLines card (take p tour)) (paged at page₀))
 
 abbrev μ-loop : tie.MeasureT-loop
 μ-loop card all tour page₀ at next₀ p₀ page next p = length tour - p
@@ -19,9 +21,6 @@ abbrev μ-loop : tie.MeasureT-loop
 loop-holds : tie.Need-loop-holds Inv-loop μ-loop
 unfolding put stopLines
 loop-holds c = (omega arith, refl, refl)
-
-shared-slice-read-locate : tie.Need-shared-slice-read-locate Inv-loop μ-loop
-shared-slice-read-locate c = omega arith
 
 cast-locate : tie.Need-cast-locate Inv-loop μ-loop
 cast-locate c = omega (arith, c .shared-slice-known3 .given (c .before .before .loop .p))
@@ -32,9 +31,6 @@ locate-requires c κs = tt
 put-place-requires : tie.Need-put-place-requires Inv-loop μ-loop
 put-place-requires c κs = tt
 
-add-p : tie.Need-add-p Inv-loop μ-loop
-add-p c = omega arith
-
 loop-less : tie.Need-loop-less Inv-loop μ-loop
 loop-less c = omega arith
 
@@ -42,7 +38,11 @@ loop-again : tie.Need-loop-again Inv-loop μ-loop
 loop-again c = (
   omega arith,
   omega arith,
-  stop-more _ (c .before .before .before .before .before .before .before .before .before .before .before .pre .0) _ (c .before .before .before .before .before .before .before .before .before .before .before .pre .1) _ _ _ _ _ _ (c .before .before .before .before .before .before .loop-test .taken) (c .before .before .before .before .locate .ensures) (c .before .before .before .before .before .before .before .loop .inv .2) (c .before .before .put-place .ensures),
+  stop-more _ (c .before .before .before .before .before .before .before .before .before .before .before .pre .0) _
+      (c .before .before .before .before .before .before .before .before .before .before .before .pre .1) _ _ _ _ _ _
+      (c .before .before .before .before .before .before .loop-test .taken)
+      (c .before .before .before .before .locate .ensures)
+      (c .before .before .before .before .before .before .before .loop .inv .2) (c .before .before .put-place .ensures),
 )
 
 same-length : tie.Need-same-length Inv-loop μ-loop
@@ -58,11 +58,11 @@ put-stops-spec =
     Inv-loop
     μ-loop
     loop-holds
-    shared-slice-read-locate
+    (λ c. omega arith)
     cast-locate
     locate-requires
     put-place-requires
-    add-p
+    (λ c. omega arith)
     loop-less
     loop-again
     same-length

@@ -5,20 +5,17 @@ use borrow.Author.Needs.{needs}
 use Rattle.list.proofs.show_card.Statement.{statement}
 use Rattle.list.proofs.show_card.Tie as tie
 
-slice-aggregate-write-whole : tie.Need-slice-aggregate-write-whole
-slice-aggregate-write-whole c = search needs
-
 write-whole-requires : tie.Need-write-whole-requires
 write-whole-requires c κs = search needs
 
 array-share-prefix-page : tie.Need-array-share-prefix-page
-array-share-prefix-page c = front-is _ _ _ (c .before .write-whole .ensures .0) (sym (c .before .write-whole .ensures .1)) .within
+array-share-prefix-page c =
+    front-is _ _ _ (c .before .write-whole .ensures .0) (sym (c .before .write-whole .ensures .1)) .within
 
 slice-aggregate-write-all : tie.Need-slice-aggregate-write-all
-slice-aggregate-write-all c = front-is _ _ _ (c .before .before .write-whole .ensures .0) (sym (c .before .before .write-whole .ensures .1)) .whole
-
-write-all-requires : tie.Need-write-all-requires
-write-all-requires c κs = search needs
+slice-aggregate-write-all c =
+    front-is _ _ _ (c .before .before .write-whole .ensures .0) (sym (c .before .before .write-whole .ensures .1))
+    .whole
 
 returns : tie.Need-returns
 returns c = search needs
@@ -27,9 +24,9 @@ pub show-card-spec : {M : Type 1} → statement M
 show-card-spec =
     tie.close
     (tie.spec
-    slice-aggregate-write-whole
+    (λ c. search needs)
     write-whole-requires
     array-share-prefix-page
     slice-aggregate-write-all
-    write-all-requires
+    (λ c κs. search needs)
     returns)

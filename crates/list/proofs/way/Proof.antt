@@ -4,27 +4,15 @@ use borrow.Author.Needs.{needs}
 use Rattle.list.proofs.way.Statement.{statement}
 use Rattle.list.proofs.way.Tie as tie
 
-contour-type-requires : tie.Need-contour-type-requires
-contour-type-requires c κs = search needs
-
-exterior-requires : tie.Need-exterior-requires
-exterior-requires c κs = search needs
-
-interior-requires : tie.Need-interior-requires
-interior-requires c κs = search needs
-
-determine-direction-requires : tie.Need-determine-direction-requires
-determine-direction-requires c κs = search needs
-
 returns : tie.Need-returns
-returns c = way-is (c .before .before .before .before .before .args .card .now) (c .before .before .before .before .before .args .k) _ _ _ _ (c .before .before .before .contour-type .ensures) (c .before .before .exterior .ensures) (c .before .interior .ensures) (c .determine-direction .ensures)
+returns c =
+    way-is (c .before .before .before .before .before .args .card .now)
+    (c .before .before .before .before .before .args .k) _ _ _ _ (c .before .before .before .contour-type .ensures)
+    (c .before .before .exterior .ensures) (c .before .interior .ensures) (c .determine-direction .ensures)
 
 pub way-spec : {M : Type 1} → statement M
 way-spec =
     tie.close
     (tie.spec
-    contour-type-requires
-    exterior-requires
-    interior-requires
-    determine-direction-requires
+    (λ c κs. search needs) (λ c κs. search needs) (λ c κs. search needs) (λ c κs. search needs)
     returns)

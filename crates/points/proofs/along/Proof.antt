@@ -1,4 +1,4 @@
--- `cost::along` meets its contract: the code is the definition. Assumes nothing.
+-- `points::along` meets its contract: the code is the definition. Assumes nothing.
 use mathlib.Core.Path.{refl}
 use Rattle.points.specs.Along.{alongOf}
 use Rattle.points.proofs.along.Statement.{statement}

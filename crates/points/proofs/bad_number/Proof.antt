@@ -1,4 +1,4 @@
--- `cost::bad_number` meets its contract: each way out is a law of comparisons. Assumes nothing.
+-- `points::bad_number` meets its contract: each way out is a law of comparisons. Assumes nothing.
 use mathlib.Core.Path.{sym}
 use Rattle.points.proofs.NumberLaws.{within-is, under-is, above-is}
 use Rattle.points.proofs.bad_number.Statement.{statement}

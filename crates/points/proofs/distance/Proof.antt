@@ -1,18 +1,12 @@
--- `cost::distance` meets its contract: the root of the squared distance. Assumes nothing.
+-- `points::distance` meets its contract: the root of the squared distance. Assumes nothing.
 use borrow.Author.Needs.{needs}
 use Rattle.points.specs.Distance.{distanceOf}
 use Rattle.points.proofs.distance.Statement.{statement}
 use Rattle.points.proofs.distance.Tie as tie
-
-distance-sq-requires : tie.Need-distance-sq-requires
-distance-sq-requires c κs = search needs
-
-sqrt-requires : tie.Need-sqrt-requires
-sqrt-requires c κs = search needs
 
 returns : tie.Need-returns
 unfolding distanceOf
 returns c = rw (c .sqrt .ensures, c .before .distance-sq .ensures)
 
 pub distance-spec : {M : Type 1} → statement M
-distance-spec = tie.close (tie.spec distance-sq-requires sqrt-requires returns)
+distance-spec = tie.close (tie.spec (λ c κs. search needs) (λ c κs. search needs) returns)

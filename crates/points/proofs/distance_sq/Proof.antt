@@ -1,4 +1,4 @@
--- `cost::distance_sq` meets its contract: the code is the definition. Assumes nothing.
+-- `points::distance_sq` meets its contract: the code is the definition. Assumes nothing.
 use mathlib.Core.Path.{refl}
 use Rattle.points.specs.Distance.{distanceSqOf, squares}
 use Rattle.points.proofs.distance_sq.Statement.{statement}

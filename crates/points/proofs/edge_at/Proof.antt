@@ -1,4 +1,5 @@
--- `cost::edge_at` meets its contract: an edge to the next vertex, the closing edge, and none past the last. Assumes nothing.
+-- `points::edge_at` meets its contract: an edge to the next vertex, the closing edge, and none past the last. Assumes
+-- nothing.
 use mathlib.Core.Path.{sym}
 use native.Mathlib.Omega.{arith}
 use borrow.Author.Needs.{needs}
@@ -6,23 +7,14 @@ use Rattle.points.proofs.PointLaws.{edge-next, edge-back, edge-past, po
 use Rattle.points.proofs.edge_at.Statement.{statement}
 use Rattle.points.proofs.edge_at.Tie as tie
 
-point-at-requires : tie.Need-point-at-requires
-point-at-requires c κs = search needs
-
-add-next : tie.Need-add-next
-add-next c = search needs
-
-point-at-requires-2 : tie.Need-point-at-requires-2
-point-at-requires-2 c κs = search needs
-
 returns : tie.Need-returns
-returns c = rw (c .before .before .before .point-at .ensures, c .point-at2 .ensures) (sym (edge-next _ _ (c .before .if2 .taken)))
-
-point-at-requires-3 : tie.Need-point-at-requires-3
-point-at-requires-3 c κs = search needs
+returns c =
+    rw (c .before .before .before .point-at .ensures, c .point-at2 .ensures)
+    (sym (edge-next _ _ (c .before .if2 .taken)))
 
 returns-2 : tie.Need-returns-2
-returns-2 c = rw (c .before .before .before .point-at .ensures, c .point-at3 .ensures) (sym (edge-back _ _ (omega arith)))
+returns-2 c =
+    rw (c .before .before .before .point-at .ensures, c .point-at3 .ensures) (sym (edge-back _ _ (omega arith)))
 
 returns-3 : tie.Need-returns-3
 returns-3 c = rw (c .before .point-at .ensures, edge-past _ _ (c .if1 .left), point-past _ _ (c .if1 .left))
@@ -31,10 +23,8 @@ pub edge-at-spec : {M : Type 1} → statement M
 edge-at-spec =
     tie.close
     (tie.spec
-    point-at-requires
-    add-next
-    point-at-requires-2
+    (λ c κs. search needs) (λ c. search needs) (λ c κs. search needs)
     returns
-    point-at-requires-3
+    (λ c κs. search needs)
     returns-2
     returns-3)

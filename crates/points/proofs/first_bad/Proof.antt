@@ -1,4 +1,5 @@
--- `cost::first_bad` meets its contract. The loop's invariant: no point passed is bad. The measure is what is left of the count. Assumes nothing.
+-- `points::first_bad` meets its contract. The loop's invariant: no point passed is bad. The measure is what is left of
+-- the count. Assumes nothing.
 use mathlib.Core.Path.{_≡_, sym}
 use mathlib.Core.Bool.{false}
 use Prim.Native.Nat.{ℕ, _≤_, _<_, _-_}
@@ -36,15 +37,16 @@ returns c =
       before = c .before .before .before .before .loop .inv .1;
     }))
 
-add-k : tie.Need-add-k Inv-loop μ-loop
-add-k c = search needs
-
 loop-less : tie.Need-loop-less Inv-loop μ-loop
 loop-less c = omega arith
 
 loop-again : tie.Need-loop-again Inv-loop μ-loop
 unfolding badAt
-loop-again c = (search needs, below-more _ _ (c .before .before .before .before .loop .inv .1) (rw (← (c .before .before .point-at .ensures), ← (c .before .bad-point .ensures)) (c .if1 .left)))
+loop-again c = (
+  search needs,
+  below-more _ _ (c .before .before .before .before .loop .inv .1)
+      (rw (← (c .before .before .point-at .ensures), ← (c .before .bad-point .ensures)) (c .if1 .left)),
+)
 
 returns-2 : tie.Need-returns-2 Inv-loop μ-loop
 unfolding firstBad
@@ -60,7 +62,7 @@ first-bad-spec =
     point-at-requires
     bad-point-requires
     returns
-    add-k
+    (λ c. search needs)
     loop-less
     loop-again
     returns-2)

@@ -4,14 +4,8 @@ use borrow.Author.Needs.{needs}
 use Rattle.probe.proofs.probe_check.Statement.{statement}
 use Rattle.probe.proofs.probe_check.Tie as tie
 
-check-requires : tie.Need-check-requires
-check-requires c κs = search needs
-
-code-requires : tie.Need-code-requires
-code-requires c κs = search needs
-
 returns : tie.Need-returns
 returns c = rw (sym (c .before .check .ensures)) (c .code .ensures)
 
 pub probe-check-spec : {M : Type 1} → statement M
-probe-check-spec = tie.close (tie.spec check-requires code-requires returns)
+probe-check-spec = tie.close (tie.spec (λ c κs. search needs) (λ c κs. search needs) returns)

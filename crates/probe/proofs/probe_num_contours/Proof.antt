@@ -4,14 +4,8 @@ use borrow.Author.Needs.{needs}
 use Rattle.probe.proofs.probe_num_contours.Statement.{statement}
 use Rattle.probe.proofs.probe_num_contours.Tie as tie
 
-num-contours-requires : tie.Need-num-contours-requires
-num-contours-requires c κs = search needs
-
-tell-count-requires : tie.Need-tell-count-requires
-tell-count-requires c κs = search needs
-
 returns : tie.Need-returns
 returns c = rw (sym (c .before .before .num-contours .ensures)) (c .tell-count .ensures)
 
 pub probe-num-contours-spec : {M : Type 1} → statement M
-probe-num-contours-spec = tie.close (tie.spec num-contours-requires tell-count-requires returns)
+probe-num-contours-spec = tie.close (tie.spec (λ c κs. search needs) (λ c κs. search needs) returns)

@@ -4,14 +4,8 @@ use borrow.Author.Needs.{needs}
 use Rattle.probe.proofs.probe_root.Statement.{statement}
 use Rattle.probe.proofs.probe_root.Tie as tie
 
-root-requires : tie.Need-root-requires
-root-requires c κs = search needs
-
-tell-root-requires : tie.Need-tell-root-requires
-tell-root-requires c κs = search needs
-
 returns : tie.Need-returns
 returns c = rw (sym (c .before .before .root .ensures)) (c .tell-root .ensures)
 
 pub probe-root-spec : {M : Type 1} → statement M
-probe-root-spec = tie.close (tie.spec root-requires tell-root-requires returns)
+probe-root-spec = tie.close (tie.spec (λ c κs. search needs) (λ c κs. search needs) returns)

@@ -4,14 +4,8 @@ use borrow.Author.Needs.{needs}
 use Rattle.probe.proofs.probe_sequence_cost.Statement.{statement}
 use Rattle.probe.proofs.probe_sequence_cost.Tie as tie
 
-sequence-cost-requires : tie.Need-sequence-cost-requires
-sequence-cost-requires c κs = search needs
-
-tell-length-requires : tie.Need-tell-length-requires
-tell-length-requires c κs = search needs
-
 returns : tie.Need-returns
 returns c = rw (sym (c .before .before .sequence-cost .ensures)) (c .tell-length .ensures)
 
 pub probe-sequence-cost-spec : {M : Type 1} → statement M
-probe-sequence-cost-spec = tie.close (tie.spec sequence-cost-requires tell-length-requires returns)
+probe-sequence-cost-spec = tie.close (tie.spec (λ c κs. search needs) (λ c κs. search needs) returns)

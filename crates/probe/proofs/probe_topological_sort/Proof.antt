@@ -4,23 +4,18 @@ use borrow.Author.Needs.{needs}
 use Rattle.probe.proofs.probe_topological_sort.Statement.{statement}
 use Rattle.probe.proofs.probe_topological_sort.Tie as tie
 
-topological-sort-requires : tie.Need-topological-sort-requires
-topological-sort-requires c κs = search needs
-
 enum-told : tie.Need-enum-told
 enum-told c = search needs
 
-enum-told-2 : tie.Need-enum-told-2
-enum-told-2 c = search needs
-
-code-requires : tie.Need-code-requires
-code-requires c κs = search needs
-
 returns : tie.Need-returns
-returns c = rw (← (c .before .before .before .topological-sort .ensures), c .before .enum-told .given .1) (refl, (refl, refl))
+returns c =
+    rw (← (c .before .before .before .topological-sort .ensures), c .before .enum-told .given .1) (refl, (refl, refl))
 
 returns-2 : tie.Need-returns-2
-returns-2 c = rw (c .code .ensures, ← (c .before .before .before .topological-sort .ensures), c .before .enum-told2 .given .1) (refl, (refl, refl))
+returns-2 c =
+    rw (c .code .ensures, ← (c .before .before .before .topological-sort .ensures), c .before .enum-told2 .given .1)
+    (refl, (refl, refl))
 
 pub probe-topological-sort-spec : {M : Type 1} → statement M
-probe-topological-sort-spec = tie.close (tie.spec topological-sort-requires enum-told enum-told-2 code-requires returns returns-2)
+probe-topological-sort-spec =
+    tie.close (tie.spec (λ c κs. search needs) enum-told (λ c. search needs) (λ c κs. search needs) returns returns-2)

@@ -4,17 +4,8 @@ use borrow.Author.Needs.{needs}
 use Rattle.probe.proofs.tell_closest.Statement.{statement}
 use Rattle.probe.proofs.tell_closest.Tie as tie
 
-enum-known-a : tie.Need-enum-known-a
-enum-known-a c = search needs
-
 enum-told : tie.Need-enum-told
 enum-told c = search needs
-
-enum-known-a-2 : tie.Need-enum-known-a-2
-enum-known-a-2 c = search needs
-
-code-requires : tie.Need-code-requires
-code-requires c κs = search needs
 
 returns : tie.Need-returns
 returns c = rw (c .before .before .a .given .1) (refl, (refl, (refl, (refl, refl))))
@@ -28,4 +19,4 @@ returns-3 c = rw (c .before .before .a2 .given .1) (c .code .ensures, (refl, (re
 pub tell-closest-spec : {M : Type 1} → statement M
 tell-closest-spec =
     tie.close
-    (tie.spec enum-known-a enum-told enum-known-a-2 code-requires returns returns-2 returns-3)
+    (tie.spec (λ c. search needs) enum-told (λ c. search needs) (λ c κs. search needs) returns returns-2 returns-3)

@@ -4,15 +4,6 @@ use borrow.Author.Needs.{needs}
 use Rattle.probe.proofs.tell_root.Statement.{statement}
 use Rattle.probe.proofs.tell_root.Tie as tie
 
-enum-known-a : tie.Need-enum-known-a
-enum-known-a c = search needs
-
-enum-known-a-2 : tie.Need-enum-known-a-2
-enum-known-a-2 c = search needs
-
-code-requires : tie.Need-code-requires
-code-requires c κs = search needs
-
 returns : tie.Need-returns
 returns c = search needs
 
@@ -20,4 +11,4 @@ returns-2 : tie.Need-returns-2
 returns-2 c = rw (c .before .before .a2 .given .1) (c .code .ensures, refl)
 
 pub tell-root-spec : {M : Type 1} → statement M
-tell-root-spec = tie.close (tie.spec enum-known-a enum-known-a-2 code-requires returns returns-2)
+tell-root-spec = tie.close (tie.spec (λ c. search needs) (λ c. search needs) (λ c κs. search needs) returns returns-2)

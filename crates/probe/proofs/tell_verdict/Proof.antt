@@ -3,17 +3,8 @@ use borrow.Author.Needs.{needs}
 use Rattle.probe.proofs.tell_verdict.Statement.{statement}
 use Rattle.probe.proofs.tell_verdict.Tie as tie
 
-enum-known-a : tie.Need-enum-known-a
-enum-known-a c = search needs
-
 returns : tie.Need-returns
 returns c = search needs
-
-enum-known-a-2 : tie.Need-enum-known-a-2
-enum-known-a-2 c = search needs
-
-code-requires : tie.Need-code-requires
-code-requires c κs = search needs
 
 returns-2 : tie.Need-returns-2
 returns-2 c = search needs
@@ -23,4 +14,4 @@ returns-3 c = rw (c .before .before .a2 .given .1) (c .code .ensures)
 
 pub tell-verdict-spec : {M : Type 1} → statement M
 tell-verdict-spec =
-    tie.close (tie.spec enum-known-a returns enum-known-a-2 code-requires returns-2 returns-3)
+    tie.close (tie.spec (λ c. search needs) returns (λ c. search needs) (λ c κs. search needs) returns-2 returns-3)

@@ -6,21 +6,17 @@ use borrow.Author.Needs.{needs}
 use Rattle.questions.proofs.bad_stop.Statement.{statement}
 use Rattle.questions.proofs.bad_stop.Tie as tie
 
-byte-at-requires : tie.Need-byte-at-requires
-byte-at-requires c κs = search needs
-
-wide-requires : tie.Need-wide-requires
-wide-requires c κs = search needs
-
 returns : tie.Need-returns
-returns c = let a = c .before .before .before .before .before .args in no-candidate (now (a .owner)) (now (a .order)) (a .t) (a .p) _ (c .before .wide .ensures ∙ c .before .before .byte-at .ensures) (c .if1 .taken)
-
-met-before-requires : tie.Need-met-before-requires
-met-before-requires c κs = search needs
+returns c = let a =
+    c .before .before .before .before .before .args in no-candidate (now (a .owner)) (now (a .order)) (a .t) (a .p) _
+    (c .before .wide .ensures ∙ c .before .before .byte-at .ensures) (c .if1 .taken)
 
 returns-2 : tie.Need-returns-2
-returns-2 c = let a = c .before .before .before .before .before .before .args in a-candidate (now (a .owner)) (now (a .order)) (a .t) (a .p) _ (c .before .before .wide .ensures ∙ c .before .before .before .byte-at .ensures) _ (c .before .if1 .left) (c .met-before .ensures)
+returns-2 c = let a =
+    c .before .before .before .before .before .before .args in a-candidate (now (a .owner)) (now (a .order)) (a .t)
+    (a .p) _ (c .before .before .wide .ensures ∙ c .before .before .before .byte-at .ensures) _ (c .before .if1 .left)
+    (c .met-before .ensures)
 
 pub bad-stop-spec : {M : Type 1} → statement M
 bad-stop-spec =
-    tie.close (tie.spec byte-at-requires wide-requires returns met-before-requires returns-2)
+    tie.close (tie.spec (λ c κs. search needs) (λ c κs. search needs) returns (λ c κs. search needs) returns-2)

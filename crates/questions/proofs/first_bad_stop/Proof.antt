@@ -17,7 +17,8 @@ abbrev μ-loop : tie.MeasureT-loop
 μ-loop owner t order p₀ p = length order - p
 
 loop-holds : tie.Need-loop-holds Inv-loop μ-loop
-loop-holds c = let a = c .before .before .args in (omega arith, none-yet (badStop (now (a .owner)) (a .t) (now (a .order))))
+loop-holds c = let a =
+    c .before .before .args in (omega arith, none-yet (badStop (now (a .owner)) (a .t) (now (a .order))))
 
 bad-stop-requires : tie.Need-bad-stop-requires Inv-loop μ-loop
 bad-stop-requires c κs = tt
@@ -25,22 +26,25 @@ bad-stop-requires c κs = tt
 returns : tie.Need-returns Inv-loop μ-loop
 unfolding firstBadStop
 returns c = let a = c .before .before .before .before .before .before .args in
-    found-here (badStop (now (a .owner)) (a .t) (now (a .order))) (length (now (a .order))) _ (c .before .before .loop-test .taken) (c .before .before .before .loop .inv .1) (sym (c .before .bad-stop .ensures) ∙ c .if1 .taken)
-
-add-p : tie.Need-add-p Inv-loop μ-loop
-add-p c = omega arith
+    found-here (badStop (now (a .owner)) (a .t) (now (a .order))) (length (now (a .order))) _
+    (c .before .before .loop-test .taken) (c .before .before .before .loop .inv .1)
+    (sym (c .before .bad-stop .ensures) ∙ c .if1 .taken)
 
 loop-less : tie.Need-loop-less Inv-loop μ-loop
 loop-less c = omega arith
 
 loop-again : tie.Need-loop-again Inv-loop μ-loop
-loop-again c = let a = c .before .before .before .before .before .before .args in
-    (omega arith, one-more (badStop (now (a .owner)) (a .t) (now (a .order))) _ (c .before .before .before .loop .inv .1) (sym (c .before .bad-stop .ensures) ∙ c .if1 .left))
+loop-again c = let a = c .before .before .before .before .before .before .args in (
+  omega arith,
+  one-more (badStop (now (a .owner)) (a .t) (now (a .order))) _
+      (c .before .before .before .loop .inv .1) (sym (c .before .bad-stop .ensures) ∙ c .if1 .left),
+)
 
 returns-2 : tie.Need-returns-2 Inv-loop μ-loop
 unfolding firstBadStop
 returns-2 c = let a = c .before .before .before .before .args in
-    none-found (badStop (now (a .owner)) (a .t) (now (a .order))) (length (now (a .order))) _ (c .loop-test .left) (c .before .loop .inv .1)
+    none-found (badStop (now (a .owner)) (a .t) (now (a .order))) (length (now (a .order))) _ (c .loop-test .left)
+    (c .before .loop .inv .1)
 
 pub first-bad-stop-spec : {M : Type 1} → statement M
 first-bad-stop-spec =
@@ -51,7 +55,7 @@ first-bad-stop-spec =
     loop-holds
     bad-stop-requires
     returns
-    add-p
+    (λ c. omega arith)
     loop-less
     loop-again
     returns-2)

@@ -5,12 +5,6 @@ use borrow.Author.Needs.{needs}
 use Rattle.questions.proofs.global_to_local.Statement.{statement}
 use Rattle.questions.proofs.global_to_local.Tie as tie
 
-check-requires : tie.Need-check-requires
-check-requires c κs = search needs
-
-enum-known-r : tie.Need-enum-known-r
-enum-known-r c = search needs
-
 enum-told : tie.Need-enum-told
 enum-told c = search needs
 
@@ -21,9 +15,11 @@ returns : tie.Need-returns
 returns c = place-refused _ _ (c .before .before .before .check .ensures) _ _ (c .before .r .given .1)
 
 returns-2 : tie.Need-returns-2
-returns-2 c = place-fine _ _ (c .before .before .before .check .ensures) _ _ (c .before .enum-told .given .1) (c .place-of-fine .ensures)
+returns-2 c =
+    place-fine _ _ (c .before .before .before .check .ensures) _ _ (c .before .enum-told .given .1)
+    (c .place-of-fine .ensures)
 
 pub global-to-local-spec : {M : Type 1} → statement M
 global-to-local-spec =
     tie.close
-    (tie.spec check-requires enum-known-r enum-told place-of-fine-requires returns returns-2)
+    (tie.spec (λ c κs. search needs) (λ c. search needs) enum-told place-of-fine-requires returns returns-2)

@@ -5,12 +5,6 @@ use borrow.Author.Needs.{needs}
 use Rattle.questions.proofs.local_to_global.Statement.{statement}
 use Rattle.questions.proofs.local_to_global.Tie as tie
 
-check-requires : tie.Need-check-requires
-check-requires c κs = search needs
-
-enum-known-r : tie.Need-enum-known-r
-enum-known-r c = search needs
-
 enum-told : tie.Need-enum-told
 enum-told c = search needs
 
@@ -21,9 +15,11 @@ returns : tie.Need-returns
 returns c = global-refused _ _ (c .before .before .before .check .ensures) _ _ _ (c .before .r .given .1)
 
 returns-2 : tie.Need-returns-2
-returns-2 c = global-fine _ _ (c .before .before .before .check .ensures) _ _ _ (c .before .enum-told .given .1) (c .global-of-fine .ensures)
+returns-2 c =
+    global-fine _ _ (c .before .before .before .check .ensures) _ _ _ (c .before .enum-told .given .1)
+    (c .global-of-fine .ensures)
 
 pub local-to-global-spec : {M : Type 1} → statement M
 local-to-global-spec =
     tie.close
-    (tie.spec check-requires enum-known-r enum-told global-of-fine-requires returns returns-2)
+    (tie.spec (λ c κs. search needs) (λ c. search needs) enum-told global-of-fine-requires returns returns-2)

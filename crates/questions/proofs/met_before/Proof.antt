@@ -1,4 +1,5 @@
--- `questions::met_before` meets its contract. The loop's invariant: no earlier stop so far is of the contour. Assumes nothing.
+-- `questions::met_before` meets its contract. The loop's invariant: no earlier stop so far is of the contour. Assumes
+-- nothing.
 use Prim.Native.Nat.{_≤_, _-_}
 use native.Mathlib.Omega.{arith}
 use denote.Ref.{now}
@@ -18,18 +19,19 @@ stop-at-requires : tie.Need-stop-at-requires Inv-loop μ-loop
 stop-at-requires c κs = tt
 
 loop-holds : tie.Need-loop-holds Inv-loop μ-loop
-loop-holds c = let a = c .before .before .before .args in (omega arith, none-yet (same (now (a .owner)) (now (a .order)) (a .p)))
+loop-holds c = let a =
+    c .before .before .before .args in (omega arith, none-yet (same (now (a .owner)) (now (a .order)) (a .p)))
 
 stop-at-requires-2 : tie.Need-stop-at-requires-2 Inv-loop μ-loop
 stop-at-requires-2 c κs = tt
 
 returns : tie.Need-returns Inv-loop μ-loop
 returns c = let a = c .before .before .before .before .before .before .before .args in
-    met (now (a .owner)) (now (a .order)) (a .p) _ (found-here (same (now (a .owner)) (now (a .order)) (a .p)) (a .p) _ (c .before .before .loop-test .taken) (c .before .before .before .loop .inv .1)
-    (met-here (now (a .owner)) (now (a .order)) (a .p) _ _ _ (c .before .before .before .before .stop-at .ensures) (c .before .stop-at2 .ensures) (c .if1 .taken)))
-
-add-j : tie.Need-add-j Inv-loop μ-loop
-add-j c = omega arith
+    met (now (a .owner)) (now (a .order)) (a .p) _
+    (found-here (same (now (a .owner)) (now (a .order)) (a .p)) (a .p) _ (c .before .before .loop-test .taken)
+    (c .before .before .before .loop .inv .1)
+    (met-here (now (a .owner)) (now (a .order)) (a .p) _ _ _ (c .before .before .before .before .stop-at .ensures)
+    (c .before .stop-at2 .ensures) (c .if1 .taken)))
 
 loop-less : tie.Need-loop-less Inv-loop μ-loop
 loop-less c = omega arith
@@ -38,12 +40,15 @@ loop-again : tie.Need-loop-again Inv-loop μ-loop
 loop-again c = let a = c .before .before .before .before .before .before .before .args in (
   omega arith,
   one-more (same (now (a .owner)) (now (a .order)) (a .p)) _ (c .before .before .before .loop .inv .1)
-      (not-here (now (a .owner)) (now (a .order)) (a .p) _ _ _ (c .before .before .before .before .stop-at .ensures) (c .before .stop-at2 .ensures) (c .if1 .left)),
+      (not-here (now (a .owner)) (now (a .order)) (a .p) _ _ _ (c .before .before .before .before .stop-at .ensures)
+      (c .before .stop-at2 .ensures) (c .if1 .left)),
 )
 
 returns-2 : tie.Need-returns-2 Inv-loop μ-loop
 returns-2 c = let a = c .before .before .before .before .before .args in
-    never-met (now (a .owner)) (now (a .order)) (a .p) (none-found (same (now (a .owner)) (now (a .order)) (a .p)) (a .p) _ (c .loop-test .left) (c .before .loop .inv .1))
+    never-met (now (a .owner)) (now (a .order)) (a .p)
+    (none-found (same (now (a .owner)) (now (a .order)) (a .p)) (a .p) _ (c .loop-test .left)
+    (c .before .loop .inv .1))
 
 pub met-before-spec : {M : Type 1} → statement M
 met-before-spec =
@@ -55,7 +60,7 @@ met-before-spec =
     loop-holds
     stop-at-requires-2
     returns
-    add-j
+    (λ c. omega arith)
     loop-less
     loop-again
     returns-2)

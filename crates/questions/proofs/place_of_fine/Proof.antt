@@ -7,7 +7,9 @@ use Rattle.questions.proofs.place_of_fine.Statement.{statement}
 use Rattle.questions.proofs.place_of_fine.Tie as tie
 
 returns : tie.Need-returns
-returns c = no-such-number _ _ (held-on _ (c .before .before .before .before .pre) _ (c .before .before .gather .ensures)) _ (c .if1 .taken)
+returns c =
+    no-such-number _ _ (held-on _ (c .before .before .before .before .pre) _ (c .before .before .gather .ensures)) _
+    (c .if1 .taken)
 
 returns-2 : tie.Need-returns-2
 returns-2 c =

@@ -1,4 +1,5 @@
--- `reader::coordinates` meets its contract: what stands in the array and what is still walked are the whole walk. Assumes nothing.
+-- `reader::coordinates` meets its contract: what stands in the array and what is still walked are the whole walk.
+-- Assumes nothing.
 use mathlib.Core.Path.{_≡_, refl}
 use mathlib.Core.List.{_++_}
 use Prim.Native.Nat.{_*_, _-_, _≤_}
@@ -26,23 +27,17 @@ loop-holds c = let a = c .before .args in (omega arith, none-yet (now (a .card))
 read-field-requires : tie.Need-read-field-requires Inv-loop μ-loop
 read-field-requires c κs = tt
 
-mul-read : tie.Need-mul-read Inv-loop μ-loop
-mul-read c = omega arith
-
-array-write-read : tie.Need-array-write-read Inv-loop μ-loop
-array-write-read c = omega arith
-
-add-i : tie.Need-add-i Inv-loop μ-loop
-add-i c = omega arith
-
 loop-less : tie.Need-loop-less Inv-loop μ-loop
 loop-less c = omega arith
 
 loop-again : tie.Need-loop-again Inv-loop μ-loop
 loop-again c = let l = c .before .before in
     let i = l .loop .inv in
-    let few = l .before .before .pre in
-    (omega arith, one-more _ _ _ _ _ _ _ (c .before .loop-test .taken) few (c .read-field .ensures) (i .2) (i .1), rest-zero _ (l .loop .i) _ (omega arith) (i .2))
+    let few = l .before .before .pre in (
+      omega arith,
+      one-more _ _ _ _ _ _ _ (c .before .loop-test .taken) few (c .read-field .ensures) (i .2) (i .1),
+      rest-zero _ (l .loop .i) _ (omega arith) (i .2),
+    )
 
 returns : tie.Need-returns Inv-loop μ-loop
 returns c = let i = c .before .loop .inv in
@@ -56,9 +51,7 @@ coordinates-spec =
     μ-loop
     loop-holds
     read-field-requires
-    mul-read
-    array-write-read
-    add-i
+    (λ c. omega arith) (λ c. omega arith) (λ c. omega arith)
     loop-less
     loop-again
     returns)

@@ -1,4 +1,5 @@
--- `reader::field_at` meets its contract: the match says which width it is, and the reading of that many bytes is `block`'s. Assumes nothing.
+-- `reader::field_at` meets its contract: the match says which width it is, and the reading of that many bytes is
+-- `block`'s. Assumes nothing.
 use borrow.Author.Needs.{needs}
 use Rattle.reader.proofs.field_at.Statement.{statement}
 use Rattle.reader.proofs.field_at.Tie as tie
@@ -6,50 +7,14 @@ use Rattle.reader.proofs.field_at.Tie as tie
 enum-told : tie.Need-enum-told
 enum-told c = search needs
 
-byte-at-requires : tie.Need-byte-at-requires
-byte-at-requires c κs = search needs
-
-wide-requires : tie.Need-wide-requires
-wide-requires c κs = search needs
-
-past-requires : tie.Need-past-requires
-past-requires c κs = search needs
-
-enum-told-2 : tie.Need-enum-told-2
-enum-told-2 c = search needs
-
-u16-at-requires : tie.Need-u16-at-requires
-u16-at-requires c κs = search needs
-
-cast-t9 : tie.Need-cast-t9
-cast-t9 c = search needs
-
-past-requires-2 : tie.Need-past-requires-2
-past-requires-2 c κs = search needs
-
-enum-told-3 : tie.Need-enum-told-3
-enum-told-3 c = search needs
-
-u32-at-requires : tie.Need-u32-at-requires
-u32-at-requires c κs = search needs
-
-cast-t12 : tie.Need-cast-t12
-cast-t12 c = search needs
-
-past-requires-3 : tie.Need-past-requires-3
-past-requires-3 c κs = search needs
-
-enum-told-4 : tie.Need-enum-told-4
-enum-told-4 c = search needs
-
-u64-at-requires : tie.Need-u64-at-requires
-u64-at-requires c κs = search needs
-
-past-requires-4 : tie.Need-past-requires-4
-past-requires-4 c κs = search needs
-
 returns : tie.Need-returns
-returns c = rw (c .before .before .before .enum-told .given .1, c .before .wide .ensures, c .before .before .byte-at .ensures, c .past .ensures)
+returns c =
+    rw (
+      c .before .before .before .enum-told .given .1,
+      c .before .wide .ensures,
+      c .before .before .byte-at .ensures,
+      c .past .ensures,
+    )
 
 returns-2 : tie.Need-returns-2
 returns-2 c = rw (c .before .before .enum-told2 .given .1, c .before .u16-at .ensures, c .past2 .ensures)
@@ -65,20 +30,9 @@ field-at-spec =
     tie.close
     (tie.spec
     enum-told
-    byte-at-requires
-    wide-requires
-    past-requires
-    enum-told-2
-    u16-at-requires
-    cast-t9
-    past-requires-2
-    enum-told-3
-    u32-at-requires
-    cast-t12
-    past-requires-3
-    enum-told-4
-    u64-at-requires
-    past-requires-4
+    (λ c κs. search needs) (λ c κs. search needs) (λ c κs. search needs) (λ c. search needs) (λ c κs. search needs)
+    (λ c. search needs) (λ c κs. search needs) (λ c. search needs) (λ c κs. search needs) (λ c. search needs)
+    (λ c κs. search needs) (λ c. search needs) (λ c κs. search needs) (λ c κs. search needs)
     returns
     returns-2
     returns-3

@@ -1,6 +1,6 @@
--- `reader::read_field` meets its contract: a walk of its MIR, by hand. Of a slice a reader is made, moved to a place and asked for a
--- field: three calls, of which the walk knows the contracts. What one call returns is stored in a local and passed to the next as it is.
--- Assumes nothing.
+-- `reader::read_field` meets its contract: a walk of its MIR, by hand. Of a slice a reader is made, moved to a place
+-- and asked for a field: three calls, of which the walk knows the contracts. What one call returns is stored in a local
+-- and passed to the next as it is. Assumes nothing.
 use mathlib.Core.Path.{_≡_, refl}
 use Prim.Native.Nat.{ℕ, _<_, _^_}
 use mathlib.Core.List.{List, [], _∷_}
@@ -15,8 +15,10 @@ use prog.Wp.{Heap, Calls, Loops, WpFn, Tables}
 use ghost.Atoms.{Atoms}
 use contract.Monad.{Fun, fact}
 use contract.Running.{givenOf, tables, tablesOf}
-use types.Kit.{Given, ‵, raw, _⊛_, ⋆, some, later, _$_, _∵_, !, qed, by, move, drop, use1, use2, split, pick, fsplit, fjoin, suffices, frame, await, done}
-use types.Run.{look, init, forget, stop, from, load, and-then, no-more, land, returns, enter, alloc1, alloc0, params1, pass1, pass0, free1, free0}
+use types.Kit.{Given, ‵, raw, _⊛_, ⋆, some, later, _$_, _∵_, !, qed, by, move, drop, use1, use2, split, pick, fsplit}
+use types.Kit.{fjoin, suffices, frame, await, done}
+use types.Run.{look, init, forget, stop, from, load, and-then, no-more, land, returns, enter, alloc1, alloc0, params1}
+use types.Run.{pass1, pass0, free1, free0}
 use sound.WpLaws.{FmC, fmOf, WpFn-mono}
 use denote.RattleType.{owns}
 use denote.Laws.{Is, shows}
@@ -33,14 +35,17 @@ use denote.Triple.Call.{calls-at}
 use denote.Triple.Entry.{Vals, onEntry}
 use denote.Triple.Spec.{Meets, tripleOf}
 use denote.Triple.Table.{entered, cited}
-use denote.Triple.Walked.{says, Stays, stay-none, stay-none-slice, walkOf, goes-none, goes-none-slice, Walks, ends-at, walked, walk-meets}
+use denote.Triple.Walked.{says, Stays, stay-none, stay-none-slice, walkOf, goes-none, goes-none-slice, Walks, ends-at}
+use denote.Triple.Walked.{walked, walk-meets}
 use denote.Exit.{yes}
 use denote.Triple.Clauses.{ensured}
 use Rattle.reader.specs.declared.Reader.{Reader}
 use Rattle.reader.specs.declared.Width.{Width}
 use Rattle.reader.specs.declared.Field.{Field}
 use Rattle.reader.specs.Fields.{fieldAt}
-use Rattle.reader.proofs.ReaderCalls.{width-vals, IsWidth, local-at, Readers, Held, slice-val, Lent, New-says, Moved-says, Next-says, told, New, Moved, Next, to-new, goes-new, new-said, to-moved, goes-moved, moved-said, to-next, goes-next, next-said}
+use Rattle.reader.proofs.ReaderCalls.{width-vals, IsWidth, local-at, Readers, Held, slice-val, Lent, New-says}
+use Rattle.reader.proofs.ReaderCalls.{Moved-says, Next-says, told, New, Moved, Next, to-new, goes-new, new-said}
+use Rattle.reader.proofs.ReaderCalls.{to-moved, goes-moved, moved-said, to-next, goes-next, next-said}
 use Rattle.reader.proofs.Reader as T
 use Rattle.reader.proofs.Reader.Laws as T′
 use Rattle.reader.proofs.Width as Wd
@@ -65,9 +70,14 @@ use Rattle.reader.proofs.read_field.Statement as stated
 use Rattle.reader.proofs.read_field.Code as code
 
 abbrev stayed : Stays (read-field.ended .signature .params) (read-field.ended .kept)
-stayed = (stay-none-slice (0 ∷ []) tt (plain (λ _. u8)) yes, (stay-none (λ _. usize) yes, (stay-none (λ _. Wd.the-row) yes, tt)))
+stayed = (
+  stay-none-slice (0 ∷ []) tt (plain (λ _. u8)) yes,
+  (stay-none (λ _. usize) yes, (stay-none (λ _. Wd.the-row) yes, tt)),
+)
 
-module _ {M : Type 1} (𝓤 : URA M) (H : Heap 𝓤) (A : Atoms 𝓤) (W : Given 𝓤 H A) (mem : Memory → SProp 𝓤) (run : Routine → Fun 𝓤) (κ : Lft) (q : Share) (s : RefT (List ℕ)) (n : ℕ) (ok : n < 2 ^ 64) (w : Width) (is-w : IsWidth w) where
+module _ {M : Type 1} (𝓤 : URA M) (H : Heap 𝓤) (A : Atoms 𝓤) (W : Given 𝓤 H A) (mem : Memory → SProp 𝓤)
+    (run : Routine → Fun 𝓤) (κ : Lft) (q : Share) (s : RefT (List ℕ)) (n : ℕ) (ok : n < 2 ^ 64) (w : Width)
+    (is-w : IsWidth w) where
   -- the machine value that s has
   abbrev v : Val
   v = slice-val s
@@ -79,60 +89,112 @@ module _ {M : Type 1} (𝓤 : URA M) (H : Heap 𝓤) (A : Atoms 𝓤) (W : Given
   found = fieldAt (now s) n w
 
   abbrev Post : Val → SProp 𝓤
-  Post = walkOf 𝓤 H A read-field.ended stayed (read-field.clauses 𝓤 H A mem run) .post (((κ, tt), (q, tt), tt, (s, (n, (w, tt))), at), tt)
+  Post = walkOf 𝓤 H A read-field.ended stayed (read-field.clauses 𝓤 H A mem run) .post
+      (((κ, tt), (q, tt), tt, (s, (n, (w, tt))), at), tt)
 
-  exits : (f : Field) (u : Val) → f ≡ found → ent 𝓤 (⋆ 𝓤 H A (‵ (F.the-row .own f (u ∷ [])) ∷ (‵ (flft κ q) ⊛ ‵ ftrue) ∷ ‵ (Lent κ s) ∷ [])) (Post u)
+  exits : (f : Field) (u : Val) → f ≡ found
+      → ent 𝓤 (⋆ 𝓤 H A (‵ (F.the-row .own f (u ∷ [])) ∷ (‵ (flft κ q) ⊛ ‵ ftrue) ∷ ‵ (Lent κ s) ∷ [])) (Post u)
   exits f u e =
       qed W (‵ (F.the-row .own f (u ∷ [])) ∷ (‵ (flft κ q) ⊛ ‵ ftrue) ∷ ‵ (Lent κ s) ∷ []) ∵
-      suffices ! _ (ends-at 𝓤 H A read-field.ended stayed (read-field.clauses 𝓤 H A mem run) W (((κ, tt), (q, tt), tt, (s, (n, (w, tt))), at), tt) u f (tt, (tt, (tt, tt))) (tt, (tt, (tt, tt)))) $ says ! e $
-      move ! (1 ∷ []) $ frame ! $ nothing ! $ owned ! Wd.the-row (Is Wd.the-row) (EL.makes Wd.the-type Wd′.the-plain 𝓤 H A) w _ is-w $ fjoin ! $
-      owned ! usize (Is usize) (uint-makes 𝓤 H A W w64) n _ (refl, ok) $ fjoin ! $ move ! (2 ∷ 0 ∷ []) $ fjoin ! $ frame ! $ done !
+      suffices ! _ (ends-at 𝓤 H A read-field.ended stayed (read-field.clauses 𝓤 H A mem run) W
+      (((κ, tt), (q, tt), tt, (s, (n, (w, tt))), at), tt) u f (tt, (tt, (tt, tt))) (tt, (tt, (tt, tt)))) $ says !
+      e $
+      move ! (1 ∷ []) $ frame ! $ nothing ! $ owned ! Wd.the-row (Is Wd.the-row)
+      (EL.makes Wd.the-type Wd′.the-plain 𝓤 H A) w _ is-w $ fjoin ! $
+      owned ! usize (Is usize) (uint-makes 𝓤 H A W w64) n _ (refl, ok) $ fjoin ! $ move ! (2 ∷ 0 ∷ []) $ fjoin ! $
+      frame ! $ done !
 
-  module _ (C : Calls 𝓤 H) (Λ : Loops 𝓤 H) (fm : FmC 𝓤 H (W .laws) C) (known-new : Triple 𝓤 (C #reader·new) (New 𝓤 H A mem run)) (known-moved : Triple 𝓤 (C #reader·moved) (Moved 𝓤 H A mem run)) (known-next : Triple 𝓤 (C #reader·next) (Next 𝓤 H A mem run)) where
-    walk : Is (ShrSlice (named 0) κ u8) s (v ∷ []) → ent 𝓤 (onEntry 𝓤 H A read-field.signature (κ, tt) (q, tt) (s, (n, (w, tt))) at) (WpFn 𝓤 H C Λ code.function (v ∷ vint w64 n ∷ Wd′.lowered w ∷ []) Post)
+  module _ (C : Calls 𝓤 H) (Λ : Loops 𝓤 H) (fm : FmC 𝓤 H (W .laws) C)
+      (known-new : Triple 𝓤 (C #reader·new) (New 𝓤 H A mem run))
+      (known-moved : Triple 𝓤 (C #reader·moved) (Moved 𝓤 H A mem run))
+      (known-next : Triple 𝓤 (C #reader·next) (Next 𝓤 H A mem run)) where
+    walk : Is (ShrSlice (named 0) κ u8) s (v ∷ [])
+        → ent 𝓤 (onEntry 𝓤 H A read-field.signature (κ, tt) (q, tt) (s, (n, (w, tt))) at)
+        (WpFn 𝓤 H C Λ code.function (v ∷ vint w64 n ∷ Wd′.lowered w ∷ []) Post)
     walk is-s =
-        qed W (((‵ (flft κ q) ⊛ ‵ ftrue) ⊛ ‵ (owns (ShrSlice (named 0) κ u8 ∷ usize ∷ Wd.the-row ∷ []) (s, (n, (w, tt))) at)) ∷ []) ∵ enter ! C Λ code.function (v ∷ vint w64 n ∷ Wd′.lowered w ∷ []) _ $
-        alloc1 ! (λ l₀. alloc1 ! (λ l₁. alloc1 ! (λ l₂. alloc1 ! (λ l₃. alloc1 ! (λ l₄. alloc1 ! (λ l₅. alloc0 ! $ params1 ! $
-        pass1 ! (init ! 8 refl (shr-slice-lawful 𝓤 H A W (named 0) κ u8 .typed s (v ∷ []) is-s .0)) $ pass1 ! (init ! 6 refl (tt, record { fits = ok })) $
+        qed W (((‵ (flft κ q) ⊛ ‵ ftrue) ⊛ ‵ (owns (ShrSlice (named 0) κ u8 ∷ usize ∷ Wd.the-row ∷ [])
+        (s, (n, (w, tt))) at)) ∷ []) ∵ enter ! C Λ code.function (v ∷ vint w64 n ∷ Wd′.lowered w ∷ []) _ $
+        alloc1 ! (λ l₀. alloc1 ! (λ l₁. alloc1 ! (λ l₂. alloc1 !
+        (λ l₃. alloc1 ! (λ l₄. alloc1 ! (λ l₅. alloc0 ! $ params1 ! $
+        pass1 ! (init ! 8 refl (shr-slice-lawful 𝓤 H A W (named 0) κ u8 .typed s (v ∷ []) is-s .0)) $ pass1 !
+        (init ! 6 refl (tt, record { fits = ok })) $
         pass1 ! (init ! 4 refl (EL.lawful Wd.the-type Wd′.the-laws 𝓤 H A W tt .typed w _ is-w .0)) $ pass0 ! $
         -- [room for _5; …; room for _4; …; _3; …; _2; …; _1; …; room for _0; …; what is owned at entry]
-        move ! (12 ∷ []) $ split ! $ move ! (1 ∷ []) $ fsplit ! $ move ! (1 ∷ []) $ drop ! $ use2 W (raw (New 𝓤 H A mem run .pre (to-new 𝓤 H A W mem run κ q s)) ⊛ ‵ (Lent κ s)) (goes-new 𝓤 H A W mem run κ q s) $ split ! $
-        calls-at ! fm (New 𝓤 H A mem run) known-new (to-new 𝓤 H A W mem run κ q s) (and-then ! (load ! (from ! (stop !)) (look ! 10 refl)) (no-more !)) (λ u₁.
-        use1 W (later (some (λ (r : Reader). ((‵ (flft κ q) ⊛ ‵ ftrue) ⊛ ‵ (Held κ r u₁)) ⊛ raw (ensured 𝓤 H A new.ended (new.clauses 𝓤 H A mem run) (κ, tt) (s, tt) tt r)))) (id⊢ 𝓤 _) $ await ! tt $ pick ! (λ r.
-        split ! $ move ! (1 ∷ []) $ use1 W (raw (fact 𝓤 (New-says s r))) (new-said 𝓤 H A W mem run κ q s r) $ heard ! (New-says s r) (λ e₁. split ! $ move ! (1 ∷ []) $
-        -- [what the reader owns; the token; what s owns; room for _5; …; room for _4; …; _3; …; _2; …; _1; …; room for _0; …]
+        move ! (12 ∷ []) $ split ! $ move ! (1 ∷ []) $ fsplit ! $ move ! (1 ∷ []) $ drop ! $ use2 W
+        (raw (New 𝓤 H A mem run .pre (to-new 𝓤 H A W mem run κ q s)) ⊛ ‵ (Lent κ s))
+        (goes-new 𝓤 H A W mem run κ q s) $ split ! $
+        calls-at ! fm (New 𝓤 H A mem run) known-new (to-new 𝓤 H A W mem run κ q s)
+        (and-then ! (load ! (from ! (stop !)) (look ! 10 refl)) (no-more !)) (λ u₁.
+        use1 W (later (some (λ (r : Reader). ((‵ (flft κ q) ⊛ ‵ ftrue) ⊛ ‵ (Held κ r u₁)) ⊛ raw
+        (ensured 𝓤 H A new.ended (new.clauses 𝓤 H A mem run) (κ, tt) (s, tt) tt r)))) (id⊢ 𝓤 _) $ await ! tt $
+        pick ! (λ r.
+        split ! $ move ! (1 ∷ []) $ use1 W (raw (fact 𝓤 (New-says s r))) (new-said 𝓤 H A W mem run κ q s r) $ heard !
+        (New-says s r) (λ e₁. split ! $ move ! (1 ∷ []) $
+        -- [what the reader owns; the token; what s owns; room for _5; …; room for _4; …; _3; …; _2; …; _1; …; room for
+        -- _0; …]
         peeks ! (Readers κ) (Is (Readers κ)) (shows 𝓤 H A (Readers κ)) r (u₁ ∷ []) (λ is₁.
-        land ! (from ! (stop !)) (init ! 3 refl (LL.lawful (T.the-type (local-at κ)) (T′.the-laws (local-at κ)) 𝓤 H A W .typed r _ is₁ .0)) $
-        use2 W (raw (Moved 𝓤 H A mem run .pre (to-moved 𝓤 H A W mem run κ q n r u₁))) (goes-moved 𝓤 H A W mem run κ q n ok r u₁) $
-        calls-at ! fm (Moved 𝓤 H A mem run) known-moved (to-moved 𝓤 H A W mem run κ q n r u₁) (and-then ! (load ! (from ! (stop !)) (look ! 2 refl)) (and-then ! (load ! (from ! (stop !)) (look ! 8 refl)) (no-more !))) (λ u₂.
-        use1 W (later (some (λ (p : Reader). ((‵ (flft κ q) ⊛ ‵ ftrue) ⊛ ‵ (Held κ p u₂)) ⊛ raw (ensured 𝓤 H A moved.ended (moved.clauses 𝓤 H A mem run) (κ, tt) (r, (n, tt)) tt p)))) (id⊢ 𝓤 _) $ await ! tt $ pick ! (λ p.
-        split ! $ move ! (1 ∷ []) $ use1 W (raw (fact 𝓤 (Moved-says n r p))) (moved-said 𝓤 H A W mem run κ q n r p) $ heard ! (Moved-says n r p) (λ e₂. split ! $ move ! (1 ∷ []) $
-        -- [what the moved reader owns; the token; what s owns; _5; …; room for _4; …; _3; …; _2; …; _1; …; room for _0; …]
+        land ! (from ! (stop !)) (init ! 3 refl (LL.lawful (T.the-type (local-at κ)) (T′.the-laws (local-at κ)) 𝓤 H A
+        W .typed r _ is₁ .0)) $
+        use2 W (raw (Moved 𝓤 H A mem run .pre (to-moved 𝓤 H A W mem run κ q n r u₁)))
+        (goes-moved 𝓤 H A W mem run κ q n ok r u₁) $
+        calls-at ! fm (Moved 𝓤 H A mem run) known-moved (to-moved 𝓤 H A W mem run κ q n r u₁)
+        (and-then ! (load ! (from ! (stop !)) (look ! 2 refl))
+        (and-then ! (load ! (from ! (stop !)) (look ! 8 refl)) (no-more !))) (λ u₂.
+        use1 W (later (some (λ (p : Reader). ((‵ (flft κ q) ⊛ ‵ ftrue) ⊛ ‵ (Held κ p u₂)) ⊛ raw
+        (ensured 𝓤 H A moved.ended (moved.clauses 𝓤 H A mem run) (κ, tt) (r, (n, tt)) tt p)))) (id⊢ 𝓤 _) $ await !
+        tt $ pick ! (λ p.
+        split ! $ move ! (1 ∷ []) $ use1 W (raw (fact 𝓤 (Moved-says n r p))) (moved-said 𝓤 H A W mem run κ q n r p) $
+        heard ! (Moved-says n r p) (λ e₂. split ! $ move ! (1 ∷ []) $
+        -- [what the moved reader owns; the token; what s owns; _5; …; room for _4; …; _3; …; _2; …; _1; …; room for _0;
+        -- …]
         peeks ! (Readers κ) (Is (Readers κ)) (shows 𝓤 H A (Readers κ)) p (u₂ ∷ []) (λ is₂.
-        land ! (from ! (stop !)) (init ! 5 refl (LL.lawful (T.the-type (local-at κ)) (T′.the-laws (local-at κ)) 𝓤 H A W .typed p _ is₂ .0)) $
-        use2 W (raw (Next 𝓤 H A mem run .pre (to-next 𝓤 H A W mem run κ q w p u₂))) (goes-next 𝓤 H A W mem run κ q w is-w p u₂) $
-        calls-at ! fm (Next 𝓤 H A mem run) known-next (to-next 𝓤 H A W mem run κ q w p u₂) (and-then ! (load ! (from ! (stop !)) (look ! 4 refl)) (and-then ! (load ! (from ! (stop !)) (look ! 6 refl)) (no-more !))) (λ u₃.
-        use1 W (later (some (λ (f : Field). ((‵ (flft κ q) ⊛ ‵ ftrue) ⊛ ‵ (F.the-row .own f (u₃ ∷ []))) ⊛ raw (ensured 𝓤 H A next.ended (next.clauses 𝓤 H A mem run) (κ, tt) (p, (w, tt)) tt f)))) (id⊢ 𝓤 _) $ await ! tt $ pick ! (λ f.
-        split ! $ move ! (1 ∷ []) $ use1 W (raw (fact 𝓤 (Next-says w p f))) (next-said 𝓤 H A W mem run κ q w p f) $ heard ! (Next-says w p f) (λ e₃. split ! $ move ! (1 ∷ []) $
+        land ! (from ! (stop !)) (init ! 5 refl (LL.lawful (T.the-type (local-at κ)) (T′.the-laws (local-at κ)) 𝓤 H A
+        W .typed p _ is₂ .0)) $
+        use2 W (raw (Next 𝓤 H A mem run .pre (to-next 𝓤 H A W mem run κ q w p u₂)))
+        (goes-next 𝓤 H A W mem run κ q w is-w p u₂) $
+        calls-at ! fm (Next 𝓤 H A mem run) known-next (to-next 𝓤 H A W mem run κ q w p u₂)
+        (and-then ! (load ! (from ! (stop !)) (look ! 4 refl))
+        (and-then ! (load ! (from ! (stop !)) (look ! 6 refl)) (no-more !))) (λ u₃.
+        use1 W (later (some (λ (f : Field). ((‵ (flft κ q) ⊛ ‵ ftrue) ⊛ ‵ (F.the-row .own f (u₃ ∷ []))) ⊛ raw
+        (ensured 𝓤 H A next.ended (next.clauses 𝓤 H A mem run) (κ, tt) (p, (w, tt)) tt f)))) (id⊢ 𝓤 _) $ await !
+        tt $ pick ! (λ f.
+        split ! $ move ! (1 ∷ []) $ use1 W (raw (fact 𝓤 (Next-says w p f))) (next-said 𝓤 H A W mem run κ q w p f) $
+        heard ! (Next-says w p f) (λ e₃. split ! $ move ! (1 ∷ []) $
         -- [the result; the token; what s owns; _5; …; _4; …; _3; …; _2; …; _1; …; room for _0; …]
         peeks ! F.the-row (Is F.the-row) (shows 𝓤 H A F.the-row) f (u₃ ∷ []) (λ is₃.
         land ! (from ! (stop !)) (init ! 13 refl (LL.lawful F.the-type F′.the-laws 𝓤 H A W .typed f _ is₃ .0)) $
-        returns ! (look ! 13 refl) $ forget ! 3 refl $ forget ! 5 refl $ forget ! 7 refl $ forget ! 9 refl $ forget ! 11 refl $ forget ! 13 refl $
-        move ! (13 ∷ 14 ∷ []) $ free1 ! $ move ! (11 ∷ 12 ∷ []) $ free1 ! $ move ! (9 ∷ 10 ∷ []) $ free1 ! $ move ! (7 ∷ 8 ∷ []) $ free1 ! $ move ! (5 ∷ 6 ∷ []) $ free1 ! $ move ! (3 ∷ 4 ∷ []) $ free1 ! $ free0 ! $
+        returns ! (look ! 13 refl) $ forget ! 3 refl $ forget ! 5 refl $ forget ! 7 refl $ forget ! 9 refl $ forget !
+        11 refl $ forget ! 13 refl $
+        move ! (13 ∷ 14 ∷ []) $ free1 ! $ move ! (11 ∷ 12 ∷ []) $ free1 ! $ move ! (9 ∷ 10 ∷ []) $ free1 ! $ move !
+        (7 ∷ 8 ∷ []) $ free1 ! $ move ! (5 ∷ 6 ∷ []) $ free1 ! $ move ! (3 ∷ 4 ∷ []) $ free1 ! $ free0 ! $
         by ! (exits f u₃ (told s n w r p f e₁ e₂ e₃))))))))))))))))))))
 
-module _ {M : Type 1} (𝓤 : URA M) (H : Heap 𝓤) (A : Atoms 𝓤) (W : Given 𝓤 H A) (mem : Memory → SProp 𝓤) (run : Routine → Fun 𝓤) where
-  read-field-walks : (C : Calls 𝓤 H) (Λ : Loops 𝓤 H) → FmC 𝓤 H (W .laws) C → Triple 𝓤 (C #reader·new) (New 𝓤 H A mem run) → Triple 𝓤 (C #reader·moved) (Moved 𝓤 H A mem run) → Triple 𝓤 (C #reader·next) (Next 𝓤 H A mem run)
+module _ {M : Type 1} (𝓤 : URA M) (H : Heap 𝓤) (A : Atoms 𝓤) (W : Given 𝓤 H A) (mem : Memory → SProp 𝓤)
+    (run : Routine → Fun 𝓤) where
+  read-field-walks : (C : Calls 𝓤 H) (Λ : Loops 𝓤 H) → FmC 𝓤 H (W .laws) C
+      → Triple 𝓤 (C #reader·new) (New 𝓤 H A mem run) → Triple 𝓤 (C #reader·moved) (Moved 𝓤 H A mem run)
+      → Triple 𝓤 (C #reader·next) (Next 𝓤 H A mem run)
       → Walks 𝓤 H A read-field.ended stayed (WpFn 𝓤 H C Λ code.function) (read-field.clauses 𝓤 H A mem run)
-  read-field-walks C Λ fm known-new known-moved known-next = walked 𝓤 H A read-field.ended stayed (read-field.clauses 𝓤 H A mem run) (WpFn 𝓤 H C Λ code.function)
-      (λ κs. (slice-vals, (uint-vals w64, (width-vals, tt)))) (λ κs. (shr-slice-tells (named 0) (κs .0) u8, (uint-tells w64, (Wd′.lowers .val-is, tt))))
-      (λ κs qs bounds a g are. via 𝓤 _ (fst∗ 𝓤 _ (emp 𝓤)) (walk 𝓤 H A W mem run (κs .0) (qs .0) (a .0) (a .1 .0) (are .1 .0 .1) (a .1 .1 .0) (are .1 .1 .0) C Λ fm known-new known-moved known-next (are .0)))
+  read-field-walks C Λ fm known-new known-moved known-next =
+      walked 𝓤 H A read-field.ended stayed (read-field.clauses 𝓤 H A mem run) (WpFn 𝓤 H C Λ code.function)
+      (λ κs. (slice-vals, (uint-vals w64, (width-vals, tt))))
+      (λ κs. (shr-slice-tells (named 0) (κs .0) u8, (uint-tells w64, (Wd′.lowers .val-is, tt))))
+      (λ κs qs bounds a g are. via 𝓤 _ (fst∗ 𝓤 _ (emp 𝓤))
+      (walk 𝓤 H A W mem run (κs .0) (qs .0) (a .0) (a .1 .0) (are .1 .0 .1) (a .1 .1 .0) (are .1 .1 .0) C Λ fm
+      known-new known-moved known-next (are .0)))
 
-read-field-meets : {M : Type 1} (𝓤 : URA M) (H : Heap 𝓤) (A : Atoms 𝓤) (W : Given 𝓤 H A) (mem : Memory → SProp 𝓤) (run : Routine → Fun 𝓤) (𝓣 : Tables 𝓤 H)
-    → Triple 𝓤 (𝓣 .C #reader·new) (New 𝓤 H A mem run) → Triple 𝓤 (𝓣 .C #reader·moved) (Moved 𝓤 H A mem run) → Triple 𝓤 (𝓣 .C #reader·next) (Next 𝓤 H A mem run)
+read-field-meets : {M : Type 1} (𝓤 : URA M) (H : Heap 𝓤) (A : Atoms 𝓤) (W : Given 𝓤 H A) (mem : Memory → SProp 𝓤)
+    (run : Routine → Fun 𝓤) (𝓣 : Tables 𝓤 H)
+    → Triple 𝓤 (𝓣 .C #reader·new) (New 𝓤 H A mem run) → Triple 𝓤 (𝓣 .C #reader·moved) (Moved 𝓤 H A mem run)
+    → Triple 𝓤 (𝓣 .C #reader·next) (Next 𝓤 H A mem run)
     → Meets 𝓤 H A read-field.signature (WpFn 𝓤 H (𝓣 .C) (𝓣 .Λ) code.function) (read-field.spec 𝓤 H A mem run)
-read-field-meets 𝓤 H A W mem run 𝓣 known-new known-moved known-next = walk-meets 𝓤 H A read-field.ended stayed W
-    (goes-none-slice 𝓤 H A W 1 (0 ∷ []) tt (plain (λ _. u8)) yes, (goes-none 𝓤 H A W 1 (λ _. usize) yes (λ κs x f. refl), (goes-none 𝓤 H A W 1 (λ _. Wd.the-row) yes (λ κs x f. refl), tt)))
+read-field-meets 𝓤 H A W mem run 𝓣 known-new known-moved known-next = walk-meets 𝓤 H A read-field.ended stayed W (
+  goes-none-slice 𝓤 H A W 1 (0 ∷ []) tt (plain (λ _. u8)) yes,
+  (
+    goes-none 𝓤 H A W 1 (λ _. usize) yes (λ κs x f. refl),
+    (goes-none 𝓤 H A W 1 (λ _. Wd.the-row) yes (λ κs x f. refl), tt),
+  ),
+)
     (read-field.clauses 𝓤 H A mem run) (WpFn 𝓤 H (𝓣 .C) (𝓣 .Λ) code.function) (WpFn-mono 𝓤 H (W .laws) 𝓣 code.function)
     (read-field-walks 𝓤 H A W mem run (𝓣 .C) (𝓣 .Λ) (fmOf 𝓤 H (W .laws) 𝓣) known-new known-moved known-next)
 
@@ -142,6 +204,9 @@ read-field-spec 𝓤 H 𝓜 𝓖 𝓡 =
     entered 𝓤 H (tripleOf 𝓤 H (𝓖 .A) read-field.signature (read-field.spec 𝓤 H (𝓖 .A) (𝓜 .mem) (𝓡 .run)))
     (tables 𝓤 H 𝓜 𝓡 code.env .C) (tables 𝓤 H 𝓜 𝓡 code.env .Λ) #reader·read-field code.function (code.unfolded 𝓤 H 𝓜 𝓡)
     (read-field-meets 𝓤 H (𝓖 .A) (givenOf 𝓤 H 𝓜 𝓖) (𝓜 .mem) (𝓡 .run) (tablesOf 𝓤 H 𝓜 (tables 𝓤 H 𝓜 𝓡 code.env))
-    (cited 𝓤 H (New 𝓤 H (𝓖 .A) (𝓜 .mem) (𝓡 .run)) 𝓜 𝓡 code.env #reader·new new-def.routine code.calls-reader·new (new-thm.met 𝓤 H 𝓜 𝓖 𝓡))
-    (cited 𝓤 H (Moved 𝓤 H (𝓖 .A) (𝓜 .mem) (𝓡 .run)) 𝓜 𝓡 code.env #reader·moved moved-def.routine code.calls-reader·moved (moved-thm.met 𝓤 H 𝓜 𝓖 𝓡))
-    (cited 𝓤 H (Next 𝓤 H (𝓖 .A) (𝓜 .mem) (𝓡 .run)) 𝓜 𝓡 code.env #reader·next next-def.routine code.calls-reader·next (next-thm.met 𝓤 H 𝓜 𝓖 𝓡)))
+    (cited 𝓤 H (New 𝓤 H (𝓖 .A) (𝓜 .mem) (𝓡 .run)) 𝓜 𝓡 code.env #reader·new new-def.routine code.calls-reader·new
+    (new-thm.met 𝓤 H 𝓜 𝓖 𝓡))
+    (cited 𝓤 H (Moved 𝓤 H (𝓖 .A) (𝓜 .mem) (𝓡 .run)) 𝓜 𝓡 code.env #reader·moved moved-def.routine
+    code.calls-reader·moved (moved-thm.met 𝓤 H 𝓜 𝓖 𝓡))
+    (cited 𝓤 H (Next 𝓤 H (𝓖 .A) (𝓜 .mem) (𝓡 .run)) 𝓜 𝓡 code.env #reader·next next-def.routine code.calls-reader·next
+    (next-thm.met 𝓤 H 𝓜 𝓖 𝓡)))

@@ -10,26 +10,14 @@ Inv-loop file turns₀ turns = turns ≤ 100000
 abbrev μ-loop : tie.MeasureT-loop
 μ-loop file turns₀ turns = 100000 - turns
 
-open-read-requires : tie.Need-open-read-requires Inv-loop μ-loop
-open-read-requires c κs = search needs
-
-fail-requires : tie.Need-fail-requires Inv-loop μ-loop
-fail-requires c κs = search needs
-
 returns : tie.Need-returns Inv-loop μ-loop
 returns c = search needs
 
 loop-holds : tie.Need-loop-holds Inv-loop μ-loop
 loop-holds c = search needs
 
-next-requires : tie.Need-next-requires Inv-loop μ-loop
-next-requires c κs = search needs
-
 returns-2 : tie.Need-returns-2 Inv-loop μ-loop
 returns-2 c = search needs
-
-add-turns : tie.Need-add-turns Inv-loop μ-loop
-add-turns c = search needs
 
 loop-less : tie.Need-loop-less Inv-loop μ-loop
 loop-less c = search needs
@@ -46,13 +34,12 @@ main-spec =
     (tie.spec
     Inv-loop
     μ-loop
-    open-read-requires
-    fail-requires
+    (λ c κs. search needs) (λ c κs. search needs)
     returns
     loop-holds
-    next-requires
+    (λ c κs. search needs)
     returns-2
-    add-turns
+    (λ c. search needs)
     loop-less
     loop-again
     returns-3)

@@ -9,17 +9,8 @@ use Rattle.replay.proofs.read_some.Tie as tie
 returns : tie.Need-returns
 returns c = search needs
 
-slice-relend-prefix-read-full : tie.Need-slice-relend-prefix-read-full
-slice-relend-prefix-read-full c = search needs
-
 slice-aggregate-read-full : tie.Need-slice-aggregate-read-full
 slice-aggregate-read-full c = sym (length-take-le _ _ (c .before .if1 .left))
-
-read-full-requires : tie.Need-read-full-requires
-read-full-requires c κs = search needs
-
-same-length : tie.Need-same-length
-same-length c = search needs
 
 returns-2 : tie.Need-returns-2
 returns-2 c = counts-on _ (c .before .before .read-full .last .1 .0) _ (c .before .before .read-full .ensures .0)
@@ -29,8 +20,7 @@ read-some-spec =
     tie.close
     (tie.spec
     returns
-    slice-relend-prefix-read-full
+    (λ c. search needs)
     slice-aggregate-read-full
-    read-full-requires
-    same-length
+    (λ c κs. search needs) (λ c. search needs)
     returns-2)

@@ -1,4 +1,5 @@
--- `root::by_digits` meets its contract: the root stays between r and r + span, and span is halved until it is 1. Assumes nothing.
+-- `root::by_digits` meets its contract: the root stays between r and r + span, and span is halved until it is 1.
+-- Assumes nothing.
 use mathlib.Core.Path.{sym}
 use Prim.Native.Nat.{_+_, _*_, _≤_, _<_}
 use native.Mathlib.Nat.{lt-of-lt-of-le}
@@ -17,22 +18,29 @@ abbrev μ-loop : tie.MeasureT-loop
 loop-holds : tie.Need-loop-holds Inv-loop μ-loop
 loop-holds c = omega arith
 
-add-half : tie.Need-add-half Inv-loop μ-loop
-add-half c = omega arith
-
 add-next : tie.Need-add-next Inv-loop μ-loop
 add-next c =
     let x = root-lt (c .before .loop .inv .0) (c .before .before .pre) in
     omega arith
 
 mul-if1 : tie.Need-mul-if1 Inv-loop μ-loop
-mul-if1 c = record { fits = square-fits (next-fits (c .before .loop .r) _ (c .before .loop .span) (c .before .loop .inv .0) (c .before .before .pre) (omega arith) (omega arith)) }
+mul-if1 c =
+    record {
+      fits =
+          square-fits (next-fits (c .before .loop .r) _ (c .before .loop .span) (c .before .loop .inv .0)
+          (c .before .before .pre) (omega arith) (omega arith));
+    }
 
 loop-less : tie.Need-loop-less Inv-loop μ-loop
 loop-less c = omega arith
 
 loop-again : tie.Need-loop-again Inv-loop μ-loop
-loop-again c = (omega arith, upper-half (c .before .before .loop .r) (c .before .before .loop .span) _ (c .before .before .loop .inv .1) (omega arith), omega arith)
+loop-again c = (
+  omega arith,
+  upper-half (c .before .before .loop .r) (c .before .before .loop .span) _
+      (c .before .before .loop .inv .1) (omega arith),
+  omega arith,
+)
 
 loop-less-2 : tie.Need-loop-less-2 Inv-loop μ-loop
 loop-less-2 c = omega arith
@@ -41,7 +49,9 @@ loop-again-2 : tie.Need-loop-again-2 Inv-loop μ-loop
 loop-again-2 c = omega arith
 
 returns : tie.Need-returns Inv-loop μ-loop
-returns c = sym (whole-unique _ (c .before .loop .r) (c .before .loop .inv .0) (lt-of-lt-of-le (c .before .loop .inv .1) (square-mono (omega arith))))
+returns c =
+    sym (whole-unique _ (c .before .loop .r) (c .before .loop .inv .0)
+    (lt-of-lt-of-le (c .before .loop .inv .1) (square-mono (omega arith))))
 
 pub by-digits-spec : {M : Type 1} → statement M
 by-digits-spec =
@@ -50,7 +60,7 @@ by-digits-spec =
     Inv-loop
     μ-loop
     loop-holds
-    add-half
+    (λ c. omega arith)
     add-next
     mul-if1
     loop-less

@@ -7,9 +7,6 @@ use Rattle.root.proofs.lowered.Tie as tie
 mul-if1 : tie.Need-mul-if1
 mul-if1 c = record { fits = square-fits (c .pre .1) }
 
-sub-result : tie.Need-sub-result
-sub-result c = search needs
-
 returns : tie.Need-returns
 returns c = search needs
 
@@ -17,4 +14,4 @@ returns-2 : tie.Need-returns-2
 returns-2 c = search needs
 
 pub lowered-spec : {M : Type 1} → statement M
-lowered-spec = tie.close (tie.spec mul-if1 sub-result returns returns-2)
+lowered-spec = tie.close (tie.spec mul-if1 (λ c. search needs) returns returns-2)

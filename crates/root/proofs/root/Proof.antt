@@ -26,20 +26,22 @@ returns c = nan-told (c .before .args .x) (c .if1 .taken)
 float-to-bits-b : tie.Need-float-to-bits-b
 float-to-bits-b c = no-nan (c .before .args .x) (c .if1 .left)
 
-sqrt-requires : tie.Need-sqrt-requires
-sqrt-requires c κs = search needs
-
 returns-2 : tie.Need-returns-2
 returns-2 c =
     let x = c .before .before .before .args .x in
-    ap Is (c .sqrt .ensures) ∙ (rw (own (c .before .before .before)) at (sym (root-told (toBits binary64 x) (c .before .if2 .taken))))
+    ap Is (c .sqrt .ensures) ∙ (rw (own (c .before .before .before)) at
+    (sym (root-told (toBits binary64 x) (c .before .if2 .taken))))
 
 returns-3 : tie.Need-returns-3
-returns-3 c = ap Is (sym (at-bits (c .before .before .before) (c .if3 .taken))) ∙ sym minus-zero-told ∙ ap rootOf (at-bits (c .before .before .before) (c .if3 .taken))
+returns-3 c =
+    ap Is (sym (at-bits (c .before .before .before) (c .if3 .taken))) ∙ sym minus-zero-told
+    ∙ ap rootOf (at-bits (c .before .before .before) (c .if3 .taken))
 
 returns-4 : tie.Need-returns-4
-returns-4 c = rw (own (c .before .before .before)) at (sym (none-told (toBits binary64 (c .before .before .before .args .x)) (c .before .if2 .left) (toBits-lt binary64 _ (fits-x (c .before .before .before))) (c .if3 .left)))
+returns-4 c =
+    rw (own (c .before .before .before)) at (sym (none-told (toBits binary64 (c .before .before .before .args .x))
+    (c .before .if2 .left) (toBits-lt binary64 _ (fits-x (c .before .before .before))) (c .if3 .left)))
 
 pub root-spec : {M : Type 1} → statement M
 root-spec =
-    tie.close (tie.spec returns float-to-bits-b sqrt-requires returns-2 returns-3 returns-4)
+    tie.close (tie.spec returns float-to-bits-b (λ c κs. search needs) returns-2 returns-3 returns-4)

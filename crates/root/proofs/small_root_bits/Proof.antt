@@ -19,9 +19,6 @@ abbrev μ-loop : tie.MeasureT-loop
 loop-holds : tie.Need-loop-holds Inv-loop μ-loop
 loop-holds c = (refl, c .pre .0, omega arith, lit≤ tt)
 
-mul-f : tie.Need-mul-f Inv-loop μ-loop
-mul-f c = omega arith
-
 sub-w : tie.Need-sub-w Inv-loop μ-loop
 sub-w c = omega (arith, few _ 52 _ (c .before .loop .inv .1) (c .loop-test .taken))
 
@@ -33,8 +30,13 @@ loop-again c =
     let f = c .before .loop .f in
     let w = c .before .loop .w in
     let d = few (1074 - w) 52 f (c .before .loop .inv .1) (c .loop-test .taken) in
-    let e : suc (1074 - w) ≡ 1074 - (w - 1) = omega arith in
-    (moved f w (omega arith) ∙ c .before .loop .inv .0, subst (λ (x : ℕ). 2 ^ x ≤ f * 2) e (doubled (1074 - w) f (c .before .loop .inv .1)), omega arith, omega arith)
+    let e : suc (1074 - w) ≡ 1074 - (w - 1) = omega arith in (
+      moved f w (omega arith) ∙ c .before .loop .inv .0,
+      subst (λ (x : ℕ). 2 ^ x ≤ f * 2) e
+          (doubled (1074 - w) f (c .before .loop .inv .1)),
+      omega arith,
+      omega arith,
+    )
 
 root-bits-requires : tie.Need-root-bits-requires Inv-loop μ-loop
 root-bits-requires c κs = let d = few _ 53 _ (c .before .loop .inv .1) (c .before .loop .inv .2) in omega arith
@@ -42,8 +44,12 @@ root-bits-requires c κs = let d = few _ 53 _ (c .before .loop .inv .1) (c .befo
 returns : tie.Need-returns Inv-loop μ-loop
 returns c =
     let f = c .before .before .loop .f in
-    let e : 2 ^ 52 + (f - 2 ^ 52) ≡ f = omega arith in
-    (c .root-bits .ensures .0, c .root-bits .ensures .1 ∙ ap (λ (x : ℕ). round binary64 false (halves x) (2 ^ 1075)) (ap (λ (x : ℕ). x * 2 ^ c .before .before .loop .w) e ∙ c .before .before .loop .inv .0))
+    let e : 2 ^ 52 + (f - 2 ^ 52) ≡ f = omega arith in (
+      c .root-bits .ensures .0,
+      c .root-bits .ensures .1
+          ∙ ap (λ (x : ℕ). round binary64 false (halves x) (2 ^ 1075))
+          (ap (λ (x : ℕ). x * 2 ^ c .before .before .loop .w) e ∙ c .before .before .loop .inv .0),
+    )
 
 pub small-root-bits-spec : {M : Type 1} → statement M
 small-root-bits-spec =
@@ -52,7 +58,7 @@ small-root-bits-spec =
     Inv-loop
     μ-loop
     loop-holds
-    mul-f
+    (λ c. omega arith)
     sub-w
     loop-less
     loop-again

@@ -34,19 +34,14 @@ seldom-requires-2 c κs = (own (c .before .before .before), (fit (c .before .bef
 returns-3 : tie.Need-returns-3
 returns-3 c = search needs
 
-add-root-bits : tie.Need-add-root-bits
-add-root-bits c = search needs
-
-root-bits-requires : tie.Need-root-bits-requires
-root-bits-requires c κs = search needs
-
 float-from-bits-result : tie.Need-float-from-bits-result
 float-from-bits-result c = finite-pattern (c .root-bits .result) (c .root-bits .ensures .0)
 
 returns-4 : tie.Need-returns-4
 returns-4 c =
     let b = toBits binary64 (c .before .before .before .before .args .x) in
-    c .root-bits .ensures .1 ∙ sqrt-bits b (c .before .before .if2 .left) (c .before .if3 .left) ∙ ap sqrtOf (sym (own (c .before .before .before .before)))
+    c .root-bits .ensures .1 ∙ sqrt-bits b (c .before .before .if2 .left) (c .before .if3 .left)
+    ∙ ap sqrtOf (sym (own (c .before .before .before .before)))
 
 pub sqrt-spec : {M : Type 1} → statement M
 sqrt-spec =
@@ -58,7 +53,6 @@ sqrt-spec =
     returns-2
     seldom-requires-2
     returns-3
-    add-root-bits
-    root-bits-requires
+    (λ c. search needs) (λ c κs. search needs)
     float-from-bits-result
     returns-4)

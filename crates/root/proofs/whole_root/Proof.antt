@@ -1,4 +1,5 @@
--- `root::whole_root` meets its contract: a guess that passes both tests is the whole part of the root, since there is only one. Assumes nothing.
+-- `root::whole_root` meets its contract: a guess that passes both tests is the whole part of the root, since there is
+-- only one. Assumes nothing.
 use borrow.Author.Needs.{needs}
 use mathlib.Core.Path.{sym}
 use native.Mathlib.Omega.{arith}
@@ -7,24 +8,15 @@ use Rattle.root.proofs.Squares.{square-fits}
 use Rattle.root.proofs.whole_root.Statement.{statement}
 use Rattle.root.proofs.whole_root.Tie as tie
 
-lowered-requires : tie.Need-lowered-requires
-lowered-requires c κs = search needs
-
 mul-square : tie.Need-mul-square
 mul-square c = record { fits = square-fits (c .lowered .ensures) }
 
-mul-if2 : tie.Need-mul-if2
-mul-if2 c = search needs
-
 returns : tie.Need-returns
 returns c = sym (whole-unique _ _ (c .before .if1 .taken) (omega arith))
-
-by-digits-requires : tie.Need-by-digits-requires
-by-digits-requires c κs = search needs
 
 returns-2 : tie.Need-returns-2
 returns-2 c = search needs
 
 pub whole-root-spec : {M : Type 1} → statement M
 whole-root-spec =
-    tie.close (tie.spec lowered-requires mul-square mul-if2 returns by-digits-requires returns-2)
+    tie.close (tie.spec (λ c κs. search needs) mul-square (λ c. search needs) returns (λ c κs. search needs) returns-2)

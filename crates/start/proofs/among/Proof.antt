@@ -1,4 +1,5 @@
--- `start::among` meets its contract. The invariant: the candidates still to come make of this choice what all of them make of the first. Assumes nothing.
+-- `start::among` meets its contract. The invariant: the candidates still to come make of this choice what all of them
+-- make of the first. Assumes nothing.
 use mathlib.Core.Path.{_≡_, sym}
 use Prim.Native.Nat.{_-_, _<_}
 use native.Mathlib.Omega.{arith}
@@ -23,15 +24,6 @@ abbrev μ-loop : tie.MeasureT-loop
 loop-holds : tie.Need-loop-holds Inv-loop μ-loop
 loop-holds c = (λ g w tells. sym (begin _ _ _ _), omega arith)
 
-reach-requires : tie.Need-reach-requires Inv-loop μ-loop
-reach-requires c κs = search needs
-
-nearer-requires : tie.Need-nearer-requires Inv-loop μ-loop
-nearer-requires c κs = search needs
-
-add-a : tie.Need-add-a Inv-loop μ-loop
-add-a c = omega arith
-
 loop-less : tie.Need-loop-less Inv-loop μ-loop
 loop-less c = omega arith
 
@@ -53,9 +45,7 @@ among-spec =
     Inv-loop
     μ-loop
     loop-holds
-    reach-requires
-    nearer-requires
-    add-a
+    (λ c κs. search needs) (λ c κs. search needs) (λ c. omega arith)
     loop-less
     loop-again
     returns)

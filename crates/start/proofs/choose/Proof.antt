@@ -1,4 +1,5 @@
--- `start::choose` meets its contract. The invariant: the contours still to come make of this choice what all of them make of none. Assumes nothing.
+-- `start::choose` meets its contract. The invariant: the contours still to come make of this choice what all of them
+-- make of none. Assumes nothing.
 use mathlib.Core.Path.{_≡_}
 use Prim.Native.Nat.{_-_, _<_}
 use native.Mathlib.Omega.{arith}
@@ -25,12 +26,6 @@ abbrev μ-loop : tie.MeasureT-loop
 loop-holds : tie.Need-loop-holds Inv-loop μ-loop
 loop-holds c = (λ g w tells f p v. begin-zero _ _ _, omega arith)
 
-is-open-requires : tie.Need-is-open-requires Inv-loop μ-loop
-is-open-requires c κs = search needs
-
-add-k : tie.Need-add-k Inv-loop μ-loop
-add-k c = omega arith
-
 loop-less : tie.Need-loop-less Inv-loop μ-loop
 loop-less c = omega arith
 
@@ -41,12 +36,6 @@ loop-again c = (
       (passed-over g w _ _ _ (c .before .is-open .ensures g w v p) (not-true _ (c .if1 .taken))),
   omega arith,
 )
-
-offers-requires : tie.Need-offers-requires Inv-loop μ-loop
-offers-requires c κs = search needs
-
-add-k-2 : tie.Need-add-k-2 Inv-loop μ-loop
-add-k-2 c = omega arith
 
 loop-less-2 : tie.Need-loop-less-2 Inv-loop μ-loop
 loop-less-2 c = omega arith
@@ -72,12 +61,10 @@ choose-spec =
     Inv-loop
     μ-loop
     loop-holds
-    is-open-requires
-    add-k
+    (λ c κs. search needs) (λ c. omega arith)
     loop-less
     loop-again
-    offers-requires
-    add-k-2
+    (λ c κs. search needs) (λ c. omega arith)
     loop-less-2
     loop-again-2
     returns)

@@ -1,4 +1,5 @@
--- `start::nn_constrained` meets its contract. The invariant: the steps still to come lead from the tour written so far to where all of them lead from nothing; the room's rest is as it was. Assumes nothing.
+-- `start::nn_constrained` meets its contract. The invariant: the steps still to come lead from the tour written so far
+-- to where all of them lead from nothing; the room's rest is as it was. Assumes nothing.
 use mathlib.Core.Path.{_≡_, refl, sym}
 use Prim.Native.Nat.{_<_, _-_, _≤_}
 use native.Mathlib.Omega.{arith}
@@ -9,13 +10,15 @@ use Rattle.table.proofs.EachLaws.{onwards, begin-zero, carry, arrive}
 use Rattle.table.specs.Each.{each}
 use Rattle.start.specs.Code.{groundOf}
 use Rattle.start.specs.Nearest.{setOut, flagCount, lastOf, step as stepOver}
-use Rattle.start.proofs.StepLaws.{wayOf, way-told, step-waits, step-goes, last-written, rest-kept, written, unwritten}
+use Rattle.start.proofs.StepLaws.{wayOf, way-told, step-waits, step-goes, last-written, rest-kept, written}
+use Rattle.start.proofs.StepLaws.{unwritten}
 use Rattle.start.proofs.nn_constrained.Statement.{statement}
 use Rattle.start.proofs.nn_constrained.Tie as tie
 
 abbrev Inv-loop : tie.InvT-loop
 Inv-loop home table t first pairs tour₀ n visited₀ made₀ last₀ step₀ tour visited made last step =
-    (onwards (stepOver (groundOf home table t first pairs) n) n step (wayOf tour visited made) ≡ each (stepOver (groundOf home table t first pairs) n) n 0 setOut)
+    (onwards (stepOver (groundOf home table t first pairs) n) n step (wayOf tour visited made)
+    ≡ each (stepOver (groundOf home table t first pairs) n) n 0 setOut)
     × (length tour ≡ length tour₀)
     × (made ≤ step)
     × (step ≤ n)
@@ -32,17 +35,8 @@ returns c = unwritten _ _ _ (c .if1 .taken)
 loop-holds : tie.Need-loop-holds Inv-loop μ-loop
 loop-holds c = (begin-zero _ _ _, refl, omega arith, omega arith, refl, refl, refl)
 
-add-step : tie.Need-add-step Inv-loop μ-loop
-add-step c = omega arith
-
 slice-aggregate-choose : tie.Need-slice-aggregate-choose Inv-loop μ-loop
 slice-aggregate-choose c = sym (c .before .before .loop .inv .4)
-
-cast-choose : tie.Need-cast-choose Inv-loop μ-loop
-cast-choose c = omega arith
-
-choose-requires : tie.Need-choose-requires Inv-loop μ-loop
-choose-requires c κs = search needs
 
 loop-less : tie.Need-loop-less Inv-loop μ-loop
 loop-less c = omega arith
@@ -66,14 +60,8 @@ loop-again c =
 slice-write-tour : tie.Need-slice-write-tour Inv-loop μ-loop
 slice-write-tour c = omega (arith, c .before .before .before .before .before .loop .inv .1)
 
-cast-visited : tie.Need-cast-visited Inv-loop μ-loop
-cast-visited c = search needs
-
 array-write-visited : tie.Need-array-write-visited Inv-loop μ-loop
 array-write-visited c = omega (arith, c .before .before .before .choose .ok)
-
-add-made : tie.Need-add-made Inv-loop μ-loop
-add-made c = omega arith
 
 loop-less-2 : tie.Need-loop-less-2 Inv-loop μ-loop
 loop-less-2 c = omega arith
@@ -91,7 +79,9 @@ loop-again-2 c =
       omega arith,
       simp length-set (l .inv .4),
       last-written (l .tour) (l .made) _ h,
-      rest-kept (l .tour) (c .before .before .before .before .before .before .before .before .before .before .before .before .before .args .tour .now) (l .made) (c .before .before .before .choose .result .candidate) (l .inv .6),
+      rest-kept (l .tour) (c .before .before .before .before .before .before .before .before .before .before .before
+          .before .before .args .tour .now) (l .made) (c .before .before .before .choose .result .candidate)
+          (l .inv .6),
     )
 
 same-length : tie.Need-same-length Inv-loop μ-loop
@@ -100,7 +90,8 @@ same-length c = c .before .loop .inv .1
 returns-2 : tie.Need-returns-2 Inv-loop μ-loop
 returns-2 c =
     let l = c .before .loop in
-    written _ _ _ _ _ _ refl (c .before .before .if1 .left) (omega (arith, l .inv .1)) (arrive _ _ _ _ _ (l .inv .0) (c .loop-test .left)) (l .inv .6)
+    written _ _ _ _ _ _ refl (c .before .before .if1 .left) (omega (arith, l .inv .1))
+    (arrive _ _ _ _ _ (l .inv .0) (c .loop-test .left)) (l .inv .6)
 
 pub nn-constrained-spec : {M : Type 1} → statement M
 nn-constrained-spec =
@@ -110,16 +101,15 @@ nn-constrained-spec =
     μ-loop
     returns
     loop-holds
-    add-step
+    (λ c. omega arith)
     slice-aggregate-choose
-    cast-choose
-    choose-requires
+    (λ c. omega arith) (λ c κs. search needs)
     loop-less
     loop-again
     slice-write-tour
-    cast-visited
+    (λ c. search needs)
     array-write-visited
-    add-made
+    (λ c. omega arith)
     loop-less-2
     loop-again-2
     same-length

@@ -4,17 +4,11 @@ use Rattle.start.proofs.StepLaws.{reach-home, reach-on}
 use Rattle.start.proofs.reach.Statement.{statement}
 use Rattle.start.proofs.reach.Tie as tie
 
-home-at-requires : tie.Need-home-at-requires
-home-at-requires c κs = search needs
-
 returns : tie.Need-returns
 returns c g w tells = reach-home _ _ _ _ _ g w tells _ _ (c .before .if1 .taken) (c .home-at .ensures)
-
-distance-at-requires : tie.Need-distance-at-requires
-distance-at-requires c κs = search needs
 
 returns-2 : tie.Need-returns-2
 returns-2 c g w tells = reach-on _ _ _ _ _ g w tells _ _ (c .before .if1 .left) (c .distance-at .ensures)
 
 pub reach-spec : {M : Type 1} → statement M
-reach-spec = tie.close (tie.spec home-at-requires returns distance-at-requires returns-2)
+reach-spec = tie.close (tie.spec (λ c κs. search needs) returns (λ c κs. search needs) returns-2)

@@ -4,9 +4,6 @@ use lib.ListN.{List·getD-eq-default}
 use Rattle.table.proofs.byte_at.Statement.{statement}
 use Rattle.table.proofs.byte_at.Tie as tie
 
-shared-slice-read-result : tie.Need-shared-slice-read-result
-shared-slice-read-result c = search needs
-
 returns : tie.Need-returns
 returns c = search needs
 
@@ -14,4 +11,4 @@ returns-2 : tie.Need-returns-2
 returns-2 c = rw (List·getD-eq-default (c .before .args .s .now) 0 {n = c .before .args .i} (c .if1 .left))
 
 pub byte-at-spec : {M : Type 1} → statement M
-byte-at-spec = tie.close (tie.spec shared-slice-read-result returns returns-2)
+byte-at-spec = tie.close (tie.spec (λ c. search needs) returns returns-2)

@@ -11,11 +11,8 @@ mul-float-at c = omega (arith, row-small (c .before .args .a) (c .before .args .
 add-float-at : tie.Need-add-float-at
 add-float-at c = omega (arith, row-small (c .before .args .a) (c .before .args .t) (omega arith) (omega arith))
 
-float-at-requires : tie.Need-float-at-requires
-float-at-requires c κs = search needs
-
 returns : tie.Need-returns
 returns c = search needs
 
 pub distance-at-spec : {M : Type 1} → statement M
-distance-at-spec = tie.close (tie.spec mul-float-at add-float-at float-at-requires returns)
+distance-at-spec = tie.close (tie.spec mul-float-at add-float-at (λ c κs. search needs) returns)

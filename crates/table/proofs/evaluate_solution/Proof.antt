@@ -1,4 +1,5 @@
--- `table::evaluate_solution` meets its contract. The invariant: walking on from here gives the whole length. Assumes nothing.
+-- `table::evaluate_solution` meets its contract. The invariant: walking on from here gives the whole length. Assumes
+-- nothing.
 use mathlib.Core.Path.{_≡_}
 use Prim.Native.Nat.{_≤_, _-_}
 use native.Mathlib.Omega.{arith}
@@ -10,7 +11,8 @@ use Rattle.table.proofs.evaluate_solution.Statement.{statement}
 use Rattle.table.proofs.evaluate_solution.Tie as tie
 
 abbrev Inv-loop : tie.InvT-loop
-Inv-loop home table t tour at₀ total₀ i₀ at total i = (i ≤ length tour) × (onward table t tour i at total ≡ lengthOf home table t tour)
+Inv-loop home table t tour at₀ total₀ i₀ at total i =
+    (i ≤ length tour) × (onward table t tour i at total ≡ lengthOf home table t tour)
 
 abbrev μ-loop : tie.MeasureT-loop
 μ-loop home table t tour at₀ total₀ i₀ at total i = length tour - i
@@ -18,29 +20,18 @@ abbrev μ-loop : tie.MeasureT-loop
 returns : tie.Need-returns Inv-loop μ-loop
 returns c = length-none _ _ _ _ (c .if1 .taken)
 
-shared-slice-read-at : tie.Need-shared-slice-read-at Inv-loop μ-loop
-shared-slice-read-at c = search needs
-
-home-at-requires : tie.Need-home-at-requires Inv-loop μ-loop
-home-at-requires c κs = search needs
-
 loop-holds : tie.Need-loop-holds Inv-loop μ-loop
 loop-holds c = (omega arith, length-first _ _ _ _ _ (c .before .before .if1 .left) (c .home-at .ensures))
-
-shared-slice-read-next : tie.Need-shared-slice-read-next Inv-loop μ-loop
-shared-slice-read-next c = search needs
-
-distance-at-requires : tie.Need-distance-at-requires Inv-loop μ-loop
-distance-at-requires c κs = search needs
-
-add-i : tie.Need-add-i Inv-loop μ-loop
-add-i c = omega arith
 
 loop-less : tie.Need-loop-less Inv-loop μ-loop
 loop-less c = omega arith
 
 loop-again : tie.Need-loop-again Inv-loop μ-loop
-loop-again c = (omega arith, leg-more _ _ _ _ _ _ _ _ (c .before .before .before .loop .inv .1) (c .before .before .loop-test .taken) (c .distance-at .ensures))
+loop-again c = (
+  omega arith,
+  leg-more _ _ _ _ _ _ _ _ (c .before .before .before .loop .inv .1)
+      (c .before .before .loop-test .taken) (c .distance-at .ensures),
+)
 
 returns-2 : tie.Need-returns-2 Inv-loop μ-loop
 returns-2 c = legs-done _ _ _ _ _ _ _ (c .before .loop .inv .1) (c .loop-test .left)
@@ -52,12 +43,9 @@ evaluate-solution-spec =
     Inv-loop
     μ-loop
     returns
-    shared-slice-read-at
-    home-at-requires
+    (λ c. search needs) (λ c κs. search needs)
     loop-holds
-    shared-slice-read-next
-    distance-at-requires
-    add-i
+    (λ c. search needs) (λ c κs. search needs) (λ c. omega arith)
     loop-less
     loop-again
     returns-2)

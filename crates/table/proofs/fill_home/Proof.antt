@@ -1,4 +1,5 @@
--- `table::fill_home` meets its contract. The invariant: the first a entries are filled, the rest of the room kept. Assumes nothing.
+-- `table::fill_home` meets its contract. The invariant: the first a entries are filled, the rest of the room kept.
+-- Assumes nothing.
 use mathlib.Core.Path.{_≡_, refl}
 use mathlib.Core.List.{_++_}
 use Prim.Native.Nat.{_≤_, _-_}
@@ -11,7 +12,8 @@ use Rattle.table.proofs.fill_home.Statement.{statement}
 use Rattle.table.proofs.fill_home.Tie as tie
 
 abbrev Inv-loop : tie.InvT-loop
-Inv-loop room₀ t home items a₀ room a = (a ≤ t) × (length room ≡ length room₀) × (room ≡ listed (homeLeg (take t items) home) a 0 ++ drop a room₀)
+Inv-loop room₀ t home items a₀ room a =
+    (a ≤ t) × (length room ≡ length room₀) × (room ≡ listed (homeLeg (take t items) home) a 0 ++ drop a room₀)
 
 abbrev μ-loop : tie.MeasureT-loop
 μ-loop room₀ t home items a₀ room a = t - a
@@ -26,31 +28,20 @@ loop-holds : tie.Need-loop-holds Inv-loop μ-loop
 unfolding listed
 loop-holds c = (omega arith, refl, refl)
 
-mul-to : tie.Need-mul-to Inv-loop μ-loop
-mul-to c = search needs
-
-array-copy-out-to : tie.Need-array-copy-out-to Inv-loop μ-loop
-array-copy-out-to c = omega arith
-
 distance-requires : tie.Need-distance-requires Inv-loop μ-loop
 distance-requires c κs = tt
-
-mul-room : tie.Need-mul-room Inv-loop μ-loop
-mul-room c = search needs
-
-slice-write-room : tie.Need-slice-write-room Inv-loop μ-loop
-slice-write-room c = search needs
-
-add-a : tie.Need-add-a Inv-loop μ-loop
-add-a c = search needs
 
 loop-less : tie.Need-loop-less Inv-loop μ-loop
 loop-less c = search needs
 
 loop-again : tie.Need-loop-again Inv-loop μ-loop
 loop-again c =
-    let h = c .before .before .before in
-    (omega arith, simp length-set (h .loop .inv .1), home-more _ _ _ _ _ _ (h .loop .inv .2) _ (c .before .before .loop-test .taken) (omega arith) (c .distance .ensures))
+    let h = c .before .before .before in (
+      omega arith,
+      simp length-set (h .loop .inv .1),
+      home-more _ _ _ _ _ _ (h .loop .inv .2) _
+          (c .before .before .loop-test .taken) (omega arith) (c .distance .ensures),
+    )
 
 same-length : tie.Need-same-length Inv-loop μ-loop
 same-length c = c .before .loop .inv .1
@@ -69,12 +60,9 @@ fill-home-spec =
     returns
     returns-2
     loop-holds
-    mul-to
-    array-copy-out-to
+    (λ c. search needs) (λ c. omega arith)
     distance-requires
-    mul-room
-    slice-write-room
-    add-a
+    (λ c. search needs) (λ c. search needs) (λ c. search needs)
     loop-less
     loop-again
     same-length

@@ -1,4 +1,5 @@
--- `table::fill_row` meets its contract. The invariant: the first b entries are filled, the rest of the room kept. Assumes nothing.
+-- `table::fill_row` meets its contract. The invariant: the first b entries are filled, the rest of the room kept.
+-- Assumes nothing.
 use mathlib.Core.Path.{_≡_, refl}
 use mathlib.Core.List.{_++_}
 use Prim.Native.Nat.{_≤_, _-_}
@@ -10,16 +11,11 @@ use Rattle.table.proofs.fill_row.Statement.{statement}
 use Rattle.table.proofs.fill_row.Tie as tie
 
 abbrev Inv-loop : tie.InvT-loop
-Inv-loop room₀ t owner a items from k b₀ room b = (b ≤ t) × (length room ≡ length room₀) × (room ≡ listed (legAt (take t items) owner a) b 0 ++ drop b room₀)
+Inv-loop room₀ t owner a items from k b₀ room b =
+    (b ≤ t) × (length room ≡ length room₀) × (room ≡ listed (legAt (take t items) owner a) b 0 ++ drop b room₀)
 
 abbrev μ-loop : tie.MeasureT-loop
 μ-loop room₀ t owner a items from k b₀ room b = t - b
-
-mul-from : tie.Need-mul-from Inv-loop μ-loop
-mul-from c = omega arith
-
-array-copy-out-from : tie.Need-array-copy-out-from Inv-loop μ-loop
-array-copy-out-from c = omega arith
 
 byte-at-requires : tie.Need-byte-at-requires Inv-loop μ-loop
 byte-at-requires c κs = tt
@@ -28,26 +24,11 @@ loop-holds : tie.Need-loop-holds Inv-loop μ-loop
 unfolding listed
 loop-holds c = (omega arith, refl, refl)
 
-mul-to : tie.Need-mul-to Inv-loop μ-loop
-mul-to c = omega arith
-
-array-copy-out-to : tie.Need-array-copy-out-to Inv-loop μ-loop
-array-copy-out-to c = omega arith
-
 byte-at-requires-2 : tie.Need-byte-at-requires-2 Inv-loop μ-loop
 byte-at-requires-2 c κs = tt
 
 leg-requires : tie.Need-leg-requires Inv-loop μ-loop
 leg-requires c κs = tt
-
-mul-room : tie.Need-mul-room Inv-loop μ-loop
-mul-room c = omega arith
-
-slice-write-room : tie.Need-slice-write-room Inv-loop μ-loop
-slice-write-room c = omega arith
-
-add-b : tie.Need-add-b Inv-loop μ-loop
-add-b c = omega arith
 
 loop-less : tie.Need-loop-less Inv-loop μ-loop
 loop-less c = omega arith
@@ -55,14 +36,20 @@ loop-less c = omega arith
 loop-again : tie.Need-loop-again Inv-loop μ-loop
 loop-again c =
     let h = c .before .before .before .before in
-    let g = h .before .before .before .before .before in
-    (omega arith, simp length-set (h .loop .inv .1), row-more _ _ _ _ _ _ _ (h .loop .inv .2) _ _ _ (g .pre .0 .1) (c .before .before .before .loop-test .taken) (g .pre .1) (h .before .byte-at .ensures) (c .before .byte-at2 .ensures) (c .leg .ensures))
+    let g = h .before .before .before .before .before in (
+      omega arith,
+      simp length-set (h .loop .inv .1),
+      row-more _ _ _ _ _ _ _ (h .loop .inv .2) _ _ _ (g .pre .0 .1)
+          (c .before .before .before .loop-test .taken) (g .pre .1) (h .before .byte-at .ensures)
+          (c .before .byte-at2 .ensures) (c .leg .ensures),
+    )
 
 same-length : tie.Need-same-length Inv-loop μ-loop
 same-length c = c .before .loop .inv .1
 
 returns : tie.Need-returns Inv-loop μ-loop
-returns c = let e : c .before .loop .b ≡ c .before .before .before .before .before .before .args .t = omega arith in row-all _ _ _ _ _ _ _ (c .before .loop .inv .2) e
+returns c = let e : c .before .loop .b ≡ c .before .before .before .before .before .before .args .t =
+    omega arith in row-all _ _ _ _ _ _ _ (c .before .loop .inv .2) e
 
 pub fill-row-spec : {M : Type 1} → statement M
 fill-row-spec =
@@ -70,17 +57,13 @@ fill-row-spec =
     (tie.spec
     Inv-loop
     μ-loop
-    mul-from
-    array-copy-out-from
+    (λ c. omega arith) (λ c. omega arith)
     byte-at-requires
     loop-holds
-    mul-to
-    array-copy-out-to
+    (λ c. omega arith) (λ c. omega arith)
     byte-at-requires-2
     leg-requires
-    mul-room
-    slice-write-room
-    add-b
+    (λ c. omega arith) (λ c. omega arith) (λ c. omega arith)
     loop-less
     loop-again
     same-length

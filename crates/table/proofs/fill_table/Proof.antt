@@ -1,4 +1,5 @@
--- `table::fill_table` meets its contract. The invariant: the first a rows are filled, the rest of the room kept. Assumes nothing.
+-- `table::fill_table` meets its contract. The invariant: the first a rows are filled, the rest of the room kept.
+-- Assumes nothing.
 use mathlib.Core.Path.{_≡_, refl, _∙_}
 use mathlib.Core.List.{_++_}
 use Prim.Native.Nat.{_≤_, _-_, _*_}
@@ -13,7 +14,8 @@ use Rattle.table.proofs.fill_table.Statement.{statement}
 use Rattle.table.proofs.fill_table.Tie as tie
 
 abbrev Inv-loop : tie.InvT-loop
-Inv-loop room₀ items t owner a₀ room a = (a ≤ t) × (length room ≡ length room₀) × (room ≡ chained (rowOf (take t items) owner t) a 0 ++ drop (a * t) room₀)
+Inv-loop room₀ items t owner a₀ room a =
+    (a ≤ t) × (length room ≡ length room₀) × (room ≡ chained (rowOf (take t items) owner t) a 0 ++ drop (a * t) room₀)
 
 abbrev μ-loop : tie.MeasureT-loop
 μ-loop room₀ items t owner a₀ room a = t - a
@@ -32,28 +34,33 @@ unfolding chained
 loop-holds c = (omega arith, refl, rw (zero-mul))
 
 mul-at : tie.Need-mul-at Inv-loop μ-loop
-mul-at c = let s = c .before .before .before .before .before .before in omega (arith, square-small (s .args .t) (omega arith), row-fits (c .before .loop .a) (s .args .t) (omega arith))
+mul-at c = let s =
+    c .before .before .before .before .before .before in omega
+    (arith, square-small (s .args .t) (omega arith), row-fits (c .before .loop .a) (s .args .t) (omega arith))
 
 mul-fill-row : tie.Need-mul-fill-row Inv-loop μ-loop
-mul-fill-row c = let s = c .before .before .before .before .before .before in omega (arith, square-small (s .args .t) (omega arith), row-fits (c .before .loop .a) (s .args .t) (omega arith))
+mul-fill-row c = let s =
+    c .before .before .before .before .before .before in omega
+    (arith, square-small (s .args .t) (omega arith), row-fits (c .before .loop .a) (s .args .t) (omega arith))
 
 sub-fill-row : tie.Need-sub-fill-row Inv-loop μ-loop
-sub-fill-row c = let s = c .before .before .before .before .before .before in omega (arith, row-fits (c .before .loop .a) (s .args .t) (omega arith))
+sub-fill-row c = let s =
+    c .before .before .before .before .before .before in omega
+    (arith, row-fits (c .before .loop .a) (s .args .t) (omega arith))
 
 part-fill-row-start : tie.Need-part-fill-row-start Inv-loop μ-loop
-part-fill-row-start c = let s = c .before .before .before .before .before .before in omega (arith, row-fits (c .before .loop .a) (s .args .t) (omega arith))
-
-part-fill-row-end : tie.Need-part-fill-row-end Inv-loop μ-loop
-part-fill-row-end c = omega arith
+part-fill-row-start c = let s =
+    c .before .before .before .before .before .before in omega
+    (arith, row-fits (c .before .loop .a) (s .args .t) (omega arith))
 
 fill-row-requires : tie.Need-fill-row-requires Inv-loop μ-loop
 fill-row-requires c κs =
     let s = c .before .before .before .before .before .before .before in
-    let h = c .before .before .loop in
-    ((omega arith, omega arith), simp (length-take, length-drop) (omega (arith, row-fits (h .a) (s .args .t) (omega arith))))
-
-add-a : tie.Need-add-a Inv-loop μ-loop
-add-a c = omega arith
+    let h = c .before .before .loop in (
+      (omega arith, omega arith),
+      simp (length-take, length-drop)
+          (omega (arith, row-fits (h .a) (s .args .t) (omega arith))),
+    )
 
 loop-less : tie.Need-loop-less Inv-loop μ-loop
 loop-less c = omega arith
@@ -62,8 +69,13 @@ loop-again : tie.Need-loop-again Inv-loop μ-loop
 loop-again c =
     let h = c .before .before .before .before .before .loop in
     let r = c .before .before .fill-row in
-    let s = c .before .before .before .before .before .before .before .before .before .before .args in
-    (omega arith, c .before .room .given .1 ∙ h .inv .1, table-more (s .items) (s .t) (now (s .owner)) (now (s .room)) (h .a) (h .room) (h .inv .2) (r .last .0) (r .ensures))
+    let s = c .before .before .before .before .before .before .before .before .before .before .args in (
+      omega arith,
+      c .before .room .given .1
+          ∙ h .inv .1,
+      table-more (s .items) (s .t) (now (s .owner)) (now (s .room)) (h .a) (h .room) (h .inv .2)
+          (r .last .0) (r .ensures),
+    )
 
 same-length : tie.Need-same-length Inv-loop μ-loop
 same-length c = c .before .loop .inv .1
@@ -88,9 +100,9 @@ fill-table-spec =
     mul-fill-row
     sub-fill-row
     part-fill-row-start
-    part-fill-row-end
+    (λ c. omega arith)
     fill-row-requires
-    add-a
+    (λ c. omega arith)
     loop-less
     loop-again
     same-length

@@ -5,12 +5,6 @@ use lib.ListN.{List·getD-eq-default}
 use Rattle.table.proofs.float_at.Statement.{statement}
 use Rattle.table.proofs.float_at.Tie as tie
 
-mul-result : tie.Need-mul-result
-mul-result c = search needs
-
-shared-slice-read-result : tie.Need-shared-slice-read-result
-shared-slice-read-result c = search needs
-
 returns : tie.Need-returns
 returns c = search needs
 
@@ -19,4 +13,4 @@ unfolding div ofBits ofFields odd
 returns-2 c = rw (List·getD-eq-default (c .before .args .s .now) nan {n = c .before .args .i} (c .if1 .left))
 
 pub float-at-spec : {M : Type 1} → statement M
-float-at-spec = tie.close (tie.spec mul-result shared-slice-read-result returns returns-2)
+float-at-spec = tie.close (tie.spec (λ c. search needs) (λ c. search needs) returns returns-2)

@@ -9,12 +9,9 @@ returns : tie.Need-returns
 unfolding legOf
 returns c = rw (eq-eqb _ _ (c .if1 .taken))
 
-distance-requires : tie.Need-distance-requires
-distance-requires c κs = search needs
-
 returns-2 : tie.Need-returns-2
 unfolding legOf
 returns-2 c = rw (ne-eqb _ _ (c .before .if1 .left)) (c .distance .ensures)
 
 pub leg-spec : {M : Type 1} → statement M
-leg-spec = tie.close (tie.spec returns distance-requires returns-2)
+leg-spec = tie.close (tie.spec returns (λ c κs. search needs) returns-2)

@@ -9,7 +9,8 @@ use Rattle.text.proofs.put.Statement.{statement}
 use Rattle.text.proofs.put.Tie as tie
 
 abbrev Inv-loop : tie.InvT-loop
-Inv-loop page₀ at text next₀ i₀ page next i = (i ≤ length text) × (length page ≡ length page₀) × (paged next page ≡ put (take i text) (paged at page₀))
+Inv-loop page₀ at text next₀ i₀ page next i =
+    (i ≤ length text) × (length page ≡ length page₀) × (paged next page ≡ put (take i text) (paged at page₀))
 
 abbrev μ-loop : tie.MeasureT-loop
 μ-loop page₀ at text next₀ i₀ page next i = length text - i
@@ -18,14 +19,8 @@ loop-holds : tie.Need-loop-holds Inv-loop μ-loop
 unfolding put
 loop-holds c = (omega arith, refl, refl)
 
-shared-slice-read-put-byte : tie.Need-shared-slice-read-put-byte Inv-loop μ-loop
-shared-slice-read-put-byte c = omega arith
-
 put-byte-requires : tie.Need-put-byte-requires Inv-loop μ-loop
 put-byte-requires c κs = tt
-
-add-i : tie.Need-add-i Inv-loop μ-loop
-add-i c = omega arith
 
 loop-less : tie.Need-loop-less Inv-loop μ-loop
 loop-less c = omega arith
@@ -34,7 +29,8 @@ loop-again : tie.Need-loop-again Inv-loop μ-loop
 loop-again c = (
   omega arith,
   omega arith,
-  byte-more _ _ _ _ _ (c .before .before .before .before .before .loop-test .taken) (c .before .before .before .before .before .before .loop .inv .2) (c .before .before .put-byte .ensures),
+  byte-more _ _ _ _ _ (c .before .before .before .before .before .loop-test .taken)
+      (c .before .before .before .before .before .before .loop .inv .2) (c .before .before .put-byte .ensures),
 )
 
 same-length : tie.Need-same-length Inv-loop μ-loop
@@ -50,9 +46,9 @@ put-spec =
     Inv-loop
     μ-loop
     loop-holds
-    shared-slice-read-put-byte
+    (λ c. omega arith)
     put-byte-requires
-    add-i
+    (λ c. omega arith)
     loop-less
     loop-again
     same-length

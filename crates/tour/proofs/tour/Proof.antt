@@ -5,39 +5,29 @@ use borrow.Author.Needs.{needs}
 use Rattle.tour.proofs.tour.Statement.{statement}
 use Rattle.tour.proofs.tour.Tie as tie
 
-check-requires : tie.Need-check-requires
-check-requires c κs = search needs
-
-enum-known-r : tie.Need-enum-known-r
-enum-known-r c = search needs
-
 enum-told : tie.Need-enum-told
 enum-told c = search needs
 
 tour-of-fine-requires : tie.Need-tour-of-fine-requires
-tour-of-fine-requires c κs = sym (c .before .before .before .before .check .ensures) ∙ c .before .before .enum-told .given .1
+tour-of-fine-requires c κs =
+    sym (c .before .before .before .before .check .ensures) ∙ c .before .before .enum-told .given .1
 
 returns : tie.Need-returns
 returns c = tour-refused _ _ _ _ (c .before .before .before .check .ensures) _ (c .before .r .given .1)
 
-same-length : tie.Need-same-length
-same-length c = search needs
-
-same-length-2 : tie.Need-same-length-2
-same-length-2 c = search needs
-
 returns-2 : tie.Need-returns-2
-returns-2 c = tour-fine _ _ _ _ (c .before .before .before .before .before .before .before .before .before .check .ensures) _ (c .before .before .before .before .before .before .before .enum-told .given .1) (c .before .before .before .before .tour-of-fine .ensures)
+returns-2 c =
+    tour-fine _ _ _ _ (c .before .before .before .before .before .before .before .before .before .check .ensures) _
+    (c .before .before .before .before .before .before .before .enum-told .given .1)
+    (c .before .before .before .before .tour-of-fine .ensures)
 
 pub tour-spec : {M : Type 1} → statement M
 tour-spec =
     tie.close
     (tie.spec
-    check-requires
-    enum-known-r
+    (λ c κs. search needs) (λ c. search needs)
     enum-told
     tour-of-fine-requires
     returns
-    same-length
-    same-length-2
+    (λ c. search needs) (λ c. search needs)
     returns-2)

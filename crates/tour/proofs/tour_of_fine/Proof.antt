@@ -1,4 +1,5 @@
--- `tour::tour_of_fine` meets its contract: the rooms' refusals, or what the search leaves behind at the front of each. Assumes nothing.
+-- `tour::tour_of_fine` meets its contract: the rooms' refusals, or what the search leaves behind at the front of each.
+-- Assumes nothing.
 use mathlib.Core.Path.{sym, ap, _∙_}
 use Prim.Native.Nat.{ℕ, _*_}
 use native.Mathlib.Omega.{arith}
@@ -10,13 +11,20 @@ use Rattle.tour.proofs.tour_of_fine.Statement.{statement}
 use Rattle.tour.proofs.tour_of_fine.Tie as tie
 
 returns : tie.Need-returns
-returns c = let h = prepared-on _ (c .before .before .before .before .before .before .pre) _ (c .before .before .prepare .ensures) .held in room-refused _ _ _ _ _ (h .contours) (h .count) (c .if1 .taken)
+returns c = let h =
+    prepared-on _ (c .before .before .before .before .before .before .pre) _ (c .before .before .prepare .ensures)
+    .held in room-refused _ _ _ _ _ (h .contours) (h .count) (c .if1 .taken)
 
 mul-distances : tie.Need-mul-distances
-mul-distances c = let h = prepared-on _ (c .before .before .before .before .before .before .pre) _ (c .before .before .prepare .ensures) .held in omega arith
+mul-distances c = let h =
+    prepared-on _ (c .before .before .before .before .before .before .pre) _ (c .before .before .prepare .ensures)
+    .held in omega arith
 
 returns-2 : tie.Need-returns-2
-returns-2 c = let h = prepared-on _ (c .before .before .before .before .before .before .before .pre) _ (c .before .before .before .prepare .ensures) .held in table-refused _ _ _ _ _ (h .contours) (h .count) (c .before .if1 .left) (c .if2 .taken)
+returns-2 c = let h =
+    prepared-on _ (c .before .before .before .before .before .before .before .pre) _
+    (c .before .before .before .prepare .ensures) .held in table-refused _ _ _ _ _ (h .contours) (h .count)
+    (c .before .if1 .left) (c .if2 .taken)
 
 slice-aggregate-run : tie.Need-slice-aggregate-run
 slice-aggregate-run c = part-lent _ _ (c .before .before .if1 .left)
@@ -45,8 +53,11 @@ returns-3 c =
     let p = e .prepare .result in
     let r = c .before .before .before .before .run in
     let h = prepared-on _ (e .before .before .before .before .pre) _ (e .prepare .ensures) .held in
-    rooms-passed (now (a .card)) (now (a .room)) (now (a .table)) (p .all .contours) (p .all .count) (h .contours) (h .count) _ (c .before .before .before .before .before .before .before .before .if1 .left) (c .before .before .before .before .before .before .before .if2 .left)
-    (toured-is _ (now (a .room)) _ (now (a .table)) _ _ (p .all .contours) (p .all .count * p .all .count) (r .ensures .0) (r .kept .1 .1 .0) (r .ensures .1) (ap (λ (t : ℕ). t * t) (h .count)))
+    rooms-passed (now (a .card)) (now (a .room)) (now (a .table)) (p .all .contours) (p .all .count) (h .contours)
+    (h .count) _ (c .before .before .before .before .before .before .before .before .if1 .left)
+    (c .before .before .before .before .before .before .before .if2 .left)
+    (toured-is _ (now (a .room)) _ (now (a .table)) _ _ (p .all .contours) (p .all .count * p .all .count)
+    (r .ensures .0) (r .kept .1 .1 .0) (r .ensures .1) (ap (λ (t : ℕ). t * t) (h .count)))
 
 pub tour-of-fine-spec : {M : Type 1} → statement M
 tour-of-fine-spec =
@@ -61,6 +72,5 @@ tour-of-fine-spec =
     (λ c. search needs)
     slice-aggregate-run-2
     run-requires
-    (λ c. search needs)
-    (λ c. search needs)
+    (λ c. search needs) (λ c. search needs)
     returns-3)
