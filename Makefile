@@ -1,7 +1,7 @@
 # The proofs are rt's; this file joins them with what is built around them in Rust and C.
 #   make               proves every crate and builds the programs
 #   make job           proves the program cutlist and prints the list of CARD
-#   make test          the gate (rt ci), then every test on what it proved; the last line is the gate's own
+#   make test          the gate (rt ci), then every test on what it proved and refused; the last line is the gate's own
 #   make differential  the comparisons in full size          make bench   the speed figures
 #   make soak SECONDS=600 SEED=7   comparisons from a seed for a time
 #   make fuzz SECONDS=600 SEED=7   any bytes through the exports, between guard pages, led by what they reach
@@ -16,6 +16,9 @@ SEED ?= 1
 SECONDS ?= 600
 # `make test` compares the quick parts in full size, and so many percent of the others.
 PERCENT ?= 5
+
+# Four edits side by side are quickest on two processors: each waits now and then.
+export RT_JOBS ?= 4
 
 CARGO = cargo
 # Without the original the comparisons with it are left out, and say so.
@@ -37,6 +40,8 @@ job:
 test:
 	@log=$$(mktemp) && trap "rm -f $$log" EXIT && \
 	{ rt ci >$$log 2>&1 || { cat $$log; exit 1; }; } && cat $$log && tail -n 1 $$log >target/gate
+	gate/test.sh
+	gate/refusals.sh
 	@$(MAKE) --no-print-directory $(if $(shell command -v $(CARGO)),hosts,no-cargo)
 	@cat target/gate
 
