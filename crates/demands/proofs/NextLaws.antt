@@ -10,7 +10,7 @@ use native.Mathlib.Omega.{arith}
 use borrow.Author.Tests.{eqb-false, le-leb}
 use lib.Dec.{eqb, lit≤}
 use lib.Ieee.{Float, nan, inf, fin, ofBits, ofFields, odd}
-use lib.ListN.{length, getD, set, length-append}
+use lib.ListN.{length, getD, length-append}
 use Rattle.answer.specs.declared.Point.{Point}
 use Rattle.answer.specs.declared.Check.the-variants.{Fine}
 use Rattle.points.specs.Distance.{distanceOf}
@@ -56,9 +56,8 @@ step-grows g n i w =
     let choice = chosen g w n in
     go (choice .found) (choice .contour) (choice .candidate)
   where
-    go : (b : Bool) (k a : ℕ)
-        → length (cond b (record { tour = w .tour ++ (a ∷ []); visited = set (w .visited) k 1 }) w .tour) ≤ suc
-        (length (w .tour))
+    go : (b : Bool) (k a : ℕ) → length (cond b
+        (record { tour = w .tour ++ (a ∷ []); visited = w .visited ++ (k ∷ []) }) w .tour) ≤ suc (length (w .tour))
     go true k a = let e = length-append (w .tour) (a ∷ []) in omega arith
     go false k a = omega arith
 

@@ -67,7 +67,7 @@ pub record Apart (s : List ℕ) (a b : ℕ) : Type 0 where
 abbrev pub groundOn : List ℕ → Ground
 groundOn s = groundIn (chartOn s)
 
--- how far the start has come after p steps: its tour, and a flag for each contour visited
+-- how far the start has come after p steps: its tour, and the contours visited
 abbrev pub wayOn : List ℕ → ℕ → Way
 wayOn s p = each (step (groundOn s) (contoursOf s)) p 0 setOut
 
@@ -90,7 +90,7 @@ pub record Takes (s : List ℕ) (w after : Way) (a : ℕ) : Type 0 where
   pub least : (b : ℕ) → Ready s w b → T (le (reachOn s w a) (reachOn s w b))
   pub first : (b : ℕ) → Ready s w b → b < a → lt (reachOn s w a) (reachOn s w b) ≡ true
   pub put : after .tour ≡ w .tour ++ (a ∷ [])
-  pub marked : after .visited ≡ set (w .visited) (ready .contour) 1
+  pub marked : after .visited ≡ w .visited ++ (ready .contour ∷ [])
 
 -- a step for each contour
 pub record Starts (s : List ℕ) : Type 0 where

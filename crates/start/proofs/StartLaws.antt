@@ -23,10 +23,11 @@ use Rattle.keep.specs.Legal.{Legal}
 use Rattle.table.specs.Each.{each}
 use Rattle.table.specs.Evaluate.{homeAt, distanceAt}
 use Rattle.points.specs.Numbers.{huge}
-use Rattle.start.specs.Nearest.{Ground, Way, reachOf, isOpen, chosen, visit, step, flagCount, setOut, walked}
-use Rattle.start.specs.Nearest.{nearest}
+use Rattle.start.specs.Code.{flagCount, Flags}
+use Rattle.start.specs.Nearest.{Ground, Way, reachOf, isOpen, chosen, visit, step, setOut, walked, nearest}
 use Rattle.start.specs.declared.Choice.{Choice}
 use Rattle.start.proofs.ChoiceLaws.{InContour, Fair, chosen-fair, chosen-found}
+use Rattle.start.proofs.FlagLaws.{none-marked, flags-none, flags-more, open-is}
 use Rattle.start.proofs.FreeLaws.{left, left-all, some-left, one-less}
 
 -- ---- what is asked of the ground
@@ -44,12 +45,14 @@ pub record Come (g : Ground) (n i : ℕ) (w : Way) : Type 0 where
   pub order : List ℕ
   pub size : length order ≡ i
   pub long : length (w .tour) ≡ i
-  pub flags : length (w .visited) ≡ flagCount
-  pub rest : left n (w .visited) + i ≡ n
+  pub flags : List ℕ
+  pub flagged : Flags flags (w .visited)
+  pub all-flags : length flags ≡ flagCount
+  pub rest : left n flags + i ≡ n
   pub within : (q : ℕ) → q < i → getD order q 0 < n
-  pub marked : (q : ℕ) → q < i → getD (w .visited) (getD order q 0) 0 ≡ 1
+  pub marked : (q : ℕ) → q < i → getD flags (getD order q 0) 0 ≡ 1
   pub candidate : (q : ℕ) → q < i → InContour (g .first) (getD order q 0) (getD (w .tour) q 0)
-  pub met : (k : ℕ) → (getD (w .visited) k 0 ≡ 0 → ⊥) → (q : ℕ) × (q < i) × (getD order q 0 ≡ k)
+  pub met : (k : ℕ) → (getD flags k 0 ≡ 0 → ⊥) → (q : ℕ) × (q < i) × (getD order q 0 ≡ k)
   pub once : (p q : ℕ) → p < i → q < i → getD order p 0 ≡ getD order q 0 → p ≡ q
   pub after : (q b : ℕ) → q < i → linked n (g .pairs) b (getD order q 0) ≡ true
       → (p : ℕ) × (p < q) × (getD order p 0 ≡ b)
@@ -78,23 +81,21 @@ ready-visited n visited pairs b k r l =
     not-zero (getD visited b 0) (or-else (not (eqb k k)) (not (eqb (getD visited b 0) 0)) e (ap not (eq-eqb k k refl)))
 
 -- an open contour: not visited, and ready
-open-unvisited : (g : Ground) (w : Way) (k : ℕ) → isOpen g w k ≡ true → getD (w .visited) k 0 ≡ 0
-unfolding isOpen
-open-unvisited g w k e =
-    eqb-true (getD (w .visited) k 0) 0 (and-first (eqb (getD (w .visited) k 0) 0) (readyIn (w .visited) (g .pairs) k) e)
+module _ (flags : List ℕ) (g : Ground) (w : Way) (f : Flags flags (w .visited)) (k : ℕ) where
+  open-unvisited : isOpen g w k ≡ true → getD flags k 0 ≡ 0
+  open-unvisited e =
+      eqb-true (getD flags k 0) 0
+      (and-first (eqb (getD flags k 0) 0) (readyIn flags (g .pairs) k) (sym (open-is flags w f k g) ∙ e))
 
-open-ready : (g : Ground) (w : Way) (k : ℕ) → isOpen g w k ≡ true → readyIn (w .visited) (g .pairs) k ≡ true
-unfolding isOpen
-open-ready g w k e = go (eqb (getD (w .visited) k 0) 0) e
-  where
-    go : (b : Bool) → (b && readyIn (w .visited) (g .pairs) k) ≡ true → readyIn (w .visited) (g .pairs) k ≡ true
-    go true h = h
-    go false h = absurd (true≢false (sym h))
+  open-ready : isOpen g w k ≡ true → readyIn flags (g .pairs) k ≡ true
+  open-ready e = go (eqb (getD flags k 0) 0) (sym (open-is flags w f k g) ∙ e)
+    where
+      go : (b : Bool) → (b && readyIn flags (g .pairs) k) ≡ true → readyIn flags (g .pairs) k ≡ true
+      go true h = h
+      go false h = absurd (true≢false (sym h))
 
-ready-open : (g : Ground) (w : Way) (k : ℕ) → getD (w .visited) k 0 ≡ 0 → readyIn (w .visited) (g .pairs) k ≡ true
-    → isOpen g w k ≡ true
-unfolding isOpen
-ready-open g w k e r = rw (eq-eqb (getD (w .visited) k 0) 0 e, r)
+  ready-open : getD flags k 0 ≡ 0 → readyIn flags (g .pairs) k ≡ true → isOpen g w k ≡ true
+  ready-open e r = open-is flags w f k g ∙ rw (eq-eqb (getD flags k 0) 0 e, r)
 
 -- ---- one contour more
 
@@ -102,13 +103,13 @@ module _ (g : Ground) (n i : ℕ) (w : Way) (c : Come g n i w) (small : n ≤ fl
     (o : isOpen g w k ≡ true) (m : InContour (g .first) k a) where
   not-yet : (q : ℕ) → q < i → getD (c .order) q 0 ≡ k → ⊥
   not-yet q l e =
-      let one : getD (w .visited) k 0 ≡ 1 = ap (λ (x : ℕ). getD (w .visited) x 0) (sym e) ∙ c .marked q l in
-      let none : getD (w .visited) k 0 ≡ 0 = open-unvisited g w k o in
+      let one : getD (c .flags) k 0 ≡ 1 = ap (λ (x : ℕ). getD (c .flags) x 0) (sym e) ∙ c .marked q l in
+      let none : getD (c .flags) k 0 ≡ 0 = open-unvisited (c .flags) g w (c .flagged) k o in
       let z : _≡_ {A = ℕ} 0 1 = sym none ∙ one in
       omega arith
 
-  room : k < length (w .visited)
-  room = rw (c .flags) (omega arith)
+  room : k < length (c .flags)
+  room = rw (c .all-flags) (omega arith)
 
   split : (q : ℕ) → q < suc i → (q ≡ i) ⊎ (q < i)
   split q l = eq-or-lt-of-le (le-of-suc-le-suc l)
@@ -119,17 +120,19 @@ module _ (g : Ground) (n i : ℕ) (w : Way) (c : Come g n i w) (small : n ≤ fl
   new : getD (c .order ++ (k ∷ [])) i 0 ≡ k
   new = newest (c .order) k i (c .size)
 
-  pub come-more : Come g n (suc i) (record { tour = w .tour ++ (a ∷ []); visited = set (w .visited) k 1 })
+  pub come-more : Come g n (suc i) (record { tour = w .tour ++ (a ∷ []); visited = w .visited ++ (k ∷ []) })
   come-more = record {
     order = c .order ++ (k ∷ []);
     size = length-append (c .order) (k ∷ []) ∙ omega (arith, c .size);
     long = length-append (w .tour) (a ∷ []) ∙ omega (arith, c .long);
-    flags = length-set (w .visited) k 1 ∙ c .flags;
-    rest = omega (arith, one-less n k (w .visited) h room (open-unvisited g w k o), c .rest);
+    flags = set (c .flags) k 1;
+    flagged = flags-more (c .flags) (w .visited) k room (c .flagged);
+    all-flags = length-set (c .flags) k 1 ∙ c .all-flags;
+    rest = omega (arith, one-less n k (c .flags) h room (open-unvisited (c .flags) g w (c .flagged) k o), c .rest);
     within = λ q l. ⊎-elim (λ (e : q ≡ i). rw (e, new) h) (λ (s : q < i). rw (old q s) (c .within q s)) (split q l);
     marked = λ q l. ⊎-elim
-        (λ (e : q ≡ i). rw (e, new) (getD-set-same (w .visited) k 1 0 room))
-        (λ (s : q < i). rw (old q s) (getD-set-other (w .visited) k (getD (c .order) q 0) 1 0 (not-yet q s)
+        (λ (e : q ≡ i). rw (e, new) (getD-set-same (c .flags) k 1 0 room))
+        (λ (s : q < i). rw (old q s) (getD-set-other (c .flags) k (getD (c .order) q 0) 1 0 (not-yet q s)
         ∙ c .marked q s)) (split q l);
     candidate = λ q l. ⊎-elim
         (λ (e : q ≡ i). rw (e, new, newest (w .tour) a i (c .long)) m)
@@ -137,7 +140,7 @@ module _ (g : Ground) (n i : ℕ) (w : Way) (c : Come g n i w) (small : n ≤ fl
     met = λ x v. ⊎-elim
         (λ (e : x ≡ k). (i, omega arith, new ∙ sym e))
         (λ (d : x ≡ k → ⊥).
-        let f = c .met x (λ z. v (getD-set-other (w .visited) k x 1 0 d ∙ z)) in
+        let f = c .met x (λ z. v (getD-set-other (c .flags) k x 1 0 d ∙ z)) in
         (f .0, omega (arith, f .1), old (f .0) (f .1) ∙ f .2)) (same-or x k);
     once = λ p q l r e. ⊎-elim
         (λ (x : p ≡ i). ⊎-elim (λ (y : q ≡ i). x ∙ sym y)
@@ -151,7 +154,8 @@ module _ (g : Ground) (n i : ℕ) (w : Way) (c : Come g n i w) (small : n ≤ fl
         (λ (e : q ≡ i).
         let link : linked n (g .pairs) b k ≡ true =
         ap (linked n (g .pairs) b) (sym (ap (λ (z : ℕ). getD (c .order ++ (k ∷ [])) z 0) e ∙ new)) ∙ t in
-        let f = c .met b (ready-visited n (w .visited) (g .pairs) b k (open-ready g w k o) link) in
+        let f = c .met b (ready-visited n (c .flags) (g .pairs) b k
+        (open-ready (c .flags) g w (c .flagged) k o) link) in
         (f .0, omega (arith, f .1), old (f .0) (f .1) ∙ f .2))
         (λ (s : q < i).
         let f = c .after q b s (ap (linked n (g .pairs) b) (sym (old q s)) ∙ t) in
@@ -166,7 +170,7 @@ suc-sub-one i = omega arith
 module _ (g : Ground) (n : ℕ) (near : Within g n) (free : Acyclic n (g .pairs))
     (low : every (both n) (paired (g .pairs)) ≡ true) (small : n ≤ flagCount) where
   -- the first candidate of a contour not yet visited is within reach
-  in-reach : (i : ℕ) (w : Way) → Come g n i w → (k a : ℕ) → k < n → getD (w .visited) k 0 ≡ 0 → InContour (g .first) k a
+  in-reach : (i : ℕ) (w : Way) (c : Come g n i w) (k a : ℕ) → k < n → getD (c .flags) k 0 ≡ 0 → InContour (g .first) k a
       → lt (reachOf g w a) huge ≡ true
   unfolding reachOf
   in-reach zero w c k a h e m = rw (c .long) (near .home k a h m)
@@ -177,16 +181,16 @@ module _ (g : Ground) (n : ℕ) (near : Within g n) (free : Acyclic n (g .pairs)
     where
       other : k ≡ getD (c .order) i 0 → ⊥
       other q =
-          let z : _≡_ {A = ℕ} 0 1 = sym e ∙ ap (λ (x : ℕ). getD (w .visited) x 0) q ∙ c .marked i (omega arith) in
+          let z : _≡_ {A = ℕ} 0 1 = sym e ∙ ap (λ (x : ℕ). getD (c .flags) x 0) q ∙ c .marked i (omega arith) in
           omega arith
 
   -- one step: something is found, and it is a contour more
   come-step : (i j : ℕ) (w : Way) → i < n → Come g n i w → Come g n (suc i) (step g n j w)
   unfolding step visit
-  come-step i j w l c = go (one-ready n (w .visited) (g .pairs) free low (one .0) (one .1) (one .2))
+  come-step i j w l c = go (one-ready n (c .flags) (g .pairs) free low (one .0) (one .1) (one .2))
     where
-      one : (k : ℕ) × (k < n) × (getD (w .visited) k 0 ≡ 0)
-      one = some-left n (w .visited) (omega (arith, c .rest))
+      one : (k : ℕ) × (k < n) × (getD (c .flags) k 0 ≡ 0)
+      one = some-left n (c .flags) (omega (arith, c .rest))
 
       choice : Choice
       choice = chosen g w n
@@ -195,12 +199,13 @@ module _ (g : Ground) (n : ℕ) (near : Within g n) (free : Acyclic n (g .pairs)
       taken e f =
           rw e (come-more g n i w c small (choice .contour) (choice .candidate) (f .within) (f .«open») (f .candidate))
 
-      go : (m : ℕ) × ReadyNext n (w .visited) (g .pairs) m → Come g n (suc i) (visit choice w)
+      go : (m : ℕ) × ReadyNext n (c .flags) (g .pairs) m → Come g n (suc i) (visit choice w)
       go (m, r) =
           let first : InContour (g .first) m (getD (g .first) m 0) =
           record { from = omega arith; to = near .some m (r .within) } in
           let e : choice .found ≡ true =
-          chosen-found g w n m (getD (g .first) m 0) (r .within) (ready-open g w m (r .unvisited) (r .ready)) first
+          chosen-found g w n m (getD (g .first) m 0) (r .within)
+          (ready-open (c .flags) g w (c .flagged) m (r .unvisited) (r .ready)) first
           (in-reach i w c m (getD (g .first) m 0) (r .within) (r .unvisited) first) in
           taken e (chosen-fair g w n e)
 
@@ -211,19 +216,14 @@ module _ (g : Ground) (n : ℕ) (near : Within g n) (free : Acyclic n (g .pairs)
       rw (add-suc i k, ← suc-add i k) (come-all k (suc a) (suc i) (step g n a w) (omega arith)
       (come-step i a w (omega arith) c))
 
--- nothing is marked at first
-none-marked : (size k : ℕ) → _≡_ {A = ℕ} (getD (replicate size 0) k 0) 0
-none-marked zero k = refl
-none-marked (suc size) zero = refl
-none-marked (suc size) (suc k) = none-marked size k
-
-come-none : (g : Ground) (n size : ℕ) → size ≡ flagCount → n ≤ size
-    → Come g n 0 (record { tour = []; visited = replicate size 0 })
+come-none : (g : Ground) (n size : ℕ) → size ≡ flagCount → n ≤ size → Come g n 0 setOut
 come-none g n size s h = record {
   order = [];
   size = refl;
   long = refl;
-  flags = length-replicate size 0 ∙ s;
+  flags = replicate size 0;
+  flagged = flags-none size;
+  all-flags = length-replicate size 0 ∙ s;
   rest = omega (arith, left-all n size h);
   within = λ q l. absurd (omega arith);
   marked = λ q l. absurd (omega arith);

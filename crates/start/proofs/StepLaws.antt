@@ -1,6 +1,6 @@
 -- A start's steps, as the code takes them. Assumes nothing.
 use mathlib.Core.Bool.{Bool, true, false}
-use mathlib.Core.List.{List, [], _∷_}
+use mathlib.Core.List.{List, [], _∷_, _++_}
 use mathlib.Core.Path.{_≡_, refl, sym, ap, _∙_}
 use Prim.Native.Nat.{ℕ, _+_, _-_, _≤_, _<_}
 use native.Mathlib.Nat.{add-sub-cancel}
@@ -14,10 +14,11 @@ use Rattle.closure.specs.Limits.{CONTOURS}
 use Rattle.keep.specs.Keep.{readyIn}
 use Rattle.table.specs.Each.{each}
 use Rattle.table.specs.Evaluate.{homeAt, distanceAt}
-use Rattle.start.specs.Code.{groundOf, Tells, Written}
+use Rattle.start.specs.Code.{groundOf, Tells, Flags, Written}
 use Rattle.start.specs.Nearest.{reachOf, closer, offer, offered, isOpen, considered, chosen, nothingYet, Ground}
 use Rattle.start.specs.Nearest.{Way, lastOf, visit, step, setOut, walked, nearest}
 use Rattle.start.specs.declared.Choice.{Choice}
+use Rattle.start.proofs.FlagLaws.{open-is}
 
 -- ---- how far
 
@@ -66,15 +67,15 @@ offered-is first g w k from end best after q e f h =
 
 -- ---- which contours
 
-module _ (visited pairs : List ℕ) (g : Ground) (w : Way) (v : visited ≡ w .visited) (p : pairs ≡ g .pairs)
+module _ (visited pairs : List ℕ) (g : Ground) (w : Way) (v : Flags visited (w .visited)) (p : pairs ≡ g .pairs)
     (k flag : ℕ) (e : flag ≡ getD visited k 0) where
   pub open-not : (flag ≡ 0 → ⊥) → false ≡ isOpen g w k
-  unfolding isOpen
-  open-not h = rw (← v, ← e, ne-eqb flag 0 h)
+  open-not h = sym (open-is visited w v k g ∙ rw (← e, ne-eqb flag 0 h))
 
   pub open-ready : (ready : Bool) → flag ≡ 0 → ready ≡ readyIn visited pairs k → ready ≡ isOpen g w k
-  unfolding isOpen
-  open-ready ready h r = rw (← v, ← p, ← e, eq-eqb flag 0 h) r
+  open-ready ready h r =
+      let q : ready ≡ readyIn visited (g .pairs) k = r ∙ ap (λ (l : List ℕ). readyIn visited l k) p in
+      sym (open-is visited w v k g ∙ rw (← e, eq-eqb flag 0 h, ← q))
 
 module _ (g : Ground) (w : Way) (k : ℕ) (best : Choice) (yea : Bool) (asked : yea ≡ isOpen g w k) where
   pub passed-over : yea ≡ false → considered g w k best ≡ best
@@ -93,14 +94,13 @@ chosen-is g w n best e = e
 
 -- ---- the way
 
--- a way as it stands in a room: the first `made` entries, and the flags
+-- a way as it stands in a room: the first `made` entries, and the contours visited
 abbrev pub wayOf : List ℕ → List ℕ → ℕ → Way
 wayOf tour visited made = record { tour = take made tour; visited = visited }
 
 -- what the code keeps beside it tells where it has come to
 pub way-told : (home table : List Float) (t : ℕ) (first pairs tour visited : List ℕ) (made last : ℕ)
-    → made < length tour
-    → last ≡ lastOf (take made tour)
+    → made < length tour → last ≡ lastOf (take made tour)
     → Tells home table t made last (groundOf home table t first pairs) (wayOf tour visited made)
 way-told home table t first pairs tour visited made last h l =
     let e : length (take made tour) ≡ made = length-take-le made tour (omega arith) in
@@ -120,7 +120,7 @@ module _ (g : Ground) (n i : ℕ) (tour visited : List ℕ) (made : ℕ) (choice
   -- the choice becomes the last entry
   pub step-goes : choice .found ≡ true
       → step g n i (wayOf tour visited made)
-      ≡ wayOf (set tour made (choice .candidate)) (set visited (choice .contour) 1) (made + 1)
+      ≡ wayOf (set tour made (choice .candidate)) (visited ++ (choice .contour ∷ [])) (made + 1)
   unfolding visit
   step-goes e = step-visits ∙ rw (e, add-one made, take-suc-set tour made (choice .candidate) h)
 

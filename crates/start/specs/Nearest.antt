@@ -1,12 +1,12 @@
 -- The nearest-neighbour start: step by step the nearest candidate of a contour that is ready. Assumes nothing.
-use mathlib.Core.Bool.{Bool, true, false, cond, _&&_}
+use mathlib.Core.Bool.{Bool, true, false, not, cond, _&&_, _||_}
 use mathlib.Core.List.{List, [], _∷_, _++_}
 use Prim.Native.Nat.{ℕ, suc, _-_}
 use lib.Dec.{eqb, leb}
 use lib.Ieee.{Float, lt}
-use lib.ListN.{length, getD, set, replicate}
+use lib.ListN.{length, getD}
 use Rattle.closure.specs.Limits.{CONTOURS}
-use Rattle.keep.specs.Keep.{readyIn}
+use Rattle.closure.specs.Pairs.{Pair, paired, every}
 use Rattle.points.specs.Numbers.{huge}
 use Rattle.table.specs.Each.{each}
 use Rattle.table.specs.Evaluate.{homeAt, distanceAt}
@@ -21,7 +21,7 @@ pub record Ground : Type 0 where
   pub first : List ℕ
   pub pairs : List ℕ
 
--- how far a start has come: its tour, and a flag for each contour visited
+-- how far a start has come: its tour, and the contours visited, in the same order
 pub record Way : Type 0 where
   pub tour : List ℕ
   pub visited : List ℕ
@@ -30,9 +30,10 @@ pub record Way : Type 0 where
 abbrev pub lastOf : List ℕ → ℕ
 lastOf tour = getD tour (length tour - 1) 0
 
--- contour k is still to be visited: its flag is not set
-abbrev pub isLeft : Way → ℕ → Bool
-isLeft w k = eqb (getD (w .visited) k 0) 0
+-- a number is in a list
+unfoldable pub isIn : ℕ → List ℕ → Bool
+isIn k [] = false
+isIn k (x ∷ more) = eqb x k || isIn k more
 
 -- ---- one step
 
@@ -59,9 +60,13 @@ offered g w k best =
     let from = getD (g .first) k 0 in
     each (offer g w k) (getD (g .first) (suc k) 0 - from) from best
 
--- a contour still to be visited, and nothing before it is
+-- where a pair puts another contour before k, that one is visited
+abbrev pub clears : Way → ℕ → Pair → Bool
+clears w k p = not (eqb (p .after) k) || isIn (p .before) (w .visited)
+
+-- a contour that is not visited, while all that must come before it are
 unfoldable pub isOpen : Ground → Way → ℕ → Bool
-isOpen g w k = isLeft w k && readyIn (w .visited) (g .pairs) k
+isOpen g w k = not (isIn k (w .visited)) && every (clears w k) (paired (g .pairs))
 
 -- contour k is considered where it is open
 unfoldable pub considered : Ground → Way → ℕ → Choice → Choice
@@ -76,23 +81,17 @@ chosen g w n = each (considered g w) n 0 nothingYet
 -- the choice is visited, if there was one
 unfoldable pub visit : Choice → Way → Way
 visit choice w =
-    let after = record {
-      tour = w .tour ++ (choice .candidate ∷ []);
-      visited = set (w .visited) (choice .contour) 1;
-    } in
-    cond (choice .found) after w
+    let tour = w .tour ++ (choice .candidate ∷ []) in
+    let visited = w .visited ++ (choice .contour ∷ []) in
+    cond (choice .found) (record { tour = tour; visited = visited }) w
 
 -- one step over n contours; which one it is makes no difference
 unfoldable pub step : Ground → ℕ → ℕ → Way → Way
 step g n i w = visit (chosen g w n) w
 
--- a flag for each number that a contour can have
-abbrev pub flagCount : ℕ
-flagCount = 256
-
 -- nothing is visited
 abbrev pub setOut : Way
-setOut = record { tour = []; visited = replicate flagCount 0 }
+setOut = record { tour = []; visited = [] }
 
 -- n steps over n contours
 unfoldable pub walked : Ground → ℕ → Way

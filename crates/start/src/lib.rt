@@ -7,7 +7,7 @@ ghost use Prim.Native.Nat.{_-_};
 ghost use Rattle.closure.specs.Limits.{CONTOURS};
 ghost use Rattle.table.specs.Each.{each};
 ghost use Rattle.start.specs.Nearest.{Ground, Way, reachOf, closer, offer, offered, isOpen, chosen, nearest};
-ghost use Rattle.start.specs.Code.{groundOf, Tells, Written};
+ghost use Rattle.start.specs.Code.{groundOf, Tells, Flags, Written};
 
 // A flag for each number that a contour can have.
 const FLAGS: usize = 256;
@@ -22,7 +22,8 @@ struct Choice {
 
 // How far candidate a is from where the tour has come to after so many stops.
 fn reach(home: &[f64], table: &[f64], t: u8, made: usize, last: u8, a: u8) -> f64
-    ensures { λ r. ⌜ ((g : Ground) (w : Way) → Tells (now (home .entry)) (now (table .entry)) t made last g w → r ≡ reachOf g w a) ⌝ }
+    ensures { λ r. ⌜ ((g : Ground) (w : Way) → Tells (now (home .entry)) (now (table .entry)) t made last g w
+        → r ≡ reachOf g w a) ⌝ }
 {
     if made == 0 {
         return table::home_at(home, a);
@@ -92,7 +93,7 @@ fn offers(
 
 // Contour k is not visited, and nothing is left to visit before it.
 fn is_open(visited: &[u8], pairs: &[u8], k: u8) -> bool
-    ensures { λ r. ⌜ ((g : Ground) (w : Way) → now (visited .entry) ≡ w .visited → now (pairs .entry) ≡ g .pairs
+    ensures { λ r. ⌜ ((g : Ground) (w : Way) → Flags (now (visited .entry)) (w .visited) → now (pairs .entry) ≡ g .pairs
         → r ≡ isOpen g w k) ⌝ }
 {
     if table::byte_at(visited, k as usize) != 0 {
@@ -114,7 +115,8 @@ fn choose(
     last: u8,
 ) -> Choice
     ensures { λ r. ⌜ ((g : Ground) (w : Way) → Tells (now (home .entry)) (now (table .entry)) t made last g w
-        → now (first .entry) ≡ g .first → now (pairs .entry) ≡ g .pairs → now (visited .entry) ≡ w .visited → r ≡ chosen g w n) ⌝ }
+        → now (first .entry) ≡ g .first → now (pairs .entry) ≡ g .pairs → Flags (now (visited .entry)) (w .visited)
+        → r ≡ chosen g w n) ⌝ }
 {
     let mut best = Choice {
         distance: HUGE,

@@ -112,7 +112,7 @@ step-below g n t i w bound h =
     omega (arith, f .candidate .to))
   where
     go : (b : Bool) (k a : ℕ) → (b ≡ true → a < t)
-        → AllBelow t (cond b (record { tour = w .tour ++ (a ∷ []); visited = set (w .visited) k 1 }) w .tour)
+        → AllBelow t (cond b (record { tour = w .tour ++ (a ∷ []); visited = w .visited ++ (k ∷ []) }) w .tour)
     go true k a less = below-both t (w .tour) (a ∷ []) h (less refl, tt)
     go false k a less = h
 

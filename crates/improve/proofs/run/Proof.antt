@@ -118,7 +118,8 @@ add-j-2 c =
       arith,
       c .before .before .before .before .before .before .before .loop2-test .taken,
       c .before .before
-          .before .before .before .before .before .before .before .before .before .before .before .before .before .before
+          .before .before .before .before .before .before .before .before .before .before .before .before .before
+          .before
           .before .before .before .before .before .before .before .before .before .before .pre,
     )
 

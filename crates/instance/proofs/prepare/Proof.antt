@@ -6,7 +6,7 @@ use Rattle.instance.proofs.prepare.Tie as tie
 
 returns : tie.Need-returns
 returns c =
-    let b = c in
+    let b = c .before in
     prepared-is _ (b .before .before .before .gather .ensures) (b .before .before .home .ensures)
     (b .before .homes-of .ensures)
     (b .pair-places .ensures)

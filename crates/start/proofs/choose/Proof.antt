@@ -7,7 +7,7 @@ use borrow.Author.Needs.{needs}
 use borrow.Author.Tests.{not-true, not-false}
 use Rattle.table.proofs.EachLaws.{onwards, begin-zero, carry, arrive}
 use Rattle.table.specs.Each.{each}
-use Rattle.start.specs.Code.{Tells}
+use Rattle.start.specs.Code.{Tells, Flags}
 use Rattle.start.specs.Nearest.{Ground, Way, considered, nothingYet}
 use Rattle.start.proofs.StepLaws.{passed-over, looked-at, chosen-is}
 use Rattle.start.proofs.choose.Statement.{statement}
@@ -16,7 +16,7 @@ use Rattle.start.proofs.choose.Tie as tie
 abbrev Inv-loop : tie.InvT-loop
 Inv-loop home table t first pairs visited n made last best₀ k₀ best k =
     ((g : Ground) (w : Way) → Tells home table t made last g w → first ≡ g .first → pairs ≡ g .pairs
-    → visited ≡ w .visited
+    → Flags visited (w .visited)
     → onwards (considered g w) n k best ≡ each (considered g w) n 0 nothingYet)
     × (k < 256)
 
