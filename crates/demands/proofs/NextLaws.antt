@@ -24,6 +24,7 @@ use Rattle.table.proofs.DistanceLaws.{same-contour, homes-at}
 use Rattle.table.proofs.EachLaws.{each-keeps}
 use Rattle.start.specs.Nearest.{Ground, Way, reachOf, lastOf, chosen, visit, step, setOut, walked, nearest}
 use Rattle.start.proofs.ChoiceLaws.{chosen-fair}
+use Rattle.start.proofs.StepLaws.{last-at}
 use Rattle.instance.proofs.OwnerLaws.{gathered-grows, first-at}
 use Rattle.instance.specs.Search.{homeOn, candidatesOn, countOn, ownersOn, homesOn, tableOn, chartOn}
 use Rattle.tour.specs.Search.{startOn}
@@ -129,7 +130,9 @@ module _ (s : List ℕ) (fine : checkOf s ≡ Fine) where
       go true e = home-real b l
       go false e =
           let some = eqb-false (length (w .tour)) 0 e in
-          table-real (lastOf (w .tour)) b (below-at (countOn s) (w .tour) (length (w .tour) - 1) h (omega arith)) l
+          let last : lastOf (w .tour) < countOn s =
+          rw (last-at (w .tour)) (below-at (countOn s) (w .tour) (length (w .tour) - 1) h (omega arith)) in
+          table-real (lastOf (w .tour)) b last l
 
   rises : (k : ℕ) → k < contoursOf s → getD (g .first) k 0 ≤ getD (g .first) (suc k) 0
   unfolding chartOn

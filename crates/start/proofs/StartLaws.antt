@@ -29,6 +29,7 @@ use Rattle.start.specs.declared.Choice.{Choice}
 use Rattle.start.proofs.ChoiceLaws.{InContour, Fair, chosen-fair, chosen-found}
 use Rattle.start.proofs.FlagLaws.{none-marked, flags-none, flags-more, open-is}
 use Rattle.start.proofs.FreeLaws.{left, left-all, some-left, one-less}
+use Rattle.start.proofs.StepLaws.{last-at}
 
 -- ---- what is asked of the ground
 
@@ -175,7 +176,7 @@ module _ (g : Ground) (n : ℕ) (near : Within g n) (free : Acyclic n (g .pairs)
   unfolding reachOf
   in-reach zero w c k a h e m = rw (c .long) (near .home k a h m)
   in-reach (suc i) w c k a h e m =
-      rw (c .long, ne-eqb (suc i) 0 (omega arith), suc-sub-one i)
+      rw (last-at (w .tour), c .long, ne-eqb (suc i) 0 (omega arith), suc-sub-one i)
       (near .apart k (getD (c .order) i 0) a (getD (w .tour) i 0) h (c .within i (omega arith)) other m
       (c .candidate i (omega arith)))
     where

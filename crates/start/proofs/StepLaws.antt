@@ -2,14 +2,13 @@
 use mathlib.Core.Bool.{Bool, true, false}
 use mathlib.Core.List.{List, [], _∷_, _++_}
 use mathlib.Core.Path.{_≡_, refl, sym, ap, _∙_}
-use Prim.Native.Nat.{ℕ, _+_, _-_, _≤_, _<_}
-use native.Mathlib.Nat.{add-sub-cancel}
+use Prim.Native.Nat.{ℕ, suc, _+_, _-_, _≤_, _<_}
 use native.Mathlib.Numerals.{add-one}
 use native.Mathlib.Omega.{arith}
 use borrow.Author.Tests.{eq-eqb, ne-eqb, le-leb, lt-leb}
 use lib.Ieee.{Float, lt}
-use lib.ListN.{length, getD, set, take, drop, length-append, take-append-drop}
-use lib.Seq.{length-take-le, take-suc-set, drop-set-lt, drop-drop, getD-at}
+use lib.ListN.{length, getD, set, take, drop, take-append-drop}
+use lib.Seq.{length-take-le, take-suc-set, drop-set-lt, drop-drop}
 use Rattle.closure.specs.Limits.{CONTOURS}
 use Rattle.keep.specs.Keep.{readyIn}
 use Rattle.table.specs.Each.{each}
@@ -124,12 +123,25 @@ module _ (g : Ground) (n i : ℕ) (tour visited : List ℕ) (made : ℕ) (choice
   unfolding visit
   step-goes e = step-visits ∙ rw (e, add-one made, take-suc-set tour made (choice .candidate) h)
 
+-- the last one by its position
+pub last-at : (l : List ℕ) → lastOf l ≡ getD l (length l - 1) 0
+unfolding lastOf
+last-at [] = refl
+last-at (a ∷ []) = refl
+last-at (a ∷ (b ∷ more)) =
+    let here : suc (suc (length more)) - 1 ≡ suc (length more) = omega arith in
+    let there : suc (length more) - 1 ≡ length more = omega arith in
+    rw here (rw there at (last-at (b ∷ more)))
+
 -- the last entry written is the last one
+last-put : (l : List ℕ) (a : ℕ) → lastOf (l ++ (a ∷ [])) ≡ a
+unfolding lastOf
+last-put [] a = refl
+last-put (x ∷ []) a = refl
+last-put (x ∷ (y ∷ l)) a = last-put (y ∷ l) a
+
 pub last-written : (tour : List ℕ) (made a : ℕ) → made < length tour → a ≡ lastOf (take (made + 1) (set tour made a))
-last-written tour made a h =
-    let e : length (take made tour) ≡ made = length-take-le made tour (omega arith) in
-    rw (add-one made, take-suc-set tour made a h, length-append (take made tour) (a ∷ []), e, add-sub-cancel made 1)
-    (sym (getD-at (take made tour) a [] 0 made e))
+last-written tour made a h = rw (add-one made, take-suc-set tour made a h) (sym (last-put (take made tour) a))
 
 -- the rest of the room stays
 pub rest-kept : (tour room : List ℕ) (made a : ℕ) → drop made tour ≡ drop made room

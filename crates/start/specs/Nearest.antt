@@ -27,8 +27,10 @@ pub record Way : Type 0 where
   pub visited : List ℕ
 
 -- the last candidate of a tour
-abbrev pub lastOf : List ℕ → ℕ
-lastOf tour = getD tour (length tour - 1) 0
+unfoldable pub lastOf : List ℕ → ℕ
+lastOf [] = 0
+lastOf (a ∷ []) = a
+lastOf (a ∷ (b ∷ more)) = lastOf (b ∷ more)
 
 -- a number is in a list
 unfoldable pub isIn : ℕ → List ℕ → Bool

@@ -16,8 +16,8 @@ use Rattle.table.specs.Walk.{legs, walk}
 use Rattle.table.specs.Each.{each}
 use Rattle.table.specs.Evaluate.{lengthOf}
 use Rattle.table.specs.Distances.{legOf, legAt, listed, chained, rowOf, distancesOf, homeLeg, homesOf}
-use Rattle.start.specs.Nearest.{reachOf, closer, offer, offered, isIn, isOpen, considered, chosen, visit, step, walked}
-use Rattle.start.specs.Nearest.{nearest}
+use Rattle.start.specs.Nearest.{lastOf, reachOf, closer, offer, offered, isIn, isOpen, considered, chosen, visit, step}
+use Rattle.start.specs.Nearest.{walked, nearest}
 use Rattle.improve.specs.Search.{contours, shorter, judged, atLimit, tried, swap, alternative, turn, turned, flip}
 use Rattle.improve.specs.Search.{reversal, row, pass, repeated, searched}
 use Rattle.instance.specs.Gather.{verticesOf, outlineOf, offersOf, gathered, owners, firsts}
@@ -33,7 +33,7 @@ unfolding verdict-computes tourOf tourCheck roomCheck endOn chartOn
     candidatesOf candidatesFrom spaced target perimeterOf around reaches onEdge spotFrom lastSpot spotAt closing edges
     alongOf distanceOf distanceSqOf squares sqrtOf rootFinite halves wholeRoot digits
     homesOf homeLeg distancesOf rowOf legAt legOf listed chained each lengthOf walk legs
-    nearest walked step visit chosen considered isOpen isIn offered offer closer reachOf
+    nearest walked step visit chosen considered isOpen isIn offered offer closer reachOf lastOf
     searched repeated pass turn alternative swap judged shorter tried atLimit row reversal flip turned rev slice
     contours keepsPairs keptIn lastRank every add sub mul div rem neg lt le eq ofInt sum
 tour-computes = tt

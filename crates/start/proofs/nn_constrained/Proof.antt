@@ -37,6 +37,7 @@ returns : tie.Need-returns Inv-loop μ-loop
 returns c = unwritten _ _ _ (c .if1 .taken)
 
 loop-holds : tie.Need-loop-holds Inv-loop μ-loop
+unfolding lastOf
 loop-holds c = (([], flags-none flagCount, begin-zero _ _ _), refl, omega arith, omega arith, refl, refl, refl)
 
 slice-aggregate-choose : tie.Need-slice-aggregate-choose Inv-loop μ-loop
