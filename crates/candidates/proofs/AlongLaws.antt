@@ -10,7 +10,7 @@ use lib.Ieee.{Float, binary64, add}
 use Rattle.points.specs.Points.{nowhere, noEnds, points, edges}
 use Rattle.points.specs.Numbers.{zero64}
 use Rattle.points.proofs.PointLaws.{points-length, edges-count}
-use Rattle.candidates.specs.Along.{spot, lengthOf, around, perimeterOf, reaches, onEdge, spotFrom, lastSpot}
+use Rattle.candidates.specs.Along.{spot, edgeLength, around, perimeterOf, reaches, onEdge, spotFrom, lastSpot}
 use Rattle.candidates.specs.Along.{spotAt}
 
 module _ (n : List Float) where
@@ -36,7 +36,7 @@ module _ (n : List Float) where
   summed-start = refl
 
   pub summed-step : (sum : Float) (i : ℕ) → i < length n / 2 → Summed sum i
-      → Summed (add binary64 sum (lengthOf (getD (edges (points n)) i noEnds))) (i + 1)
+      → Summed (add binary64 sum (edgeLength (getD (edges (points n)) i noEnds))) (i + 1)
   unfolding around
   summed-step sum i h s =
       let g = within i h in
@@ -56,7 +56,7 @@ module _ (n : List Float) where
 
   module _ (d before : Float) (i : ℕ) where
     pub sought-here : i < length n / 2 → Sought d before i
-        → reaches d before (add binary64 before (lengthOf (getD (edges (points n)) i noEnds))) ≡ true
+        → reaches d before (add binary64 before (edgeLength (getD (edges (points n)) i noEnds))) ≡ true
         → onEdge d i before (getD (edges (points n)) i noEnds) ≡ spotAt (points n) d
     unfolding spotFrom
     sought-here h s e =
@@ -64,8 +64,8 @@ module _ (n : List Float) where
         sym (s ∙ rw (drop-cons (edges (points n)) i noEnds, e))
 
     pub sought-on : i < length n / 2 → Sought d before i
-        → reaches d before (add binary64 before (lengthOf (getD (edges (points n)) i noEnds))) ≡ false
-        → Sought d (add binary64 before (lengthOf (getD (edges (points n)) i noEnds))) (i + 1)
+        → reaches d before (add binary64 before (edgeLength (getD (edges (points n)) i noEnds))) ≡ false
+        → Sought d (add binary64 before (edgeLength (getD (edges (points n)) i noEnds))) (i + 1)
     unfolding spotFrom
     sought-on h s e =
         let g = within i h in

@@ -27,7 +27,7 @@ use Rattle.points.proofs.SizeLaws.{sub-under, add-plus, mul-under, div-under, r
 use Rattle.points.proofs.SizeLaws.{not-tiny}
 use Rattle.candidates.specs.declared.Spot.{Spot}
 use Rattle.candidates.specs.declared.Candidate.{Candidate}
-use Rattle.candidates.specs.Along.{lengthOf, around, perimeterOf, spot, reaches, onEdge, spotFrom, lastSpot}
+use Rattle.candidates.specs.Along.{edgeLength, around, perimeterOf, spot, reaches, onEdge, spotFrom, lastSpot}
 use Rattle.candidates.specs.Along.{spotAt}
 use Rattle.candidates.specs.Generate.{candidateAt, blank, target, spaced, candidatesFrom, candidatesOf}
 use Rattle.candidates.proofs.FillLaws.{spaced-length}
@@ -59,7 +59,7 @@ edges-ended (p ∷ more) good =
     let n = good-near p (good 0 (zero-lt-suc (length more))) in
     closing-ended p p more n n (λ j h. good (suc j) (suc-le-suc h))
 
-length-plus : (e : Ends) → Ended e → Plus 25 (lengthOf e)
+length-plus : (e : Ends) → Ended e → Plus 25 (edgeLength e)
 length-plus e n = distance-plus 20 (e .start) (e .finish) (lit≤ tt) (n .0) (n .1)
 
 -- ---- the way around
@@ -69,9 +69,9 @@ around-plus : (sum : Float) (es : List Ends) (j : ℕ) → AllEnded es → 25 �
 unfolding around
 around-plus sum [] j n low high u = plus-more sum (omega arith) u
 around-plus sum (e ∷ more) j n low high u =
-    let w = add-plus j sum (lengthOf e) (omega arith) u (plus-more (lengthOf e) low (length-plus e (n .0))) in
-    plus-more (around (add binary64 sum (lengthOf e)) more) (omega arith)
-    (around-plus (add binary64 sum (lengthOf e)) more (suc (suc j)) (n .1) (omega arith) (omega arith) w)
+    let w = add-plus j sum (edgeLength e) (omega arith) u (plus-more (edgeLength e) low (length-plus e (n .0))) in
+    plus-more (around (add binary64 sum (edgeLength e)) more) (omega arith)
+    (around-plus (add binary64 sum (edgeLength e)) more (suc (suc j)) (n .1) (omega arith) (omega arith) w)
 
 zero-plus : Plus 25 zero64
 unfolding ofBits
@@ -137,16 +137,16 @@ along-near e t n u = record {
 edge-near : (d : Float) (i : ℕ) (before : Float) (e : Ends) → Under 92 d → Under 92 before → Ended e
     → Near 160 (onEdge d i before e .point)
 unfolding onEdge
-edge-near d i before e u w n = go (lt (lengthOf e) tiny) refl
+edge-near d i before e u w n = go (lt (edgeLength e) tiny) refl
   where
-    go : (b : Bool) → lt (lengthOf e) tiny ≡ b
-        → Near 160 (cond b (spot (e .start) i) (spot (alongOf e (div binary64 (sub binary64 d before) (lengthOf e)))
+    go : (b : Bool) → lt (edgeLength e) tiny ≡ b
+        → Near 160 (cond b (spot (e .start) i) (spot (alongOf e (div binary64 (sub binary64 d before) (edgeLength e)))
         i) .point)
     go true h = near-more 20 160 (e .start) (lit≤ tt) (n .0)
     go false h =
-        along-near e (div binary64 (sub binary64 d before) (lengthOf e)) n
-        (div-under 94 40 (sub binary64 d before) (lengthOf e) (lit≤ tt) (sub-under 92 d before (lit≤ tt) u w)
-        (not-tiny 25 (lengthOf e) (length-plus e n) h))
+        along-near e (div binary64 (sub binary64 d before) (edgeLength e)) n
+        (div-under 94 40 (sub binary64 d before) (edgeLength e) (lit≤ tt) (sub-under 92 d before (lit≤ tt) u w)
+        (not-tiny 25 (edgeLength e) (length-plus e n) h))
 
 spot-near : (last : Spot) (d : Float) (i : ℕ) (before : Float) (es : List Ends) (j : ℕ)
     → Near 160 (last .point) → Under 92 d → AllEnded es → 25 ≤ j → j + 2 * length es ≤ 85 → Plus j before
@@ -156,10 +156,10 @@ spot-near last d i before [] j l u n low high w = l
 spot-near last d i before (e ∷ more) j l u n low high w =
     go (reaches d before after)
     (spot-near last d (suc i) after more (suc (suc j)) l u (n .1) (omega arith) (omega arith)
-    (add-plus j before (lengthOf e) (omega arith) w (plus-more (lengthOf e) low (length-plus e (n .0)))))
+    (add-plus j before (edgeLength e) (omega arith) w (plus-more (edgeLength e) low (length-plus e (n .0)))))
   where
     after : Float
-    after = add binary64 before (lengthOf e)
+    after = add binary64 before (edgeLength e)
 
     go : (b : Bool) → Near 160 (spotFrom last d (suc i) after more .point)
         → Near 160 (cond b (onEdge d i before e) (spotFrom last d (suc i) after more) .point)

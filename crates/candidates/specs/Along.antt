@@ -12,13 +12,13 @@ use Rattle.points.specs.Numbers.{zero64, tiny}
 use Rattle.points.specs.Along.{alongOf}
 use Rattle.candidates.specs.declared.Spot.{Spot}
 
-abbrev pub lengthOf : Ends → Float
-lengthOf e = distanceOf (e .start) (e .finish)
+abbrev pub edgeLength : Ends → Float
+edgeLength e = distanceOf (e .start) (e .finish)
 
 -- the edges' lengths added in order to a sum so far
 unfoldable pub around : Float → List Ends → Float
 around sum [] = sum
-around sum (e ∷ more) = around (add binary64 sum (lengthOf e)) more
+around sum (e ∷ more) = around (add binary64 sum (edgeLength e)) more
 
 -- the length of the whole way, the closing edge included
 unfoldable pub perimeterOf : List Point → Float
@@ -34,15 +34,15 @@ reaches d before after = le before d && le d (add binary64 after tiny)
 -- the place at the distance d on edge i, which begins at `before`: its vertex where the edge is under 1e-12
 unfoldable pub onEdge : Float → ℕ → Float → Ends → Spot
 onEdge d i before e =
-    cond (lt (lengthOf e) tiny) (spot (e .start) i)
-    (spot (alongOf e (div binary64 (sub binary64 d before) (lengthOf e))) i)
+    cond (lt (edgeLength e) tiny) (spot (e .start) i)
+    (spot (alongOf e (div binary64 (sub binary64 d before) (edgeLength e))) i)
 
 -- the first edge that d falls on, of those from number i on; `before` is the length passed. If there is none, the last
 -- vertex
 unfoldable pub spotFrom : Spot → Float → ℕ → Float → List Ends → Spot
 spotFrom last d i before [] = last
 spotFrom last d i before (e ∷ more) =
-    let after = add binary64 before (lengthOf e) in
+    let after = add binary64 before (edgeLength e) in
     let further = spotFrom last d (suc i) after more in
     cond (reaches d before after) (onEdge d i before e) further
 

@@ -6,7 +6,7 @@ ghost use lib.ListN.{getD};
 ghost use Rattle.fields.specs.Limits.{perContourLimit};
 ghost use Rattle.points.specs.Points.{points, nowhere};
 ghost use Rattle.candidates.specs.Direction.{directionOf};
-ghost use Rattle.candidates.specs.Along.{lengthOf, perimeterOf, reaches, onEdge, spot, spotAt, lastSpot};
+ghost use Rattle.candidates.specs.Along.{edgeLength, perimeterOf, reaches, onEdge, spot, spotAt, lastSpot};
 ghost use Rattle.candidates.specs.Generate.{candidateAt, blank, target, spaced, candidatesOf, filled};
 ghost use Rattle.candidates.specs.Question.{outside, oneContour, offeredOf};
 use answer::Check;
@@ -73,7 +73,7 @@ pub fn determine_direction(
 
 // The length of an edge.
 fn length_of(e: Ends) -> f64
-    ensures { λ r. ⌜ r ≡ lengthOf e ⌝ }
+    ensures { λ r. ⌜ r ≡ edgeLength e ⌝ }
 {
     let a = e.start;
     let b = e.finish;

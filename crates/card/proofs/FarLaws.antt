@@ -12,11 +12,11 @@ use Rattle.answer.specs.declared.Found.the-variants.{At, Absent}
 use Rattle.answer.proofs.LowestLaws.{Nowhere}
 use Rattle.block.specs.Field.{u64At}
 use Rattle.block.proofs.Readings.{cut-u64}
-use Rattle.fields.specs.Layout.{homePlace}
+use Rattle.fields.specs.Layout.{homeOffset}
 use Rattle.card.specs.Stages.{farPoint, farVertex, farPlace}
 use Rattle.card.proofs.LoopLaws.{none-yet, one-more}
 
-pub home-near : (s : List ℕ) → farPoint s homePlace ≡ false → Nowhere (farPlace s) (0 + 1)
+pub home-near : (s : List ℕ) → farPoint s homeOffset ≡ false → Nowhere (farPlace s) (0 + 1)
 home-near s e = one-more (farPlace s) 0 (none-yet (farPlace s)) e
 
 pub contour-near : (s : List ℕ) (k : ℕ) (f : Found) → f ≡ farVertex s k → f ≡ Absent → farPlace s (k + 1) ≡ false

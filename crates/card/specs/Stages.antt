@@ -13,8 +13,8 @@ use Rattle.block.specs.Block.{blockBytes, payloadBytes, checked, starts, zerosA
 use Rattle.closure.specs.Limits.{CONTOURS, PAIRS}
 use Rattle.fields.specs.Limits.{cardBytes, perContourLimit, candidateLimit, passLimit, vertexLimit, pairsABlock}
 use Rattle.fields.specs.Limits.{farthest}
-use Rattle.fields.specs.Layout.{blocksOf, payload, contoursOf, pairsOf, perContourOf, passesOf, homePlace, exteriorOf}
-use Rattle.fields.specs.Layout.{interiorOf, idOf, tagOf, vertexCountOf, typeOf, fillerOf, vertexPlace, beforeIdOf}
+use Rattle.fields.specs.Layout.{blocksOf, payload, contoursOf, pairsOf, perContourOf, passesOf, homeOffset, exteriorOf}
+use Rattle.fields.specs.Layout.{interiorOf, idOf, tagOf, vertexCountOf, typeOf, fillerOf, vertexOffset, beforeIdOf}
 use Rattle.fields.specs.Layout.{beforeTagOf, afterIdOf, afterTagOf}
 
 -- this place, if the test holds
@@ -123,10 +123,10 @@ farPoint s at = tooFar (u64At s at) || tooFar (u64At s (at + 8))
 
 unfoldable pub farVertex : List ℕ → ℕ → Found
 unfolding lowest
-farVertex s k = lowest (λ j. farPoint s (vertexPlace k j)) (vertexCountOf s k)
+farVertex s k = lowest (λ j. farPoint s (vertexOffset k j)) (vertexCountOf s k)
 
 abbrev pub farPlace : List ℕ → ℕ → Bool
-farPlace s zero = farPoint s homePlace
+farPlace s zero = farPoint s homeOffset
 farPlace s (suc k) = isAt (farVertex s k)
 
 unfoldable pub farFault : List ℕ → Found

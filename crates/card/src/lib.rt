@@ -193,7 +193,7 @@ fn used(card: &[u8], b: usize) -> usize
     }
     let n = block::u16_at(card, 12) as usize;
     if b <= n {
-        return 12 + 16 * (block::u16_at(card, fields::contour_place(card, b - 1, 8)) as usize);
+        return 12 + 16 * (block::u16_at(card, fields::contour_offset(card, b - 1, 8)) as usize);
     }
     let m = fields::pairs(card);
     let before = PAIRS_A_BLOCK * (b - (n + 1));
@@ -252,8 +252,8 @@ fn far_point(card: &[u8], at: usize) -> bool
 fn far_vertex(card: &[u8], k: usize) -> Found
     ensures { λ r. ⌜ r ≡ farVertex (now (card .entry)) k ⌝ }
 {
-    let start = fields::contour_place(card, k, 12);
-    let v = block::u16_at(card, fields::contour_place(card, k, 8)) as usize;
+    let start = fields::contour_offset(card, k, 12);
+    let v = block::u16_at(card, fields::contour_offset(card, k, 8)) as usize;
     let mut j: usize = 0;
     while j < v {
         if far_point(card, start + 16 * j) {

@@ -17,8 +17,8 @@ use Rattle.block.specs.Block.{blockBytes}
 use Rattle.points.specs.Bad.{badPoint}
 use Rattle.closure.specs.Limits.{CONTOURS, PAIRS}
 use Rattle.fields.specs.Limits.{perContourLimit, candidateLimit, passLimit, vertexLimit}
-use Rattle.fields.specs.Layout.{blocksOf, contoursOf, pairsOf, perContourOf, passesOf, homePlace, exteriorOf}
-use Rattle.fields.specs.Layout.{interiorOf, idOf, vertexCountOf, typeOf, vertexPlace, beforeIdOf, beforeTagOf}
+use Rattle.fields.specs.Layout.{blocksOf, contoursOf, pairsOf, perContourOf, passesOf, homeOffset, exteriorOf}
+use Rattle.fields.specs.Layout.{interiorOf, idOf, vertexCountOf, typeOf, vertexOffset, beforeIdOf, beforeTagOf}
 use Rattle.fields.specs.Layout.{afterIdOf, afterTagOf}
 use Rattle.fields.specs.Values.{pointAt}
 use Rattle.card.specs.Stages.{blocksDue, beforeOf, afterOf}
@@ -27,7 +27,7 @@ use Rattle.card_laws.specs.Table.{No, Row1, Row4, Row5, Row6, Row8, Row9
 use Rattle.card_laws.specs.Table.{pairs, candidates, passes, exterior, interior, all-candidates, BadContour}
 use Rattle.card_laws.specs.Table.{few-vertices, many-vertices, no-type, FarCoordinate, at-home, at-vertex}
 use Rattle.card_laws.specs.Table.{OtherTag, Sound}
-use Rattle.card_laws.specs.Card.{Contour, Pair, each, contourOf, pairOf, cardOf, Names, Accepted}
+use Rattle.card_laws.specs.Card.{Contour, Pair, tabulated, contourOf, pairOf, cardOf, Names, Accepted}
 use Rattle.card_laws.proofs.ExactLaws.{false-unless}
 use Rattle.card_laws.proofs.RowLaws.{due-blocks, no-bad-field, no-bad-contour}
 use Rattle.card_laws.proofs.FarRow.{no-far}
@@ -133,9 +133,9 @@ module _ (s : List ℕ) (sound : Sound s) where
         some-vertices = λ k h. not-below (vertexCountOf s k) 1 (λ g. fine-contour k h (few-vertices g));
         few-vertices = λ k h. not-below vertexLimit (vertexCountOf s k) (λ g. fine-contour k h (many-vertices g));
         type-known = λ k h. not-below 1 (typeOf s k) (λ g. fine-contour k h (no-type g));
-        home-near = false-unless (badPoint (pointAt s homePlace)) (λ t. fine-point 0 (omega arith) (at-home t));
+        home-near = false-unless (badPoint (pointAt s homeOffset)) (λ t. fine-point 0 (omega arith) (at-home t));
         vertex-near =
-            λ k j h g. false-unless (badPoint (pointAt s (vertexPlace k j)))
+            λ k j h g. false-unless (badPoint (pointAt s (vertexOffset k j)))
             (λ t. fine-point (suc k) (omega arith) (at-vertex k j g t));
         ids-differ =
             λ j k hj hk e. same-contour s row9 (idOf s k) j k (record { is-contour = hj; same = e })
@@ -150,36 +150,36 @@ accepted s e = facts s (exactly s .fine-only e)
 
 -- ---- the record of a card
 
-pub length-each : {A : Type 0} (f : ℕ → A) (n : ℕ) → length (each f n) ≡ n
-unfolding each
-length-each f zero = refl
-length-each f (suc n) = omega (arith, length-append (each f n) (f n ∷ []), length-each f n)
+pub length-tabulated : {A : Type 0} (f : ℕ → A) (n : ℕ) → length (tabulated f n) ≡ n
+unfolding tabulated
+length-tabulated f zero = refl
+length-tabulated f (suc n) = omega (arith, length-append (tabulated f n) (f n ∷ []), length-tabulated f n)
 
-pub at-each : {A : Type 0} (f : ℕ → A) (n k : ℕ) (d : A) → k < n → getD (each f n) k d ≡ f k
-unfolding each
-at-each f zero k d h = absurd (not-suc-le-zero h)
-at-each f (suc n) k d h = go (eq-or-lt-of-le (le-of-suc-le-suc h)) (at-each f n k d)
+pub at-tabulated : {A : Type 0} (f : ℕ → A) (n k : ℕ) (d : A) → k < n → getD (tabulated f n) k d ≡ f k
+unfolding tabulated
+at-tabulated f zero k d h = absurd (not-suc-le-zero h)
+at-tabulated f (suc n) k d h = go (eq-or-lt-of-le (le-of-suc-le-suc h)) (at-tabulated f n k d)
   where
-    go : (k ≡ n) ⊎ (k < n) → (k < n → getD (each f n) k d ≡ f k) → getD (each f n ++ (f n ∷ [])) k d ≡ f k
-    go (inl e) earlier = getD-at (each f n) (f n) [] d k (length-each f n ∙ sym e) ∙ ap f (sym e)
-    go (inr g) earlier = List·getD-append (each f n) (f n ∷ []) d k (omega (arith, length-each f n)) ∙ earlier g
+    go : (k ≡ n) ⊎ (k < n) → (k < n → getD (tabulated f n) k d ≡ f k) → getD (tabulated f n ++ (f n ∷ [])) k d ≡ f k
+    go (inl e) earlier = getD-at (tabulated f n) (f n) [] d k (length-tabulated f n ∙ sym e) ∙ ap f (sym e)
+    go (inr g) earlier = List·getD-append (tabulated f n) (f n ∷ []) d k (omega (arith, length-tabulated f n)) ∙ earlier g
 
 -- the record has as many contours, vertices and pairs as the counts say, and each is what the field questions read
 pub contours-in-all : (s : List ℕ) → length (cardOf s .contours) ≡ contoursOf s
-contours-in-all s = length-each (contourOf s) (contoursOf s)
+contours-in-all s = length-tabulated (contourOf s) (contoursOf s)
 
 pub contour-at : (s : List ℕ) (k : ℕ) (d : Contour) → k < contoursOf s → getD (cardOf s .contours) k d ≡ contourOf s k
-contour-at s k d h = at-each (contourOf s) (contoursOf s) k d h
+contour-at s k d h = at-tabulated (contourOf s) (contoursOf s) k d h
 
 pub vertices-in-all : (s : List ℕ) (k : ℕ) → length (contourOf s k .vertices) ≡ vertexCountOf s k
-vertices-in-all s k = length-each (λ j. pointAt s (vertexPlace k j)) (vertexCountOf s k)
+vertices-in-all s k = length-tabulated (λ j. pointAt s (vertexOffset k j)) (vertexCountOf s k)
 
 pub vertex-at : (s : List ℕ) (k j : ℕ) (d : Point) → j < vertexCountOf s k
-    → getD (contourOf s k .vertices) j d ≡ pointAt s (vertexPlace k j)
-vertex-at s k j d h = at-each (λ j. pointAt s (vertexPlace k j)) (vertexCountOf s k) j d h
+    → getD (contourOf s k .vertices) j d ≡ pointAt s (vertexOffset k j)
+vertex-at s k j d h = at-tabulated (λ j. pointAt s (vertexOffset k j)) (vertexCountOf s k) j d h
 
 pub pairs-in-all : (s : List ℕ) → length (cardOf s .pairs) ≡ pairsOf s
-pairs-in-all s = length-each (pairOf s) (pairsOf s)
+pairs-in-all s = length-tabulated (pairOf s) (pairsOf s)
 
 pub pair-at : (s : List ℕ) (q : ℕ) (d : Pair) → q < pairsOf s → getD (cardOf s .pairs) q d ≡ pairOf s q
-pair-at s q d h = at-each (pairOf s) (pairsOf s) q d h
+pair-at s q d h = at-tabulated (pairOf s) (pairsOf s) q d h

@@ -9,7 +9,7 @@ use Rattle.answer.specs.Lowest.{lowest}
 use Rattle.answer.proofs.LowestLaws.{is-at, is-absent}
 use Rattle.block.specs.Field.{u64At, f64At}
 use Rattle.points.specs.Bad.{badPoint}
-use Rattle.fields.specs.Layout.{homePlace, contoursOf, vertexCountOf, vertexPlace}
+use Rattle.fields.specs.Layout.{homeOffset, contoursOf, vertexCountOf, vertexOffset}
 use Rattle.fields.specs.Values.{pointAt}
 use Rattle.card.specs.Stages.{isAt, farPoint, farVertex, farPlace, farFault}
 use Rattle.card_laws.specs.Table.{FarCoordinate, at-home, at-vertex, Row8, No}
@@ -23,30 +23,30 @@ far-point-is s at = rw (far-is (u64At s at), far-is (u64At s (at + 8)))
 module _ (s : List ℕ) where
   far-coordinate : (p : ℕ) → farPlace s p ≡ true → FarCoordinate s p
   unfolding farVertex
-  far-coordinate zero e = at-home (sym (far-point-is s homePlace) ∙ e)
+  far-coordinate zero e = at-home (sym (far-point-is s homeOffset) ∙ e)
   far-coordinate (suc k) e = go (lowest far (vertexCountOf s k)) refl
     where
       far : ℕ → Bool
-      far = λ j. farPoint s (vertexPlace k j)
+      far = λ j. farPoint s (vertexOffset k j)
 
       go : (f : Found) → lowest far (vertexCountOf s k) ≡ f → FarCoordinate s (suc k)
       go (At j) h =
           let w = is-at far (vertexCountOf s k) j h in
-          at-vertex k j (w .within) (sym (far-point-is s (vertexPlace k j)) ∙ w .holds)
+          at-vertex k j (w .within) (sym (far-point-is s (vertexOffset k j)) ∙ w .holds)
       go Absent h = absurd (never false (ap isAt (sym h) ∙ e) refl)
 
   coordinate-far : (p : ℕ) → FarCoordinate s p → farPlace s p ≡ true
   unfolding farVertex
-  coordinate-far p (at-home e) = far-point-is s homePlace ∙ e
+  coordinate-far p (at-home e) = far-point-is s homeOffset ∙ e
   coordinate-far p (at-vertex k j h e) = go (lowest far (vertexCountOf s k)) refl
     where
       far : ℕ → Bool
-      far = λ i. farPoint s (vertexPlace k i)
+      far = λ i. farPoint s (vertexOffset k i)
 
       go : (f : Found) → lowest far (vertexCountOf s k) ≡ f → isAt (lowest far (vertexCountOf s k)) ≡ true
       go (At i) g = ap isAt g
       go Absent g =
-          absurd (never (far j) (far-point-is s (vertexPlace k j) ∙ e) (is-absent far (vertexCountOf s k) g j h))
+          absurd (never (far j) (far-point-is s (vertexOffset k j) ∙ e) (is-absent far (vertexCountOf s k) g j h))
 
   pub exact8 : Exact (farFault s) (Row8 s)
   unfolding farFault

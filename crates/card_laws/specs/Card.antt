@@ -12,8 +12,8 @@ use Rattle.points.specs.Bad.{badPoint}
 use Rattle.closure.specs.Limits.{CONTOURS, PAIRS}
 use Rattle.closure.specs.Cycle.{Acyclic}
 use Rattle.fields.specs.Limits.{perContourLimit, candidateLimit, passLimit, vertexLimit}
-use Rattle.fields.specs.Layout.{jobOf, contoursOf, pairsOf, perContourOf, passesOf, moveLimitOf, homePlace, exteriorOf}
-use Rattle.fields.specs.Layout.{interiorOf, idOf, tagOf, vertexCountOf, typeOf, vertexPlace, beforeIdOf, beforeTagOf}
+use Rattle.fields.specs.Layout.{jobOf, contoursOf, pairsOf, perContourOf, passesOf, moveLimitOf, homeOffset, exteriorOf}
+use Rattle.fields.specs.Layout.{interiorOf, idOf, tagOf, vertexCountOf, typeOf, vertexOffset, beforeIdOf, beforeTagOf}
 use Rattle.fields.specs.Layout.{afterIdOf, afterTagOf}
 use Rattle.fields.specs.Values.{asType, asPreference, pointAt}
 use Rattle.card.specs.Stages.{blocksDue, beforeOf, afterOf}
@@ -45,9 +45,9 @@ pub record Card : Type 0 where
   pub pairs : List Pair
 
 -- f of each number below n, in order
-unfoldable pub each : {A : Type 0} → (ℕ → A) → ℕ → List A
-each f zero = []
-each f (suc n) = each f n ++ (f n ∷ [])
+unfoldable pub tabulated : {A : Type 0} → (ℕ → A) → ℕ → List A
+tabulated f zero = []
+tabulated f (suc n) = tabulated f n ++ (f n ∷ [])
 
 abbrev pub contourOf : List ℕ → ℕ → Contour
 contourOf s k =
@@ -56,7 +56,7 @@ contourOf s k =
       tag = tagOf s k;
       kind = asType (typeOf s k);
       vertices =
-          each (λ j. pointAt s (vertexPlace k j)) (vertexCountOf s k);
+          tabulated (λ j. pointAt s (vertexOffset k j)) (vertexCountOf s k);
     }
 
 abbrev pub pairOf : List ℕ → ℕ → Pair
@@ -77,11 +77,11 @@ cardOf s =
       per-contour = perContourOf s;
       passes = passesOf s;
       move-limit = moveLimitOf s;
-      home = pointAt s homePlace;
+      home = pointAt s homeOffset;
       exterior = asPreference (exteriorOf s);
       interior = asPreference (interiorOf s);
-      contours = each (contourOf s) (contoursOf s);
-      pairs = each (pairOf s) (pairsOf s);
+      contours = tabulated (contourOf s) (contoursOf s);
+      pairs = tabulated (pairOf s) (pairsOf s);
     }
 
 -- ---- what every fine card has
@@ -105,9 +105,9 @@ pub record Accepted (s : List ℕ) : Type 0 where
   pub some-vertices : (k : ℕ) → k < contoursOf s → 1 ≤ vertexCountOf s k
   pub few-vertices : (k : ℕ) → k < contoursOf s → vertexCountOf s k ≤ vertexLimit
   pub type-known : (k : ℕ) → k < contoursOf s → typeOf s k ≤ 1
-  pub home-near : badPoint (pointAt s homePlace) ≡ false
+  pub home-near : badPoint (pointAt s homeOffset) ≡ false
   pub vertex-near : (k j : ℕ) → k < contoursOf s → j < vertexCountOf s k
-      → badPoint (pointAt s (vertexPlace k j)) ≡ false
+      → badPoint (pointAt s (vertexOffset k j)) ≡ false
   pub ids-differ : (j k : ℕ) → j < contoursOf s → k < contoursOf s → idOf s j ≡ idOf s k → j ≡ k
   pub before-named : (q : ℕ) → q < pairsOf s → Names s (beforeIdOf s q) (beforeTagOf s q) (beforeOf s q)
   pub after-named : (q : ℕ) → q < pairsOf s → Names s (afterIdOf s q) (afterTagOf s q) (afterOf s q)

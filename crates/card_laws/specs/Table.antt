@@ -14,8 +14,8 @@ use Rattle.block.specs.Block.{blockBytes, payloadBytes, checkPlace, checkAt, Du
 use Rattle.points.specs.Bad.{badPoint}
 use Rattle.closure.specs.Limits.{CONTOURS, PAIRS}
 use Rattle.fields.specs.Limits.{cardBytes, perContourLimit, candidateLimit, passLimit, vertexLimit, pairsABlock}
-use Rattle.fields.specs.Layout.{blocksOf, payload, contoursOf, pairsOf, perContourOf, passesOf, homePlace, exteriorOf}
-use Rattle.fields.specs.Layout.{interiorOf, idOf, tagOf, vertexCountOf, typeOf, fillerOf, vertexPlace, beforeIdOf}
+use Rattle.fields.specs.Layout.{blocksOf, payload, contoursOf, pairsOf, perContourOf, passesOf, homeOffset, exteriorOf}
+use Rattle.fields.specs.Layout.{interiorOf, idOf, tagOf, vertexCountOf, typeOf, fillerOf, vertexOffset, beforeIdOf}
 use Rattle.fields.specs.Layout.{beforeTagOf, afterIdOf, afterTagOf}
 use Rattle.fields.specs.Values.{pointAt}
 use Rattle.card.specs.Verdict.{checkOf}
@@ -108,8 +108,8 @@ Row7 s = Lowest (blocksOf s) (SpareByte s)
 
 -- 8: a coordinate is not finite or is above 1,048,576 in size; 0 for home, else position + 1; the lowest
 pub data FarCoordinate (s : List ℕ) : ℕ → Type 0 where
-  at-home : badPoint (pointAt s homePlace) ≡ true → FarCoordinate s 0
-  at-vertex : (k j : ℕ) → j < vertexCountOf s k → badPoint (pointAt s (vertexPlace k j)) ≡ true
+  at-home : badPoint (pointAt s homeOffset) ≡ true → FarCoordinate s 0
+  at-vertex : (k j : ℕ) → j < vertexCountOf s k → badPoint (pointAt s (vertexOffset k j)) ≡ true
       → FarCoordinate s (suc k)
 
 abbrev pub Row8 : List ℕ → ℕ → Type 0

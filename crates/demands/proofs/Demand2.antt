@@ -15,9 +15,9 @@ use Rattle.candidates.specs.declared.Candidate.{Candidate}
 use Rattle.candidates.specs.Generate.{candidatesOf}
 use Rattle.closure.specs.Limits.{CONTOURS}
 use Rattle.closure.proofs.PairLaws.{lt-or, same-or}
-use Rattle.fields.specs.Layout.{contoursOf, perContourOf, passesOf, vertexCountOf, vertexPlace}
+use Rattle.fields.specs.Layout.{contoursOf, perContourOf, passesOf, vertexCountOf, vertexOffset}
 use Rattle.fields.specs.Values.{pointAt}
-use Rattle.card_laws.specs.Card.{each}
+use Rattle.card_laws.specs.Card.{tabulated}
 use Rattle.card.specs.Verdict.{checkOf}
 use Rattle.card_laws.proofs.Facts.{accepted}
 use Rattle.card_laws.proofs.Verdicts.{exactly}
@@ -47,10 +47,10 @@ use Rattle.tour_laws.proofs.TourLaws.{start-long, tour-long, tour-legal}
 
 -- ---- candidates
 
-vertices-are : (s : List ℕ) (k v : ℕ) → verticesOf s k v ≡ each (λ j. pointAt s (vertexPlace k j)) v
-unfolding verticesOf each
+vertices-are : (s : List ℕ) (k v : ℕ) → verticesOf s k v ≡ tabulated (λ j. pointAt s (vertexOffset k j)) v
+unfolding verticesOf tabulated
 vertices-are s k zero = refl
-vertices-are s k (suc v) = ap (λ (l : List Point). l ++ (pointAt s (vertexPlace k v) ∷ [])) (vertices-are s k v)
+vertices-are s k (suc v) = ap (λ (l : List Point). l ++ (pointAt s (vertexOffset k v) ∷ [])) (vertices-are s k v)
 
 -- the candidates gathered up to n hold those of each contour before
 gathered-own : (s : List ℕ) (n k j : ℕ) → k < n → j < length (offersOf s k)

@@ -18,7 +18,7 @@ use Rattle.fields.specs.Layout.{contoursOf, passesOf, moveLimitOf}
 use Rattle.card_laws.specs.Card.{cardOf, contourOf}
 use Rattle.card_laws.specs.Orders.{LegalOrder}
 use Rattle.table.specs.Evaluate.{homeAt, distanceAt, lengthOf}
-use Rattle.table.specs.Distances.{absent, pierced, left}
+use Rattle.table.specs.Distances.{absent, pierced, leaving}
 use Rattle.table.specs.Each.{each}
 use Rattle.start.specs.Nearest.{Ground, Way, reachOf, isOpen, step, setOut}
 use Rattle.improve.specs.Search.{State, contours, lengthIn, legal, shorter, stopped, tried, swap, turn, reversed, flip}
@@ -59,7 +59,7 @@ pub record Apart (s : List ℕ) (a b : ℕ) : Type 0 where
   pub same : getD (ownersOn s) a 0 ≡ getD (ownersOn s) b 0 → distanceAt (tableOn s) (countOn s) a b ≡ huge
   pub other : (getD (ownersOn s) a 0 ≡ getD (ownersOn s) b 0 → ⊥)
       → distanceAt (tableOn s) (countOn s) a b
-      ≡ distanceOf (left (getD (candidatesOn s) a absent)) (pierced (getD (candidatesOn s) b absent))
+      ≡ distanceOf (leaving (getD (candidatesOn s) a absent)) (pierced (getD (candidatesOn s) b absent))
 
 -- ---- the start
 

@@ -33,8 +33,8 @@ use Rattle.closure.specs.Cycle.{firstOnCycle}
 use Rattle.keep.specs.Keep.{keptAt, keepsPairs, readyIn}
 use Rattle.hierarchy.specs.Questions.{numContours, precedencesOf, violatesOf, predecessorsOf, successorsOf}
 use Rattle.hierarchy.specs.Questions.{validSequence, topologicalSort}
-use Rattle.fields.specs.Layout.{payload, jobOf, contoursOf, pairsOf, perContourOf, passesOf, moveLimitOf, homePlace}
-use Rattle.fields.specs.Layout.{exteriorOf, interiorOf, idOf, tagOf, vertexCountOf, typeOf, vertexPlace, beforeIdOf}
+use Rattle.fields.specs.Layout.{payload, jobOf, contoursOf, pairsOf, perContourOf, passesOf, moveLimitOf, homeOffset}
+use Rattle.fields.specs.Layout.{exteriorOf, interiorOf, idOf, tagOf, vertexCountOf, typeOf, vertexOffset, beforeIdOf}
 use Rattle.fields.specs.Layout.{beforeTagOf, afterIdOf, afterTagOf}
 use Rattle.fields.specs.Values.{asType, asPreference, pointAt}
 use Rattle.reader.specs.declared.Width.{Width}
@@ -132,16 +132,16 @@ pub record OfCards : Type 0 where
   pub per-contour : (s : List ℕ) → OneAnswer (Is (perContourOf s))
   pub passes : (s : List ℕ) → OneAnswer (Is (passesOf s))
   pub move-limit : (s : List ℕ) → OneAnswer (Is (moveLimitOf s))
-  pub home : (s : List ℕ) → OneAnswer (Is (pointAt s homePlace))
+  pub home : (s : List ℕ) → OneAnswer (Is (pointAt s homeOffset))
   pub exterior : (s : List ℕ) → OneAnswer (Is (asPreference (exteriorOf s)))
   pub interior : (s : List ℕ) → OneAnswer (Is (asPreference (interiorOf s)))
   pub id : (s : List ℕ) (k : ℕ) → OneAnswer (Is (idOf s k))
   pub tag : (s : List ℕ) (k : ℕ) → OneAnswer (Is (tagOf s k))
   pub vertices : (s : List ℕ) (k : ℕ) → OneAnswer (Is (vertexCountOf s k))
-  pub contour-place : (s : List ℕ) (k offset : ℕ) → OneAnswer (Is (min (payload (k + 1) + offset) (length s)))
+  pub contour-offset : (s : List ℕ) (k offset : ℕ) → OneAnswer (Is (min (payload (k + 1) + offset) (length s)))
   pub contour-byte : (s : List ℕ) (k offset : ℕ) → OneAnswer (Is (byteAt s (payload (k + 1) + offset)))
   pub contour-type : (s : List ℕ) (k : ℕ) → OneAnswer (Is (asType (typeOf s k)))
-  pub vertex : (s : List ℕ) (k j : ℕ) → OneAnswer (Is (pointAt s (vertexPlace k j)))
+  pub vertex : (s : List ℕ) (k j : ℕ) → OneAnswer (Is (pointAt s (vertexOffset k j)))
   pub before-id : (s : List ℕ) (q : ℕ) → OneAnswer (Is (beforeIdOf s q))
   pub before-tag : (s : List ℕ) (q : ℕ) → OneAnswer (Is (beforeTagOf s q))
   pub after-id : (s : List ℕ) (q : ℕ) → OneAnswer (Is (afterIdOf s q))

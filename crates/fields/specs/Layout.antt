@@ -36,8 +36,8 @@ abbrev pub moveLimitOf : List ℕ → ℕ
 moveLimitOf s = u32At s (payload 0 + 12)
 
 -- home: its x, and 8 bytes on its y
-abbrev pub homePlace : ℕ
-homePlace = payload 0 + 16
+abbrev pub homeOffset : ℕ
+homeOffset = payload 0 + 16
 
 abbrev pub exteriorOf : List ℕ → ℕ
 exteriorOf s = byteAt s (payload 0 + 32)
@@ -63,8 +63,8 @@ abbrev pub fillerOf : List ℕ → ℕ → ℕ
 fillerOf s k = byteAt s (payload (k + 1) + 11)
 
 -- a vertex: its x, and 8 bytes on its y
-abbrev pub vertexPlace : ℕ → ℕ → ℕ
-vertexPlace k j = payload (k + 1) + 12 + 16 * j
+abbrev pub vertexOffset : ℕ → ℕ → ℕ
+vertexOffset k j = payload (k + 1) + 12 + 16 * j
 
 -- ---- a pair: 31 to a block, after the contours
 

@@ -4,7 +4,7 @@ ghost use mathlib.Core.Path.{_≡_};
 ghost use Prim.Native.Nat.{_+_, _<_, min};
 ghost use lib.ListN.{length};
 ghost use Rattle.block.specs.Field.{byteAt, u32At};
-ghost use Rattle.fields.specs.Layout.{payload, jobOf, contoursOf, pairsOf, perContourOf, passesOf, moveLimitOf, homePlace, exteriorOf, interiorOf, idOf, tagOf, vertexCountOf, typeOf, vertexPlace, pairPlace, beforeIdOf, beforeTagOf, afterIdOf, afterTagOf};
+ghost use Rattle.fields.specs.Layout.{payload, jobOf, contoursOf, pairsOf, perContourOf, passesOf, moveLimitOf, homeOffset, exteriorOf, interiorOf, idOf, tagOf, vertexCountOf, typeOf, vertexOffset, pairPlace, beforeIdOf, beforeTagOf, afterIdOf, afterTagOf};
 ghost use Rattle.fields.specs.Values.{asType, asPreference, pointAt};
 use answer::ContourType;
 use answer::CutDirectionPreference;
@@ -77,7 +77,7 @@ pub fn move_limit(card: &[u8]) -> u32
 
 // Where the tour starts.
 pub fn home(card: &[u8]) -> Point
-    ensures { λ r. ⌜ r ≡ pointAt (now (card .entry)) homePlace ⌝ }
+    ensures { λ r. ⌜ r ≡ pointAt (now (card .entry)) homeOffset ⌝ }
 {
     Point {
         x: block::f64_at(card, 24),
@@ -111,10 +111,10 @@ pub fn interior(card: &[u8]) -> CutDirectionPreference
     preference(block::byte_at(card, 41))
 }
 
-// ---- places
+// ---- offsets
 
 // Where a byte of block b's payload stands, cut off at the card's end.
-fn place(card: &[u8], b: usize, offset: usize) -> usize
+fn payload_offset(card: &[u8], b: usize, offset: usize) -> usize
     ensures { λ r. ⌜ r ≡ min (payload b + offset) (length (now (card .entry))) ⌝ }
 {
     let end = card.len();
@@ -133,21 +133,21 @@ fn place(card: &[u8], b: usize, offset: usize) -> usize
 }
 
 // The same for contour k, whose block is the one after block k.
-pub fn contour_place(card: &[u8], k: usize, offset: usize) -> usize
+pub fn contour_offset(card: &[u8], k: usize, offset: usize) -> usize
     ensures { λ r. ⌜ r ≡ min (payload (k + 1) + offset) (length (now (card .entry))) ⌝ }
 {
     if card.len() <= k {
         return card.len();
     }
-    place(card, k + 1, offset)
+    payload_offset(card, k + 1, offset)
 }
 
 // Where vertex j of contour k stands, cut off likewise.
-fn vertex_place(card: &[u8], k: usize, j: usize) -> usize
-    ensures { λ r. ⌜ r ≡ min (vertexPlace k j) (length (now (card .entry))) ⌝ }
+fn vertex_offset(card: &[u8], k: usize, j: usize) -> usize
+    ensures { λ r. ⌜ r ≡ min (vertexOffset k j) (length (now (card .entry))) ⌝ }
 {
     let end = card.len();
-    let start = contour_place(card, k, 12);
+    let start = contour_offset(card, k, 12);
     if (end - start) / 16 < j {
         return end;
     }
@@ -155,11 +155,11 @@ fn vertex_place(card: &[u8], k: usize, j: usize) -> usize
 }
 
 // Where pair q stands, cut off likewise.
-fn pair_place(card: &[u8], q: usize) -> usize
+fn pair_offset(card: &[u8], q: usize) -> usize
     ensures { λ r. ⌜ r ≡ min (pairPlace (now (card .entry)) q) (length (now (card .entry))) ⌝ }
 {
     let first = (block::u16_at(card, 12) as usize) + 1;
-    place(card, first + q / PAIRS_A_BLOCK, 16 * (q % PAIRS_A_BLOCK))
+    payload_offset(card, first + q / PAIRS_A_BLOCK, 16 * (q % PAIRS_A_BLOCK))
 }
 
 // ---- a contour
@@ -168,13 +168,13 @@ fn pair_place(card: &[u8], q: usize) -> usize
 pub fn contour_byte(card: &[u8], k: usize, offset: usize) -> u8
     ensures { λ r. ⌜ r ≡ byteAt (now (card .entry)) (payload (k + 1) + offset) ⌝ }
 {
-    block::byte_at(card, contour_place(card, k, offset))
+    block::byte_at(card, contour_offset(card, k, offset))
 }
 
 fn contour_u32(card: &[u8], k: usize, offset: usize) -> u32
     ensures { λ r. ⌜ r ≡ u32At (now (card .entry)) (payload (k + 1) + offset) ⌝ }
 {
-    block::u32_at(card, contour_place(card, k, offset))
+    block::u32_at(card, contour_offset(card, k, offset))
 }
 
 // Contour k's id.
@@ -195,7 +195,7 @@ pub fn tag(card: &[u8], k: usize) -> u32
 pub fn vertices(card: &[u8], k: usize) -> usize
     ensures { λ r. ⌜ r ≡ vertexCountOf (now (card .entry)) k ⌝ }
 {
-    block::u16_at(card, contour_place(card, k, 8)) as usize
+    block::u16_at(card, contour_offset(card, k, 8)) as usize
 }
 
 // Whether contour k is the outline of a part or a hole in one. On a card that was not checked, any byte but 0 is a hole.
@@ -211,9 +211,9 @@ pub fn contour_type(card: &[u8], k: usize) -> ContourType
 
 // Vertex j of contour k.
 pub fn vertex(card: &[u8], k: usize, j: usize) -> Point
-    ensures { λ r. ⌜ r ≡ pointAt (now (card .entry)) (vertexPlace k j) ⌝ }
+    ensures { λ r. ⌜ r ≡ pointAt (now (card .entry)) (vertexOffset k j) ⌝ }
 {
-    let at = vertex_place(card, k, j);
+    let at = vertex_offset(card, k, j);
     Point {
         x: block::f64_at(card, at),
         y: block::f64_at(card, at + 8),
@@ -227,7 +227,7 @@ fn pair_u32(card: &[u8], q: usize, offset: usize) -> u32
     requires { ⌜ offset < 16 ⌝ }
     ensures { λ r. ⌜ r ≡ u32At (now (card .entry)) (pairPlace (now (card .entry)) q + offset) ⌝ }
 {
-    block::u32_at(card, pair_place(card, q) + offset)
+    block::u32_at(card, pair_offset(card, q) + offset)
 }
 
 // The id and the tag of pair q's first contour, and those of its second.

@@ -19,7 +19,7 @@ use Rattle.instance.specs.declared.Instance.{Instance}
 use Rattle.instance.specs.declared.Outline.{Outline}
 use Rattle.closure.specs.Limits.{CONTOURS}
 use Rattle.fields.specs.Limits.{perContourLimit, candidateLimit, vertexLimit}
-use Rattle.fields.specs.Layout.{contoursOf, perContourOf, exteriorOf, interiorOf, vertexCountOf, typeOf, vertexPlace}
+use Rattle.fields.specs.Layout.{contoursOf, perContourOf, exteriorOf, interiorOf, vertexCountOf, typeOf, vertexOffset}
 use Rattle.answer.specs.declared.Point.{Point}
 use Rattle.fields.specs.Values.{asType, asPreference, pointAt}
 use Rattle.answer.specs.declared.ContourType.{ContourType}
@@ -150,7 +150,7 @@ module _ (s : List ℕ) (k : ℕ) where
   unfolding verticesOf flat
   numbers-none = refl
 
-  pub numbers-more : (j : ℕ) (p : Point) (l : List Float) → j < vertexLimit → p ≡ pointAt s (vertexPlace k j)
+  pub numbers-more : (j : ℕ) (p : Point) (l : List Float) → j < vertexLimit → p ≡ pointAt s (vertexOffset k j)
       → l ≡ numbersAt j
       → set (set l (2 * j) (p .x)) (2 * j + 1) (p .y) ≡ numbersAt (j + 1)
   unfolding verticesOf

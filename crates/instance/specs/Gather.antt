@@ -11,13 +11,13 @@ use Rattle.candidates.specs.Direction.{directionOf}
 use Rattle.candidates.specs.Generate.{candidatesOf}
 use Rattle.closure.specs.Limits.{CONTOURS}
 use Rattle.fields.specs.Limits.{perContourLimit, candidateLimit, vertexLimit}
-use Rattle.fields.specs.Layout.{contoursOf, perContourOf, exteriorOf, interiorOf, vertexCountOf, typeOf, vertexPlace}
+use Rattle.fields.specs.Layout.{contoursOf, perContourOf, exteriorOf, interiorOf, vertexCountOf, typeOf, vertexOffset}
 use Rattle.fields.specs.Values.{asType, asPreference, pointAt}
 
 -- the first so many vertices of contour k
 unfoldable pub verticesOf : List ℕ → ℕ → ℕ → List Point
 verticesOf s k zero = []
-verticesOf s k (suc j) = verticesOf s k j ++ (pointAt s (vertexPlace k j) ∷ [])
+verticesOf s k (suc j) = verticesOf s k j ++ (pointAt s (vertexOffset k j) ∷ [])
 
 -- a contour's vertices; no accepted card has more of them than the limit
 unfoldable pub outlineOf : List ℕ → ℕ → List Point

@@ -5,7 +5,7 @@ use lib.ListN.{length}
 use lib.Ieee.{Float}
 use Rattle.answer.specs.declared.Point.{Point}
 use Rattle.candidates.specs.declared.Candidate.{Candidate}
-use Rattle.fields.specs.Layout.{contoursOf, homePlace}
+use Rattle.fields.specs.Layout.{contoursOf, homeOffset}
 use Rattle.fields.specs.Values.{pointAt}
 use Rattle.card.specs.Names.{pairsOn}
 use Rattle.table.specs.Distances.{distancesOf, homesOf}
@@ -15,7 +15,7 @@ use Rattle.instance.specs.Gather.{gathered, owners, firsts}
 
 -- where the beam is at first
 abbrev pub homeOn : List ℕ → Point
-homeOn s = pointAt s homePlace
+homeOn s = pointAt s homeOffset
 
 -- all candidates, and how many there are
 abbrev pub candidatesOn : List ℕ → List Candidate

@@ -16,7 +16,7 @@ use Rattle.cost.specs.Rapid.{totalRapidOf}
 use Rattle.cost.specs.Sequence.{sequenceCostOf}
 use Rattle.hierarchy.specs.Questions.{numContours, precedencesOf, violatesOf, predecessorsOf, successorsOf}
 use Rattle.hierarchy.specs.Questions.{validSequence, topologicalSort}
-use Rattle.fields.specs.Layout.{homePlace}
+use Rattle.fields.specs.Layout.{homeOffset}
 use Rattle.fields.specs.Values.{pointAt}
 use Rattle.card.specs.Verdict.{checkOf}
 use Rattle.table.specs.Evaluate.{lengthOf}
@@ -101,7 +101,7 @@ pub record OfCards : Type 0 where
       ℕ × List ℕ} (λ a. Written (nearest (groundOf home table t first []) (length tour)) tour (a .0) (a .1))
   pub probe-distances :
       (s : List ℕ) (home table : List Float) (count : ℕ) → let all = instanceOf s in
-      OneAnswer (And (Is (homed (all .items) (all .count) (pointAt s homePlace) home))
+      OneAnswer (And (Is (homed (all .items) (all .count) (pointAt s homeOffset) home))
       (And (Is (tabled (all .items) (all .count) (all .owner) table)) (Is (all .count))))
 
 abbrev pub Claim : Type 0

@@ -13,7 +13,7 @@ ghost use Rattle.cost.specs.Sequence.{sequenceCostOf};
 ghost use Rattle.answer.specs.Code.{codeOf};
 ghost use Rattle.hierarchy.specs.Questions.{numContours, precedencesOf, violatesOf, predecessorsOf, successorsOf, validSequence, topologicalSort};
 ghost use Rattle.card.specs.Verdict.{checkOf};
-ghost use Rattle.fields.specs.Layout.{homePlace};
+ghost use Rattle.fields.specs.Layout.{homeOffset};
 ghost use Rattle.fields.specs.Values.{pointAt};
 ghost use Rattle.instance.specs.Room.{instanceOf};
 ghost use Rattle.table.specs.Distances.{homed, tabled};
@@ -491,7 +491,7 @@ pub extern "C" fn probe_distances(
     table: &mut [f64],
     count: &mut usize,
 )
-    ensures { λ _. ⌜ now (home .exit) ≡ homed (instanceOf (now (card .entry)) .items) (instanceOf (now (card .entry)) .count) (pointAt (now (card .entry)) homePlace) (now (home .entry)) ⌝ }
+    ensures { λ _. ⌜ now (home .exit) ≡ homed (instanceOf (now (card .entry)) .items) (instanceOf (now (card .entry)) .count) (pointAt (now (card .entry)) homeOffset) (now (home .entry)) ⌝ }
     ensures { λ _. ⌜ now (table .exit) ≡ tabled (instanceOf (now (card .entry)) .items) (instanceOf (now (card .entry)) .count) (instanceOf (now (card .entry)) .owner) (now (table .entry)) ⌝ }
     ensures { λ _. ⌜ now (count .exit) ≡ instanceOf (now (card .entry)) .count ⌝ }
 {

@@ -8,7 +8,7 @@ use lib.ListN.{length}
 use Rattle.block.specs.Field.{byteAt, u16At, u32At, u64At}
 use Rattle.block.proofs.Readings.{cut-byte, cut-u16, cut-u32}
 use Rattle.fields.specs.Limits.{vertexLimit}
-use Rattle.fields.specs.Layout.{payload, idOf, tagOf, vertexCountOf, typeOf, fillerOf, vertexPlace}
+use Rattle.fields.specs.Layout.{payload, idOf, tagOf, vertexCountOf, typeOf, fillerOf, vertexOffset}
 use Rattle.reader.specs.declared.Width.the-variants.{One, Two, Four, Eight}
 use Rattle.reader.specs.declared.Field.{Field}
 use Rattle.reader.specs.declared.Head.{Head}
@@ -68,16 +68,16 @@ module _ (s : List ℕ) (job contours pairs candidates passes moves x y exterior
 -- ---- a contour
 
 -- the vertices from vertex j on
-pub vertices-walked : (s : List ℕ) (k j v place : ℕ) → place ≡ min (vertexPlace k j) (length s)
+pub vertices-walked : (s : List ℕ) (k j v place : ℕ) → place ≡ min (vertexOffset k j) (length s)
     → walk s place (eights (2 * v)) ≡ coordinatesFrom s k j v
 unfolding walk coordinatesFrom
 vertices-walked s k j zero place cut = refl
 vertices-walked s k j (suc v) place cut =
     let mid = min (place + 8) (length s) in
     let two : 2 * suc v ≡ suc (suc (2 * v)) = omega arith in
-    let cut′ : mid ≡ min (vertexPlace k j + 8) (length s) = omega arith in
-    let x : u64At s place ≡ u64At s (vertexPlace k j) = ap (u64At s) cut ∙ cut-value s (vertexPlace k j) Eight in
-    let y : u64At s mid ≡ u64At s (vertexPlace k j + 8) = ap (u64At s) cut′ ∙ cut-value s (vertexPlace k j + 8) Eight in
+    let cut′ : mid ≡ min (vertexOffset k j + 8) (length s) = omega arith in
+    let x : u64At s place ≡ u64At s (vertexOffset k j) = ap (u64At s) cut ∙ cut-value s (vertexOffset k j) Eight in
+    let y : u64At s mid ≡ u64At s (vertexOffset k j + 8) = ap (u64At s) cut′ ∙ cut-value s (vertexOffset k j + 8) Eight in
     let on = vertices-walked s k (suc j) v (min (mid + 8) (length s)) (omega arith) in
     rw (two, x, y, on)
 
@@ -130,7 +130,7 @@ module _ (s : List ℕ) (k place count : ℕ) (head : ContourHead) (coordinates 
       ap (λ (h : ContourHead). h .kind) e ∙ ap (λ (a : ℕ). byteAt s (a + 10)) cut ∙ cut-byte s p 10 in
       let filler : head .filler ≡ fillerOf s k =
       ap (λ (h : ContourHead). h .filler) e ∙ ap (λ (a : ℕ). byteAt s (a + 11)) cut ∙ cut-byte s p 11 in
-      let after : head .after ≡ min (vertexPlace k 0) (length s) = ap (λ (h : ContourHead). h .after) e ∙ omega arith in
+      let after : head .after ≡ min (vertexOffset k 0) (length s) = ap (λ (h : ContourHead). h .after) e ∙ omega arith in
       let v = min (vertexCountOf s k) vertexLimit in
       let all : coordinates ≡ filled (coordinatesFrom s k 0 v) =
       f ∙ ap (λ (c : ℕ). filled (walk s (head .after) (eights c))) (n ∙ ap (λ (c : ℕ). 2 * min c vertexLimit) vertices)

@@ -6,7 +6,7 @@ use native.Mathlib.Nat.{add-zero}
 use native.Mathlib.Omega.{arith}
 use lib.ListN.{length}
 use Rattle.block.specs.Field.{f64At}
-use Rattle.fields.specs.Layout.{payload, vertexPlace}
+use Rattle.fields.specs.Layout.{payload, vertexOffset}
 use Rattle.fields.specs.Values.{pointAt}
 use Rattle.reader.specs.declared.Width.the-variants.{One, Two, Four, Eight}
 use Rattle.reader.specs.declared.ContourHead.{ContourHead}
@@ -41,7 +41,7 @@ contour-in-order s k v =
     let kind = fieldAt s (vertices .after) One in
     let filler = fieldAt s (kind .after) One in
     let p = payload (k + 1) in
-    let after : min (p + 12) (length s) ≡ min (vertexPlace k 0) (length s) = omega arith in
+    let after : min (p + 12) (length s) ≡ min (vertexOffset k 0) (length s) = omega arith in
     let head = contour-head-is s p id tag vertices kind filler refl refl refl refl refl in
     ap (λ (h : ContourHead). h .id ∷ h .tag ∷ h .vertices ∷ h .kind ∷ h .filler ∷ walk s (h .after) (eights (2 * v)))
     head

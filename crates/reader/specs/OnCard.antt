@@ -5,8 +5,8 @@ use Prim.Native.Nat.{ℕ, zero, suc, _+_, _*_, _-_, min}
 use lib.ListN.{length, replicate}
 use Rattle.block.specs.Field.{byteAt, u16At, u32At, u64At}
 use Rattle.fields.specs.Limits.{vertexLimit}
-use Rattle.fields.specs.Layout.{jobOf, contoursOf, pairsOf, perContourOf, passesOf, moveLimitOf, homePlace, exteriorOf}
-use Rattle.fields.specs.Layout.{interiorOf, idOf, tagOf, vertexCountOf, typeOf, fillerOf, vertexPlace}
+use Rattle.fields.specs.Layout.{jobOf, contoursOf, pairsOf, perContourOf, passesOf, moveLimitOf, homeOffset, exteriorOf}
+use Rattle.fields.specs.Layout.{interiorOf, idOf, tagOf, vertexCountOf, typeOf, fillerOf, vertexOffset}
 use Rattle.reader.specs.declared.Width.{Width}
 use Rattle.reader.specs.declared.Width.the-variants.{One, Two, Four, Eight}
 use Rattle.reader.specs.declared.Head.{Head}
@@ -25,8 +25,8 @@ headOf s = record {
   candidates = perContourOf s;
   passes = passesOf s;
   moves = moveLimitOf s;
-  x = u64At s homePlace;
-  y = u64At s (homePlace + 8);
+  x = u64At s homeOffset;
+  y = u64At s (homeOffset + 8);
   exterior = exteriorOf s;
   interior = interiorOf s;
 }
@@ -57,7 +57,7 @@ contourHead s at = record {
 unfoldable pub coordinatesFrom : List ℕ → ℕ → ℕ → ℕ → List ℕ
 coordinatesFrom s k j zero = []
 coordinatesFrom s k j (suc v) =
-    u64At s (vertexPlace k j) ∷ u64At s (vertexPlace k j + 8) ∷ coordinatesFrom s k (suc j) v
+    u64At s (vertexOffset k j) ∷ u64At s (vertexOffset k j + 8) ∷ coordinatesFrom s k (suc j) v
 
 -- as many places as the most vertices have coordinates, the rest of them zero
 unfoldable pub filled : List ℕ → List ℕ

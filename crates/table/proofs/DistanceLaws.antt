@@ -11,7 +11,7 @@ use Rattle.candidates.specs.declared.Candidate.{Candidate}
 use Rattle.points.specs.Numbers.{huge}
 use Rattle.points.specs.Distance.{distanceOf}
 use Rattle.table.specs.Evaluate.{homeAt, distanceAt}
-use Rattle.table.specs.Distances.{absent, pierced, left, legOf, legAt, rowOf, distancesOf, homeLeg, homesOf}
+use Rattle.table.specs.Distances.{absent, pierced, leaving, legOf, legAt, rowOf, distancesOf, homeLeg, homesOf}
 use Rattle.table.proofs.FillLaws.{listed-length, listed-at, chained-length, chained-at}
 use Rattle.table.proofs.RoomLaws.{row-length}
 
@@ -37,7 +37,7 @@ module _ (cs : List Candidate) (owner : List ℕ) (a b : ℕ) (here : a < length
   -- and else the distance from where a's cut ends to where b is pierced
   pub other-contour : (getD owner a 0 ≡ getD owner b 0 → ⊥) →
       distanceAt (distancesOf cs owner) (length cs) a b
-      ≡ distanceOf (left (getD cs a absent)) (pierced (getD cs b absent))
+      ≡ distanceOf (leaving (getD cs a absent)) (pierced (getD cs b absent))
   unfolding legAt legOf
   other-contour other = rw (distances-at, ne-eqb (getD owner a 0) (getD owner b 0) other)
 

@@ -11,13 +11,13 @@ use Rattle.candidates.specs.declared.Candidate.{Candidate}
 use Rattle.points.proofs.SizeLaws.{Near, distance-below}
 use Rattle.points.specs.Numbers.{huge}
 use Rattle.table.specs.Evaluate.{homeAt, distanceAt}
-use Rattle.table.specs.Distances.{absent, pierced, left, distancesOf, homesOf}
+use Rattle.table.specs.Distances.{absent, pierced, leaving, distancesOf, homesOf}
 use Rattle.table.proofs.DistanceLaws.{other-contour, homes-at}
 
 -- the points of every candidate are below 2^k in size
 pub record AllNear (k : ℕ) (cs : List Candidate) : Type 0 where
   pub starts : (a : ℕ) → a < length cs → Near k (pierced (getD cs a absent))
-  pub ends : (a : ℕ) → a < length cs → Near k (left (getD cs a absent))
+  pub ends : (a : ℕ) → a < length cs → Near k (leaving (getD cs a absent))
 
 module _ (k : ℕ) (cs : List Candidate) (small : k ≤ 400) (near : AllNear k cs) where
   -- between candidates of two contours
@@ -26,7 +26,7 @@ module _ (k : ℕ) (cs : List Candidate) (small : k ≤ 400) (near : AllNear k c
       → lt (distanceAt (distancesOf cs owner) (length cs) a b) huge ≡ true
   distances-below owner a b here there other =
       rw (other-contour cs owner a b here there other)
-      (distance-below k (left (getD cs a absent)) (pierced (getD cs b absent)) small (near .ends a here)
+      (distance-below k (leaving (getD cs a absent)) (pierced (getD cs b absent)) small (near .ends a here)
       (near .starts b there))
 
   -- and from home

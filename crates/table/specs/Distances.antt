@@ -28,12 +28,12 @@ absent = candidateAt Ccw (spot nowhere 0)
 abbrev pub pierced : Candidate → Point
 pierced c = point (c .x) (c .y)
 
-abbrev pub left : Candidate → Point
-left c = point (c .«end_x») (c .«end_y»)
+abbrev pub leaving : Candidate → Point
+leaving c = point (c .«end_x») (c .«end_y»)
 
 -- from candidate c of contour k to candidate d of contour m; within one contour the largest float
 unfoldable pub legOf : Candidate → ℕ → Candidate → ℕ → Float
-legOf c k d m = cond (eqb k m) huge (distanceOf (left c) (pierced d))
+legOf c k d m = cond (eqb k m) huge (distanceOf (leaving c) (pierced d))
 
 -- the candidates by number, with the contour of each
 unfoldable pub legAt : List Candidate → List ℕ → ℕ → ℕ → Float

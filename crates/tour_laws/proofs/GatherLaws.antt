@@ -23,11 +23,11 @@ use Rattle.candidates.specs.Along.{perimeterOf, spot}
 use Rattle.candidates.specs.Generate.{candidateAt, blank, spaced, candidatesFrom, candidatesOf}
 use Rattle.candidates.proofs.SizeLaws.{AllGood, each-near}
 use Rattle.closure.proofs.PairLaws.{lt-or, same-or}
-use Rattle.fields.specs.Layout.{contoursOf, perContourOf, vertexCountOf, vertexPlace}
+use Rattle.fields.specs.Layout.{contoursOf, perContourOf, vertexCountOf, vertexOffset}
 use Rattle.fields.specs.Values.{pointAt}
 use Rattle.card.specs.Verdict.{checkOf}
 use Rattle.card_laws.proofs.Facts.{accepted}
-use Rattle.table.specs.Distances.{absent, pierced, left}
+use Rattle.table.specs.Distances.{absent, pierced, leaving}
 use Rattle.instance.specs.Gather.{verticesOf, wayOf, outlineOf, offersOf, gathered, firsts}
 use Rattle.instance.proofs.GatherLaws.{firsts-length, vertices-length}
 use Rattle.instance.proofs.FineLaws.{outline-whole}
@@ -46,12 +46,12 @@ firsts-below s n k = go (lt-or n k)
 
 -- every candidate of a list does, and so does what is read past its end
 abbrev pub EndsThere : List Candidate → Type 0
-EndsThere cs = (a : ℕ) → left (getD cs a absent) ≡ pierced (getD cs a absent)
+EndsThere cs = (a : ℕ) → leaving (getD cs a absent) ≡ pierced (getD cs a absent)
 
 ends-none : EndsThere []
 ends-none a = refl
 
-ends-one : (c : Candidate) (more : List Candidate) → left c ≡ pierced c → EndsThere more → EndsThere (c ∷ more)
+ends-one : (c : Candidate) (more : List Candidate) → leaving c ≡ pierced c → EndsThere more → EndsThere (c ∷ more)
 ends-one c more e h zero = e
 ends-one c more e h (suc a) = h a
 
@@ -104,18 +104,18 @@ any-default [] a d e h = absurd (omega arith)
 any-default (x ∷ l) zero d e h = refl
 any-default (x ∷ l) (suc a) d e h = any-default l a d e (omega arith)
 
-vertex-at : (s : List ℕ) (k m j : ℕ) → j < m → getD (verticesOf s k m) j nowhere ≡ pointAt s (vertexPlace k j)
+vertex-at : (s : List ℕ) (k m j : ℕ) → j < m → getD (verticesOf s k m) j nowhere ≡ pointAt s (vertexOffset k j)
 unfolding verticesOf
 vertex-at s k zero j h = absurd (omega arith)
 vertex-at s k (suc m) j h = go (same-or j m) (vertex-at s k m j)
   where
-    go : (j ≡ m) ⊎ (j ≡ m → ⊥) → (j < m → getD (verticesOf s k m) j nowhere ≡ pointAt s (vertexPlace k j))
-        → getD (verticesOf s k m ++ (pointAt s (vertexPlace k m) ∷ [])) j nowhere ≡ pointAt s (vertexPlace k j)
+    go : (j ≡ m) ⊎ (j ≡ m → ⊥) → (j < m → getD (verticesOf s k m) j nowhere ≡ pointAt s (vertexOffset k j))
+        → getD (verticesOf s k m ++ (pointAt s (vertexOffset k m) ∷ [])) j nowhere ≡ pointAt s (vertexOffset k j)
     go (inl e) earlier =
-        getD-at (verticesOf s k m) (pointAt s (vertexPlace k m)) [] nowhere j (vertices-length s k m ∙ sym e)
-        ∙ ap (λ (i : ℕ). pointAt s (vertexPlace k i)) (sym e)
+        getD-at (verticesOf s k m) (pointAt s (vertexOffset k m)) [] nowhere j (vertices-length s k m ∙ sym e)
+        ∙ ap (λ (i : ℕ). pointAt s (vertexOffset k i)) (sym e)
     go (inr d) earlier =
-        List·getD-append (verticesOf s k m) (pointAt s (vertexPlace k m) ∷ []) nowhere j
+        List·getD-append (verticesOf s k m) (pointAt s (vertexOffset k m) ∷ []) nowhere j
         (let l = vertices-length s k m in omega arith) ∙ earlier (omega arith)
 
 module _ (s : List ℕ) (fine : checkOf s ≡ Fine) where

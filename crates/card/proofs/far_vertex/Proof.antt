@@ -6,7 +6,7 @@ use lib.ListN.{length}
 use denote.Ref.{now}
 use Rattle.answer.proofs.LowestLaws.{Nowhere}
 use Rattle.block.proofs.Readings.{u16-of}
-use Rattle.fields.specs.Layout.{payload, vertexPlace, vertexCountOf}
+use Rattle.fields.specs.Layout.{payload, vertexOffset, vertexCountOf}
 use Rattle.card.specs.Stages.{farPoint, farVertex}
 use Rattle.card.proofs.LoopLaws.{none-yet, one-more, found-here, none-found}
 use Rattle.card.proofs.FarLaws.{vertex-looked-at}
@@ -16,35 +16,35 @@ use Rattle.card.proofs.far_vertex.Tie as tie
 abbrev Inv-loop : tie.InvT-loop
 Inv-loop card k start v j₀ j =
     (start ≡ min (payload (k + 1) + 12) (length card)) × (v ≡ vertexCountOf card k) × (v < 65536) × (j ≤ v) × Nowhere
-    (λ i. farPoint card (vertexPlace k i)) j
+    (λ i. farPoint card (vertexOffset k i)) j
 
 abbrev μ-loop : tie.MeasureT-loop
 μ-loop card k start v j₀ j = v - j
 
-contour-place-requires : tie.Need-contour-place-requires Inv-loop μ-loop
-contour-place-requires c κs = tt
+contour-offset-requires : tie.Need-contour-offset-requires Inv-loop μ-loop
+contour-offset-requires c κs = tt
 
-contour-place-requires-2 : tie.Need-contour-place-requires-2 Inv-loop μ-loop
-contour-place-requires-2 c κs = tt
+contour-offset-requires-2 : tie.Need-contour-offset-requires-2 Inv-loop μ-loop
+contour-offset-requires-2 c κs = tt
 
 u16-at-requires : tie.Need-u16-at-requires Inv-loop μ-loop
 u16-at-requires c κs = tt
 
 loop-holds : tie.Need-loop-holds Inv-loop μ-loop
 loop-holds c = let a = c .before .before .before .before .args in (
-  c .before .before .contour-place .ensures,
-  u16-of _ _ _ (c .before .contour-place2 .ensures) _
+  c .before .before .contour-offset .ensures,
+  u16-of _ _ _ (c .before .contour-offset2 .ensures) _
       (c .u16-at .ensures),
   omega arith,
   omega arith,
-  none-yet (λ i. farPoint (now (a .card)) (vertexPlace (a .k) i)),
+  none-yet (λ i. farPoint (now (a .card)) (vertexOffset (a .k) i)),
 )
 
 returns : tie.Need-returns Inv-loop μ-loop
 unfolding farVertex
 returns c = let a = c .before .before .before .before .before .before .before .before .args in
     let i = c .before .before .before .loop .inv in
-    found-here (λ i. farPoint (now (a .card)) (vertexPlace (a .k) i)) (vertexCountOf (now (a .card)) (a .k)) _
+    found-here (λ i. farPoint (now (a .card)) (vertexOffset (a .k) i)) (vertexCountOf (now (a .card)) (a .k)) _
     (omega arith) (i .4)
     (vertex-looked-at (now (a .card)) (payload (a .k + 1) + 12) _ _ _ (i .0) (c .before .far-point .ensures)
     ∙ c .if1 .taken)
@@ -59,7 +59,7 @@ loop-again c = let a = c .before .before .before .before .before .before .before
       i .1,
       i .2,
       omega arith,
-      one-more (λ i. farPoint (now (a .card)) (vertexPlace (a .k) i)) _ (i .4)
+      one-more (λ i. farPoint (now (a .card)) (vertexOffset (a .k) i)) _ (i .4)
           (vertex-looked-at (now (a .card)) (payload (a .k + 1) + 12) _ _ _ (i .0) (c .before .far-point .ensures)
           ∙ c .if1 .left),
     )
@@ -68,7 +68,7 @@ returns-2 : tie.Need-returns-2 Inv-loop μ-loop
 unfolding farVertex
 returns-2 c = let a = c .before .before .before .before .before .before .args in
     let i = c .before .loop .inv in
-    none-found (λ i. farPoint (now (a .card)) (vertexPlace (a .k) i)) (vertexCountOf (now (a .card)) (a .k)) _
+    none-found (λ i. farPoint (now (a .card)) (vertexOffset (a .k) i)) (vertexCountOf (now (a .card)) (a .k)) _
     (omega arith) (i .4)
 
 pub far-vertex-spec : {M : Type 1} → statement M
@@ -77,8 +77,8 @@ far-vertex-spec =
     (tie.spec
     Inv-loop
     μ-loop
-    contour-place-requires
-    contour-place-requires-2
+    contour-offset-requires
+    contour-offset-requires-2
     u16-at-requires
     (λ c. omega arith)
     loop-holds

@@ -13,7 +13,7 @@ returns c = let a = c .before .before .args in used-head (now (a .card)) (a .b) 
 returns-2 : tie.Need-returns-2
 returns-2 c = let a = c .before .before .before .before .before .before .args in
     used-contour (now (a .card)) (a .b) (c .before .before .before .before .if1 .left) _ (omega arith)
-    (u16-of _ _ _ (c .before .contour-place .ensures) _ (c .u16-at2 .ensures))
+    (u16-of _ _ _ (c .before .contour-offset .ensures) _ (c .u16-at2 .ensures))
 
 returns-3 : tie.Need-returns-3
 returns-3 c = let a = c .before .before .before .before .before .before .args in

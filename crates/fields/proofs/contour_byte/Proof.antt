@@ -9,7 +9,7 @@ use Rattle.fields.proofs.contour_byte.Tie as tie
 
 returns : tie.Need-returns
 returns c = let a = c .before .before .before .args in
-    byte-of (now (a .card)) (payload (a .k + 1) + a .offset) _ (c .before .contour-place .ensures) _
+    byte-of (now (a .card)) (payload (a .k + 1) + a .offset) _ (c .before .contour-offset .ensures) _
     (c .byte-at .ensures)
 
 pub contour-byte-spec : {M : Type 1} → statement M

@@ -6,7 +6,7 @@ use Rattle.fields.proofs.vertex.Tie as tie
 
 returns : tie.Need-returns
 returns c =
-    point-is _ _ _ _ _ (c .before .before .vertex-place .ensures) (c .before .f64-at .ensures) (c .f64-at2 .ensures)
+    point-is _ _ _ _ _ (c .before .before .vertex-offset .ensures) (c .before .f64-at .ensures) (c .f64-at2 .ensures)
 
 pub vertex-spec : {M : Type 1} → statement M
 vertex-spec =
