@@ -68,17 +68,17 @@ vertexOffset k j = payload (k + 1) + 12 + 16 * j
 
 -- ---- a pair: 31 to a block, after the contours
 
-abbrev pub pairPlace : List ℕ → ℕ → ℕ
-pairPlace s q = payload (contoursOf s + 1 + q / pairsABlock) + 16 * (q % pairsABlock)
+abbrev pub pairOffset : List ℕ → ℕ → ℕ
+pairOffset s q = payload (contoursOf s + 1 + q / pairsABlock) + 16 * (q % pairsABlock)
 
 abbrev pub beforeIdOf : List ℕ → ℕ → ℕ
-beforeIdOf s q = u32At s (pairPlace s q + 0)
+beforeIdOf s q = u32At s (pairOffset s q + 0)
 
 abbrev pub beforeTagOf : List ℕ → ℕ → ℕ
-beforeTagOf s q = u32At s (pairPlace s q + 4)
+beforeTagOf s q = u32At s (pairOffset s q + 4)
 
 abbrev pub afterIdOf : List ℕ → ℕ → ℕ
-afterIdOf s q = u32At s (pairPlace s q + 8)
+afterIdOf s q = u32At s (pairOffset s q + 8)
 
 abbrev pub afterTagOf : List ℕ → ℕ → ℕ
-afterTagOf s q = u32At s (pairPlace s q + 12)
+afterTagOf s q = u32At s (pairOffset s q + 12)

@@ -4,7 +4,7 @@ ghost use mathlib.Core.Path.{_≡_};
 ghost use Prim.Native.Nat.{_+_, _<_, min};
 ghost use lib.ListN.{length};
 ghost use Rattle.block.specs.Field.{byteAt, u32At};
-ghost use Rattle.fields.specs.Layout.{payload, jobOf, contoursOf, pairsOf, perContourOf, passesOf, moveLimitOf, homeOffset, exteriorOf, interiorOf, idOf, tagOf, vertexCountOf, typeOf, vertexOffset, pairPlace, beforeIdOf, beforeTagOf, afterIdOf, afterTagOf};
+ghost use Rattle.fields.specs.Layout.{payload, jobOf, contoursOf, pairsOf, perContourOf, passesOf, moveLimitOf, homeOffset, exteriorOf, interiorOf, idOf, tagOf, vertexCountOf, typeOf, vertexOffset, pairOffset, beforeIdOf, beforeTagOf, afterIdOf, afterTagOf};
 ghost use Rattle.fields.specs.Values.{asType, asPreference, pointAt};
 use answer::ContourType;
 use answer::CutDirectionPreference;
@@ -156,7 +156,7 @@ fn vertex_offset(card: &[u8], k: usize, j: usize) -> usize
 
 // Where pair q stands, cut off likewise.
 fn pair_offset(card: &[u8], q: usize) -> usize
-    ensures { λ r. ⌜ r ≡ min (pairPlace (now (card .entry)) q) (length (now (card .entry))) ⌝ }
+    ensures { λ r. ⌜ r ≡ min (pairOffset (now (card .entry)) q) (length (now (card .entry))) ⌝ }
 {
     let first = (block::u16_at(card, 12) as usize) + 1;
     payload_offset(card, first + q / PAIRS_A_BLOCK, 16 * (q % PAIRS_A_BLOCK))
@@ -225,7 +225,7 @@ pub fn vertex(card: &[u8], k: usize, j: usize) -> Point
 // A field of pair q.
 fn pair_u32(card: &[u8], q: usize, offset: usize) -> u32
     requires { ⌜ offset < 16 ⌝ }
-    ensures { λ r. ⌜ r ≡ u32At (now (card .entry)) (pairPlace (now (card .entry)) q + offset) ⌝ }
+    ensures { λ r. ⌜ r ≡ u32At (now (card .entry)) (pairOffset (now (card .entry)) q + offset) ⌝ }
 {
     block::u32_at(card, pair_offset(card, q) + offset)
 }
