@@ -7,9 +7,6 @@ use Rattle.answer.proofs.code.Tie as tie
 returns : tie.Need-returns
 returns c = rw (c .before .before .before .c .given .1) (omega arith)
 
-returns-2 : tie.Need-returns-2
-returns-2 c = search needs
-
 returns-3 : tie.Need-returns-3
 returns-3 c = rw (c .before .before .before .c .given .1) (omega arith)
 
@@ -19,6 +16,5 @@ code-spec =
     (tie.spec
     (λ c. search needs) (λ c. search needs) (λ c. search needs) (λ c. search needs) (λ c. search needs)
     returns
-    (λ c. search needs) (λ c. search needs) (λ c. search needs)
-    returns-2
+    (λ c. search needs) (λ c. search needs) (λ c. search needs) (λ c. search needs)
     returns-3)

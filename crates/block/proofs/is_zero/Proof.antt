@@ -22,9 +22,6 @@ returns c =
     sym (c .before .before .before .loop .inv .1
     ∙ zero-no-more _ _ (c .before .before .loop-test .taken) (c .if1 .taken))
 
-loop-less : tie.Need-loop-less Inv-loop μ-loop
-loop-less c = omega arith
-
 loop-again : tie.Need-loop-again Inv-loop μ-loop
 loop-again c = (
   omega arith,
@@ -44,7 +41,6 @@ is-zero-spec =
     loop-holds
     (λ c. omega arith)
     returns
-    (λ c. omega arith)
-    loop-less
+    (λ c. omega arith) (λ c. omega arith)
     loop-again
     returns-2)

@@ -10,9 +10,6 @@ use Rattle.block.proofs.u32_at.Tie as tie
 returns : tie.Need-returns
 returns c = sym (past-u32 _ _ (c .if1 .taken))
 
-returns-2 : tie.Need-returns-2
-returns-2 c = search needs
-
 returns-3 : tie.Need-returns-3
 unfolding u32At
 returns-3 c = omega arith
@@ -22,8 +19,7 @@ u32-at-spec =
     tie.close
     (tie.spec
     returns
-    (λ c. search needs) (λ c κs. search needs) (λ c. search needs)
-    returns-2
+    (λ c. search needs) (λ c κs. search needs) (λ c. search needs) (λ c. search needs)
     (λ c κs. search needs) (λ c. search needs) (λ c. search needs) (λ c κs. search needs) (λ c. search needs)
     (λ c. search needs) (λ c. search needs)
     returns-3)

@@ -18,9 +18,6 @@ loop-holds : tie.Need-loop-holds Inv-loop μ-loop
 unfolding weigh
 loop-holds c = (omega arith, refl, omega arith)
 
-weight-requires : tie.Need-weight-requires Inv-loop μ-loop
-weight-requires c κs = tt
-
 mul-sum : tie.Need-mul-sum Inv-loop μ-loop
 mul-sum c =
     omega (arith, weight-bound (c .before .before .before .loop .p) (c .weight .result) (omega arith) (omega arith))
@@ -28,9 +25,6 @@ mul-sum c =
 add-sum-2 : tie.Need-add-sum-2 Inv-loop μ-loop
 add-sum-2 c =
     omega (arith, weight-bound (c .before .before .before .loop .p) (c .weight .result) (omega arith) (omega arith))
-
-loop-less : tie.Need-loop-less Inv-loop μ-loop
-loop-less c = omega arith
 
 loop-again : tie.Need-loop-again Inv-loop μ-loop
 loop-again c =
@@ -52,11 +46,9 @@ weighed-spec =
     Inv-loop
     μ-loop
     loop-holds
-    (λ c. omega arith) (λ c. omega arith) (λ c. omega arith)
-    weight-requires
+    (λ c. omega arith) (λ c. omega arith) (λ c. omega arith) (λ c κs. tt)
     mul-sum
     add-sum-2
-    (λ c. omega arith)
-    loop-less
+    (λ c. omega arith) (λ c. omega arith)
     loop-again
     returns)

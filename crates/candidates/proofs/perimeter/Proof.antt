@@ -17,15 +17,6 @@ abbrev μ-loop : tie.MeasureT-loop
 loop-holds : tie.Need-loop-holds Inv-loop μ-loop
 loop-holds c = (omega arith, summed-start _)
 
-edge-at-requires : tie.Need-edge-at-requires Inv-loop μ-loop
-edge-at-requires c κs = tt
-
-length-of-requires : tie.Need-length-of-requires Inv-loop μ-loop
-length-of-requires c κs = tt
-
-loop-less : tie.Need-loop-less Inv-loop μ-loop
-loop-less c = omega arith
-
 loop-again : tie.Need-loop-again Inv-loop μ-loop
 loop-again c = (
   search needs,
@@ -43,9 +34,6 @@ perimeter-spec =
     Inv-loop
     μ-loop
     loop-holds
-    edge-at-requires
-    length-of-requires
-    (λ c. search needs)
-    loop-less
+    (λ c κs. tt) (λ c κs. tt) (λ c. search needs) (λ c. omega arith)
     loop-again
     returns)

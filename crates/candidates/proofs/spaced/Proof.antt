@@ -15,24 +15,9 @@ Inv-loop direction numbers total c items₀ k₀ items k = (k ≤ c) × (items �
 abbrev μ-loop : tie.MeasureT-loop
 μ-loop direction numbers total c items₀ k₀ items k = c - k
 
-blank-requires : tie.Need-blank-requires Inv-loop μ-loop
-blank-requires c κs = tt
-
 loop-holds : tie.Need-loop-holds Inv-loop μ-loop
 unfolding spaced
 loop-holds c = (omega arith, rw (c .blank .ensures))
-
-target-of-requires : tie.Need-target-of-requires Inv-loop μ-loop
-target-of-requires c κs = tt
-
-spot-at-requires : tie.Need-spot-at-requires Inv-loop μ-loop
-spot-at-requires c κs = tt
-
-candidate-at-requires : tie.Need-candidate-at-requires Inv-loop μ-loop
-candidate-at-requires c κs = tt
-
-loop-less : tie.Need-loop-less Inv-loop μ-loop
-loop-less c = omega arith
 
 loop-again : tie.Need-loop-again Inv-loop μ-loop
 loop-again c = (
@@ -57,12 +42,9 @@ spaced-spec =
     (tie.spec
     Inv-loop
     μ-loop
-    blank-requires
+    (λ c κs. tt)
     loop-holds
-    target-of-requires
-    spot-at-requires
-    candidate-at-requires
-    (λ c. omega arith) (λ c. omega arith) (λ c. omega arith)
-    loop-less
+    (λ c κs. tt) (λ c κs. tt) (λ c κs. tt)
+    (λ c. omega arith) (λ c. omega arith) (λ c. omega arith) (λ c. omega arith)
     loop-again
     returns)

@@ -18,18 +18,6 @@ abbrev μ-loop : tie.MeasureT-loop
 loop-holds : tie.Need-loop-holds Inv-loop μ-loop
 loop-holds c = (omega arith, sought-start _ _)
 
-edge-at-requires : tie.Need-edge-at-requires Inv-loop μ-loop
-edge-at-requires c κs = tt
-
-length-of-requires : tie.Need-length-of-requires Inv-loop μ-loop
-length-of-requires c κs = tt
-
-on-the-way-requires : tie.Need-on-the-way-requires Inv-loop μ-loop
-on-the-way-requires c κs = tt
-
-on-edge-requires : tie.Need-on-edge-requires Inv-loop μ-loop
-on-edge-requires c κs = tt
-
 returns : tie.Need-returns Inv-loop μ-loop
 returns c =
     let t = sym (c .before .before .on-the-way .ensures) ∙ c .before .if1 .taken in
@@ -37,9 +25,6 @@ returns c =
     (sought-here _ _ _ _ (c .before .before .before .before .before .loop-test .taken)
     (c .before .before .before .before .before .before .loop .inv .1)
     (rw (c .before .before .before .length-of .ensures, c .before .before .before .before .edge-at .ensures) at t))
-
-loop-less : tie.Need-loop-less Inv-loop μ-loop
-loop-less c = omega arith
 
 loop-again : tie.Need-loop-again Inv-loop μ-loop
 loop-again c =
@@ -50,9 +35,6 @@ loop-again c =
           (c .before .before .before .before .before .loop .inv .1)
           (rw (c .before .before .length-of .ensures, c .before .before .before .edge-at .ensures) at t)),
     )
-
-last-spot-requires : tie.Need-last-spot-requires Inv-loop μ-loop
-last-spot-requires c κs = tt
 
 returns-2 : tie.Need-returns-2 Inv-loop μ-loop
 returns-2 c =
@@ -65,13 +47,9 @@ spot-at-spec =
     Inv-loop
     μ-loop
     loop-holds
-    edge-at-requires
-    length-of-requires
-    on-the-way-requires
-    on-edge-requires
+    (λ c κs. tt) (λ c κs. tt) (λ c κs. tt) (λ c κs. tt)
     returns
-    (λ c. search needs)
-    loop-less
+    (λ c. search needs) (λ c. omega arith)
     loop-again
-    last-spot-requires
+    (λ c κs. tt)
     returns-2)

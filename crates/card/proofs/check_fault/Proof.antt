@@ -18,17 +18,11 @@ abbrev μ-loop : tie.MeasureT-loop
 loop-holds : tie.Need-loop-holds Inv-loop μ-loop
 loop-holds c = (omega arith, none-yet (badCheck (now (c .before .args .card))))
 
-is-checked-requires : tie.Need-is-checked-requires Inv-loop μ-loop
-is-checked-requires c κs = tt
-
 returns : tie.Need-returns Inv-loop μ-loop
 unfolding checkFault
 returns c = let s = now (c .before .before .before .before .before .args .card) in
     found-here (badCheck s) (blocksOf s) _ (c .before .before .loop-test .taken)
     (c .before .before .before .loop .inv .1) (rw (← c .before .is-checked .ensures, c .if1 .taken))
-
-loop-less : tie.Need-loop-less Inv-loop μ-loop
-loop-less c = omega arith
 
 loop-again : tie.Need-loop-again Inv-loop μ-loop
 loop-again c = let s = now (c .before .before .before .before .before .args .card) in (
@@ -49,10 +43,8 @@ check-fault-spec =
     Inv-loop
     μ-loop
     loop-holds
-    (λ c. omega arith)
-    is-checked-requires
+    (λ c. omega arith) (λ c κs. tt)
     returns
-    (λ c. omega arith)
-    loop-less
+    (λ c. omega arith) (λ c. omega arith)
     loop-again
     returns-2)

@@ -16,14 +16,8 @@ Inv-loop card n k₀ k = (n ≡ contoursOf card) × (k ≤ n) × Nowhere (badCon
 abbrev μ-loop : tie.MeasureT-loop
 μ-loop card n k₀ k = n - k
 
-contours-requires : tie.Need-contours-requires Inv-loop μ-loop
-contours-requires c κs = tt
-
 loop-holds : tie.Need-loop-holds Inv-loop μ-loop
 loop-holds c = (c .contours .ensures, omega arith, none-yet (badContour (now (c .before .before .args .card))))
-
-bad-contour-requires : tie.Need-bad-contour-requires Inv-loop μ-loop
-bad-contour-requires c κs = tt
 
 returns : tie.Need-returns Inv-loop μ-loop
 unfolding contourFault
@@ -31,9 +25,6 @@ returns c = let s = now (c .before .before .before .before .before .before .args
     let n = c .before .before .before .loop .inv .0 in
     found-here (badContour s) (contoursOf s) _ (omega arith) (c .before .before .before .loop .inv .2)
     (rw (← c .before .bad-contour .ensures, c .if1 .taken))
-
-loop-less : tie.Need-loop-less Inv-loop μ-loop
-loop-less c = omega arith
 
 loop-again : tie.Need-loop-again Inv-loop μ-loop
 loop-again c = let s = now (c .before .before .before .before .before .before .args .card) in
@@ -52,11 +43,10 @@ contour-fault-spec =
     (tie.spec
     Inv-loop
     μ-loop
-    contours-requires
+    (λ c κs. tt)
     loop-holds
-    bad-contour-requires
+    (λ c κs. tt)
     returns
-    (λ c. omega arith)
-    loop-less
+    (λ c. omega arith) (λ c. omega arith)
     loop-again
     returns-2)

@@ -24,9 +24,6 @@ returns c = let s = now (c .before .before .before .args .card) in
     found-here (farPlace s) (contoursOf s + 1) 0 (omega arith) (none-yet (farPlace s))
     (sym (c .before .far-point .ensures) ∙ c .if1 .taken)
 
-contours-requires : tie.Need-contours-requires Inv-loop μ-loop
-contours-requires c κs = tt
-
 loop-holds : tie.Need-loop-holds Inv-loop μ-loop
 loop-holds c = let s = now (c .before .before .before .before .args .card) in (
   c .contours .ensures,
@@ -34,9 +31,6 @@ loop-holds c = let s = now (c .before .before .before .before .args .card) in (
   home-near s
       (sym (c .before .before .far-point .ensures) ∙ c .before .if1 .left),
 )
-
-far-vertex-requires : tie.Need-far-vertex-requires Inv-loop μ-loop
-far-vertex-requires c κs = tt
 
 enum-told : tie.Need-enum-told Inv-loop μ-loop
 enum-told c = search needs
@@ -47,9 +41,6 @@ returns-2 c = let s = now (c .before .before .before .before .before .before .be
     let i = c .before .before .before .before .loop .inv in
     found-here (farPlace s) (contoursOf s + 1) _ (omega arith) (i .2)
     (contour-far s _ _ _ (c .before .before .far-vertex .ensures) (c .enum-told2 .given .1))
-
-loop-less : tie.Need-loop-less Inv-loop μ-loop
-loop-less c = omega arith
 
 loop-again : tie.Need-loop-again Inv-loop μ-loop
 loop-again c = let s = now (c .before .before .before .before .before .before .before .before .before .args .card) in
@@ -74,13 +65,12 @@ far-fault-spec =
     μ-loop
     (λ c κs. omega arith)
     returns
-    contours-requires
+    (λ c κs. tt)
     loop-holds
-    far-vertex-requires
+    (λ c κs. tt)
     enum-told
     (λ c. search needs) (λ c. omega arith)
     returns-2
-    (λ c. omega arith)
-    loop-less
+    (λ c. omega arith) (λ c. omega arith)
     loop-again
     returns-3)

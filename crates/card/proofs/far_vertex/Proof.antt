@@ -21,15 +21,6 @@ Inv-loop card k start v j₀ j =
 abbrev μ-loop : tie.MeasureT-loop
 μ-loop card k start v j₀ j = v - j
 
-contour-offset-requires : tie.Need-contour-offset-requires Inv-loop μ-loop
-contour-offset-requires c κs = tt
-
-contour-offset-requires-2 : tie.Need-contour-offset-requires-2 Inv-loop μ-loop
-contour-offset-requires-2 c κs = tt
-
-u16-at-requires : tie.Need-u16-at-requires Inv-loop μ-loop
-u16-at-requires c κs = tt
-
 loop-holds : tie.Need-loop-holds Inv-loop μ-loop
 loop-holds c = let a = c .before .before .before .before .args in (
   c .before .before .contour-offset .ensures,
@@ -48,9 +39,6 @@ returns c = let a = c .before .before .before .before .before .before .before .b
     (omega arith) (i .4)
     (vertex-looked-at (now (a .card)) (payload (a .k + 1) + 12) _ _ _ (i .0) (c .before .far-point .ensures)
     ∙ c .if1 .taken)
-
-loop-less : tie.Need-loop-less Inv-loop μ-loop
-loop-less c = omega arith
 
 loop-again : tie.Need-loop-again Inv-loop μ-loop
 loop-again c = let a = c .before .before .before .before .before .before .before .before .args in
@@ -77,14 +65,10 @@ far-vertex-spec =
     (tie.spec
     Inv-loop
     μ-loop
-    contour-offset-requires
-    contour-offset-requires-2
-    u16-at-requires
-    (λ c. omega arith)
+    (λ c κs. tt) (λ c κs. tt) (λ c κs. tt) (λ c. omega arith)
     loop-holds
     (λ c. omega arith) (λ c. omega arith) (λ c κs. omega arith)
     returns
-    (λ c. omega arith)
-    loop-less
+    (λ c. omega arith) (λ c. omega arith)
     loop-again
     returns-2)

@@ -18,9 +18,6 @@ Inv-loop card faults f₀ f = (faults ≡ headFaults card) × (f ≤ 8) × Nowhe
 abbrev μ-loop : tie.MeasureT-loop
 μ-loop card faults f₀ f = 8 - f
 
-head-faults-requires : tie.Need-head-faults-requires Inv-loop μ-loop
-head-faults-requires c κs = tt
-
 loop-holds : tie.Need-loop-holds Inv-loop μ-loop
 loop-holds c = (
   c .head-faults .ensures,
@@ -35,9 +32,6 @@ returns c = let s = now (c .before .before .before .before .before .args .card) 
     let i = c .before .before .loop .inv in
     found-here (λ i. getD (headFaults s) i false) 8 _ (c .before .loop-test .taken) (i .2)
     (field-is s _ _ _ (i .0) (c .if1 .taken))
-
-loop-less : tie.Need-loop-less Inv-loop μ-loop
-loop-less c = omega arith
 
 loop-again : tie.Need-loop-again Inv-loop μ-loop
 loop-again c = let s = now (c .before .before .before .before .before .args .card) in
@@ -55,11 +49,10 @@ head-fault-spec =
     (tie.spec
     Inv-loop
     μ-loop
-    head-faults-requires
+    (λ c κs. tt)
     loop-holds
     (λ c. omega arith)
     returns
-    (λ c. omega arith)
-    loop-less
+    (λ c. omega arith) (λ c. omega arith)
     loop-again
     returns-2)

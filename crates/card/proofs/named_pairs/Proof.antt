@@ -23,24 +23,12 @@ Inv-loop card m places₀ q₀ places q =
 abbrev μ-loop : tie.MeasureT-loop
 μ-loop card m places₀ q₀ places q = m - q
 
-pairs-requires : tie.Need-pairs-requires Inv-loop μ-loop
-pairs-requires c κs = tt
-
 loop-holds : tie.Need-loop-holds Inv-loop μ-loop
 loop-holds c = let s = now (c .before .before .args .card) in
     (c .pairs .ensures, omega arith, none-yet (unnamed s), places-none s)
 
-before-id-requires : tie.Need-before-id-requires Inv-loop μ-loop
-before-id-requires c κs = tt
-
-position-of-requires : tie.Need-position-of-requires Inv-loop μ-loop
-position-of-requires c κs = tt
-
 enum-told : tie.Need-enum-told Inv-loop μ-loop
 enum-told c = search needs
-
-refused-requires : tie.Need-refused-requires Inv-loop μ-loop
-refused-requires c κs = tt
 
 returns : tie.Need-returns Inv-loop μ-loop
 returns c = let p = c .before .before .before in
@@ -50,15 +38,6 @@ returns c = let p = c .before .before .before in
     named-until s _ _ _ (i .2) (i .3) (omega arith)
     (first-unknown s _ _ _ (p .before .before-id .ensures) (p .position-of .ensures)
     (c .before .enum-told .given .1)) (c .refused .ensures)
-
-after-id-requires : tie.Need-after-id-requires Inv-loop μ-loop
-after-id-requires c κs = tt
-
-position-of-requires-2 : tie.Need-position-of-requires-2 Inv-loop μ-loop
-position-of-requires-2 c κs = tt
-
-refused-requires-2 : tie.Need-refused-requires-2 Inv-loop μ-loop
-refused-requires-2 c κs = tt
 
 returns-2 : tie.Need-returns-2 Inv-loop μ-loop
 returns-2 c = let p = c .before .before .before in
@@ -88,9 +67,6 @@ cast-places-2 c = let k = c .before in
           .before .before .pre,
       position-below _ _ _ _ (p .position-of2 .ensures) (k .after .given .1),
     )
-
-loop-less : tie.Need-loop-less Inv-loop μ-loop
-loop-less c = omega arith
 
 loop-again : tie.Need-loop-again Inv-loop μ-loop
 loop-again c = let k′ = c .before in
@@ -125,26 +101,19 @@ named-pairs-spec =
     (tie.spec
     Inv-loop
     μ-loop
-    pairs-requires
+    (λ c κs. tt)
     loop-holds
-    before-id-requires
-    position-of-requires
-    (λ c. search needs)
+    (λ c κs. tt) (λ c κs. tt) (λ c. search needs)
     enum-told
-    refused-requires
-    (λ c. omega arith)
+    (λ c κs. tt) (λ c. omega arith)
     returns
-    after-id-requires
-    position-of-requires-2
-    (λ c. search needs) (λ c. search needs)
-    refused-requires-2
-    (λ c. omega arith)
+    (λ c κs. tt) (λ c κs. tt)
+    (λ c. search needs) (λ c. search needs) (λ c κs. tt) (λ c. omega arith)
     returns-2
     cast-places
     (λ c. omega arith) (λ c. omega arith)
     cast-places-2
-    (λ c. omega arith) (λ c. omega arith) (λ c. omega arith) (λ c. omega arith)
-    loop-less
+    (λ c. omega arith) (λ c. omega arith) (λ c. omega arith) (λ c. omega arith) (λ c. omega arith)
     loop-again
     (λ c. omega arith)
     returns-3)

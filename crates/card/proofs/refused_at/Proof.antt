@@ -6,8 +6,5 @@ use Rattle.card.proofs.refused_at.Tie as tie
 returns : tie.Need-returns
 returns c = rw (c .before .before .f .given .1) (c .refused .ensures)
 
-returns-2 : tie.Need-returns-2
-returns-2 c = search needs
-
 pub refused-at-spec : {M : Type 1} → statement M
-refused-at-spec = tie.close (tie.spec (λ c. search needs) (λ c κs. search needs) (λ c. search needs) returns returns-2)
+refused-at-spec = tie.close (tie.spec (λ c. search needs) (λ c κs. search needs) (λ c. search needs) returns (λ c. search needs))

@@ -18,17 +18,8 @@ Inv-loop card n k₀ k = (n ≡ contoursOf card) × (k ≤ n) × Nowhere (repeat
 abbrev μ-loop : tie.MeasureT-loop
 μ-loop card n k₀ k = n - k
 
-contours-requires : tie.Need-contours-requires Inv-loop μ-loop
-contours-requires c κs = tt
-
 loop-holds : tie.Need-loop-holds Inv-loop μ-loop
 loop-holds c = (c .contours .ensures, omega arith, none-yet (repeats (now (c .before .before .args .card))))
-
-id-requires : tie.Need-id-requires Inv-loop μ-loop
-id-requires c κs = tt
-
-seek-requires : tie.Need-seek-requires Inv-loop μ-loop
-seek-requires c κs = tt
 
 enum-told : tie.Need-enum-told Inv-loop μ-loop
 enum-told c = search needs
@@ -40,9 +31,6 @@ returns c = let s = now (c .before .before .before .before .before .before .befo
     found-here (repeats s) (contoursOf s) _ (omega arith) (i .2)
     (id-repeats s _ _ _ (c .before .before .before .id .ensures) (c .before .before .seek .ensures) _
     (c .enum-told2 .given .1))
-
-loop-less : tie.Need-loop-less Inv-loop μ-loop
-loop-less c = omega arith
 
 loop-again : tie.Need-loop-again Inv-loop μ-loop
 loop-again c = let s = now (c .before .before .before .before .before .before .before .before .args .card) in
@@ -66,14 +54,12 @@ repeat-fault-spec =
     (tie.spec
     Inv-loop
     μ-loop
-    contours-requires
+    (λ c κs. tt)
     loop-holds
-    id-requires
-    seek-requires
+    (λ c κs. tt) (λ c κs. tt)
     enum-told
     (λ c. search needs)
     returns
-    (λ c. omega arith)
-    loop-less
+    (λ c. omega arith) (λ c. omega arith)
     loop-again
     returns-2)

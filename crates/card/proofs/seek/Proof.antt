@@ -20,17 +20,11 @@ abbrev μ-loop : tie.MeasureT-loop
 loop-holds : tie.Need-loop-holds Inv-loop μ-loop
 loop-holds c = let a = c .before .args in (omega arith, none-yet (λ i. eqb (idOf (now (a .card)) i) (a .wanted)))
 
-id-requires : tie.Need-id-requires Inv-loop μ-loop
-id-requires c κs = tt
-
 returns : tie.Need-returns Inv-loop μ-loop
 unfolding seekOf
 returns c = let a = c .before .before .before .before .before .args in
     found-here (λ i. eqb (idOf (now (a .card)) i) (a .wanted)) (a .count) _ (c .before .before .loop-test .taken)
     (c .before .before .before .loop .inv .1) (rw (← c .before .id .ensures, eq-eqb _ _ (c .if1 .taken)))
-
-loop-less : tie.Need-loop-less Inv-loop μ-loop
-loop-less c = omega arith
 
 loop-again : tie.Need-loop-again Inv-loop μ-loop
 loop-again c = let a = c .before .before .before .before .before .args in (
@@ -48,4 +42,4 @@ returns-2 c = let a = c .before .before .before .args in
 pub seek-spec : {M : Type 1} → statement M
 seek-spec =
     tie.close
-    (tie.spec Inv-loop μ-loop loop-holds id-requires returns (λ c. omega arith) loop-less loop-again returns-2)
+    (tie.spec Inv-loop μ-loop loop-holds (λ c κs. tt) returns (λ c. omega arith) (λ c. omega arith) loop-again returns-2)

@@ -24,9 +24,6 @@ returns c = let s = now (c .before .before .before .before .before .args .card) 
     found-here (badSpare s) (blocksOf s) _ (c .before .before .loop-test .taken)
     (c .before .before .before .loop .inv .1) (rw (← c .before .bad-spare .ensures, c .if1 .taken))
 
-loop-less : tie.Need-loop-less Inv-loop μ-loop
-loop-less c = omega arith
-
 loop-again : tie.Need-loop-again Inv-loop μ-loop
 loop-again c = let s = now (c .before .before .before .before .before .args .card) in (
   omega arith,
@@ -48,7 +45,6 @@ spare-fault-spec =
     loop-holds
     (λ c κs. omega arith)
     returns
-    (λ c. omega arith)
-    loop-less
+    (λ c. omega arith) (λ c. omega arith)
     loop-again
     returns-2)

@@ -17,21 +17,12 @@ abbrev μ-loop : tie.MeasureT-loop
 loop-holds : tie.Need-loop-holds Inv-loop μ-loop
 loop-holds c = (omega arith, none-yet (badStart (now (c .before .args .card))))
 
-kind-due-requires : tie.Need-kind-due-requires Inv-loop μ-loop
-kind-due-requires c κs = tt
-
-starts-as-requires : tie.Need-starts-as-requires Inv-loop μ-loop
-starts-as-requires c κs = tt
-
 returns : tie.Need-returns Inv-loop μ-loop
 unfolding startFault
 returns c = let a = c .before .before .before .before .before .before .args in
     let kind = c .before .before .kind-due .ensures in
     found-here (badStart (now (a .card))) (a .count) _ (c .before .before .before .loop-test .taken)
     (c .before .before .before .before .loop .inv .1) (rw (← kind, ← c .before .starts-as .ensures, c .if1 .taken))
-
-loop-less : tie.Need-loop-less Inv-loop μ-loop
-loop-less c = omega arith
 
 loop-again : tie.Need-loop-again Inv-loop μ-loop
 loop-again c = let s = now (c .before .before .before .before .before .before .args .card) in
@@ -53,11 +44,8 @@ start-fault-spec =
     Inv-loop
     μ-loop
     loop-holds
-    kind-due-requires
-    (λ c. omega arith)
-    starts-as-requires
+    (λ c κs. tt) (λ c. omega arith) (λ c κs. tt)
     returns
-    (λ c. omega arith)
-    loop-less
+    (λ c. omega arith) (λ c. omega arith)
     loop-again
     returns-2)

@@ -18,33 +18,12 @@ Inv-loop card seats m q₀ q = (m ≡ pairsOf card) × (length seats ≡ 2 * m) 
 abbrev μ-loop : tie.MeasureT-loop
 μ-loop card seats m q₀ q = m - q
 
-pairs-requires : tie.Need-pairs-requires Inv-loop μ-loop
-pairs-requires c κs = tt
-
 loop-holds : tie.Need-loop-holds Inv-loop μ-loop
 loop-holds c = let st = c .before .before .before in
     let s = now (st .args .card) in
     let e = c .pairs .ensures in
     let l = seats-handed s _ _ (st .pre) in
     (e, omega arith, omega arith, none-yet (otherTag s))
-
-wide-requires : tie.Need-wide-requires Inv-loop μ-loop
-wide-requires c κs = tt
-
-wide-requires-2 : tie.Need-wide-requires-2 Inv-loop μ-loop
-wide-requires-2 c κs = tt
-
-tag-requires : tie.Need-tag-requires Inv-loop μ-loop
-tag-requires c κs = tt
-
-before-tag-requires : tie.Need-before-tag-requires Inv-loop μ-loop
-before-tag-requires c κs = tt
-
-tag-requires-2 : tie.Need-tag-requires-2 Inv-loop μ-loop
-tag-requires-2 c κs = tt
-
-after-tag-requires : tie.Need-after-tag-requires Inv-loop μ-loop
-after-tag-requires c κs = tt
 
 returns : tie.Need-returns Inv-loop μ-loop
 unfolding tagFault
@@ -60,9 +39,6 @@ returns c = let t′ = c .before .before in
     (tags-compared s _ _ _ _ _ _ _ _ _ (st .pre) (omega (arith, l)) (w .wide .ensures) (w′ .wide2 .ensures)
     (t .tag .ensures) (t′ .before .before-tag .ensures) (t′ .tag2 .ensures) (c .before .after-tag .ensures)
     ∙ c .if1 .taken)
-
-loop-less : tie.Need-loop-less Inv-loop μ-loop
-loop-less c = omega arith
 
 loop-again : tie.Need-loop-again Inv-loop μ-loop
 loop-again c = let t′ = c .before .before in
@@ -94,18 +70,12 @@ tag-fault-spec =
     (tie.spec
     Inv-loop
     μ-loop
-    pairs-requires
+    (λ c κs. tt)
     loop-holds
-    (λ c. omega arith) (λ c. omega arith)
-    wide-requires
-    (λ c. omega arith) (λ c. omega arith) (λ c. omega arith)
-    wide-requires-2
-    tag-requires
-    before-tag-requires
-    tag-requires-2
-    after-tag-requires
+    (λ c. omega arith) (λ c. omega arith) (λ c κs. tt)
+    (λ c. omega arith) (λ c. omega arith) (λ c. omega arith) (λ c κs. tt) (λ c κs. tt) (λ c κs. tt) (λ c κs. tt)
+    (λ c κs. tt)
     returns
-    (λ c. omega arith)
-    loop-less
+    (λ c. omega arith) (λ c. omega arith)
     loop-again
     returns-2)

@@ -14,9 +14,6 @@ abbrev μ-loop : tie.MeasureT-loop
 loop-holds : tie.Need-loop-holds Inv-loop μ-loop
 loop-holds c = closed-none _ _ (c .pre .1)
 
-loop-less : tie.Need-loop-less Inv-loop μ-loop
-loop-less c = search needs
-
 loop-again : tie.Need-loop-again Inv-loop μ-loop
 loop-again c = closed-more _ _ _ _ _ (search needs) (c .before .before .before .loop .inv) (c .join-rows .ensures)
 
@@ -26,4 +23,4 @@ returns c = closed-all _ _ _ _ (c .loop-test .left) (c .before .loop .inv)
 pub close-spec : {M : Type 1} → statement M
 close-spec =
     tie.close
-    (tie.spec Inv-loop μ-loop loop-holds (λ c κs. search needs) (λ c. search needs) loop-less loop-again returns)
+    (tie.spec Inv-loop μ-loop loop-holds (λ c κs. search needs) (λ c. search needs) (λ c. search needs) loop-again returns)

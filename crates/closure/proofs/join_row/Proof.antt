@@ -16,10 +16,6 @@ loop-holds : tie.Need-loop-holds Inv-loop μ-loop
 loop-holds c = row-none _ _ _ _ (c .before .before .pre .3)
 
 -- src/lib.rt:29:9
-loop-less : tie.Need-loop-less Inv-loop μ-loop
-loop-less c = search needs
-
--- src/lib.rt:29:9
 loop-again : tie.Need-loop-again Inv-loop μ-loop
 loop-again c =
     row-more _ _ _ _ _ _ (search needs) (search needs) (search needs) (search needs)
@@ -43,7 +39,7 @@ join-row-spec =
     loop-holds
     (λ c. search needs) (λ c. search needs) (λ c. search needs) (λ c. search needs) (λ c. search needs)
     (λ c. search needs) (λ c. search needs) (λ c. search needs) (λ c. search needs) (λ c. search needs)
-    loop-less
+    (λ c. search needs)
     loop-again
     returns
     returns-2)

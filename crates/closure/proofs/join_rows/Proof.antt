@@ -14,9 +14,6 @@ abbrev μ-loop : tie.MeasureT-loop
 loop-holds : tie.Need-loop-holds Inv-loop μ-loop
 loop-holds c = rows-none _ _ _ (c .pre .2)
 
-loop-less : tie.Need-loop-less Inv-loop μ-loop
-loop-less c = search needs
-
 loop-again : tie.Need-loop-again Inv-loop μ-loop
 loop-again c =
     rows-more _ _ _ _ _ _ (search needs) (search needs) (c .before .before .before .loop .inv) (c .join-row .ensures)
@@ -27,4 +24,4 @@ returns c = rows-joined _ _ _ _ _ (c .loop-test .left) (c .before .loop .inv)
 pub join-rows-spec : {M : Type 1} → statement M
 join-rows-spec =
     tie.close
-    (tie.spec Inv-loop μ-loop loop-holds (λ c κs. search needs) (λ c. search needs) loop-less loop-again returns)
+    (tie.spec Inv-loop μ-loop loop-holds (λ c κs. search needs) (λ c. search needs) (λ c. search needs) loop-again returns)

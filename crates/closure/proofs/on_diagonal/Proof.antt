@@ -28,9 +28,6 @@ returns c =
           c .before .before .before .loop .inv .1;
     }))
 
-loop-less : tie.Need-loop-less Inv-loop μ-loop
-loop-less c = search needs
-
 loop-again : tie.Need-loop-again Inv-loop μ-loop
 loop-again c = (search needs, below-more _ _ (c .before .before .before .loop .inv .1) (c .if1 .left))
 
@@ -46,7 +43,6 @@ on-diagonal-spec =
     loop-holds
     (λ c. search needs) (λ c. search needs) (λ c. search needs)
     returns
-    (λ c. search needs)
-    loop-less
+    (λ c. search needs) (λ c. search needs)
     loop-again
     returns-2)

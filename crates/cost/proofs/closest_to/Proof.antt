@@ -17,20 +17,8 @@ abbrev μ-loop : tie.MeasureT-loop
 returns : tie.Need-returns Inv-loop μ-loop
 returns c = no-vertices _ _ (c .if1 .taken)
 
-point-at-requires : tie.Need-point-at-requires Inv-loop μ-loop
-point-at-requires c κs = tt
-
 loop-holds : tie.Need-loop-holds Inv-loop μ-loop
 loop-holds c = (omega arith, rw (c .point-at .ensures))
-
-edge-at-requires : tie.Need-edge-at-requires Inv-loop μ-loop
-edge-at-requires c κs = tt
-
-closer-requires : tie.Need-closer-requires Inv-loop μ-loop
-closer-requires c κs = tt
-
-loop-less : tie.Need-loop-less Inv-loop μ-loop
-loop-less c = omega arith
 
 loop-again : tie.Need-loop-again Inv-loop μ-loop
 loop-again c = (
@@ -49,11 +37,8 @@ closest-to-spec =
     Inv-loop
     μ-loop
     returns
-    point-at-requires
+    (λ c κs. tt)
     loop-holds
-    edge-at-requires
-    closer-requires
-    (λ c. search needs)
-    loop-less
+    (λ c κs. tt) (λ c κs. tt) (λ c. search needs) (λ c. omega arith)
     loop-again
     returns-2)

@@ -18,20 +18,11 @@ abbrev μ-loop : tie.MeasureT-loop
 returns : tie.Need-returns Inv-loop μ-loop
 returns c = no-legs _ _ (c .if1 .taken)
 
-distance-requires : tie.Need-distance-requires Inv-loop μ-loop
-distance-requires c κs = tt
-
 loop-holds : tie.Need-loop-holds Inv-loop μ-loop
 loop-holds c = (omega arith, omega arith, refl)
 
 leg-at-requires-2 : tie.Need-leg-at-requires-2 Inv-loop μ-loop
 leg-at-requires-2 c κs = c .loop-test .taken
-
-distance-requires-2 : tie.Need-distance-requires-2 Inv-loop μ-loop
-distance-requires-2 c κs = tt
-
-loop-less : tie.Need-loop-less Inv-loop μ-loop
-loop-less c = omega arith
 
 loop-again : tie.Need-loop-again Inv-loop μ-loop
 loop-again c = (
@@ -55,12 +46,9 @@ rapid-distance-spec =
     Inv-loop
     μ-loop
     returns
-    (λ c κs. omega arith)
-    distance-requires
+    (λ c κs. omega arith) (λ c κs. tt)
     loop-holds
     leg-at-requires-2
-    distance-requires-2
-    (λ c. search needs)
-    loop-less
+    (λ c κs. tt) (λ c. search needs) (λ c. omega arith)
     loop-again
     returns-2)

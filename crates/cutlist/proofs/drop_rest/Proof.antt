@@ -10,31 +10,11 @@ Inv-loop parts₀ parts = parts ≤ 1000000000000
 abbrev μ-loop : tie.MeasureT-loop
 μ-loop parts₀ parts = 1000000000000 - parts
 
-loop-holds : tie.Need-loop-holds Inv-loop μ-loop
-loop-holds c = search needs
-
-returns : tie.Need-returns Inv-loop μ-loop
-returns c = search needs
-
-loop-less : tie.Need-loop-less Inv-loop μ-loop
-loop-less c = search needs
-
-loop-again : tie.Need-loop-again Inv-loop μ-loop
-loop-again c = search needs
-
-returns-2 : tie.Need-returns-2 Inv-loop μ-loop
-returns-2 c = search needs
-
 pub drop-rest-spec : {M : Type 1} → statement M
 drop-rest-spec =
     tie.close
     (tie.spec
     Inv-loop
     μ-loop
-    loop-holds
-    (λ c κs. search needs)
-    returns
-    (λ c. search needs)
-    loop-less
-    loop-again
-    returns-2)
+    (λ c. search needs) (λ c κs. search needs) (λ c. search needs) (λ c. search needs) (λ c. search needs)
+    (λ c. search needs) (λ c. search needs))

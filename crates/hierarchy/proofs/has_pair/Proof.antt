@@ -22,18 +22,12 @@ returns c = let h =
     c .before .before .before .before in some-found _ _ _ (h .loop-test .taken) (h .before .loop .inv)
     (is-pair _ _ _ _ (c .before .if1 .taken) (c .if2 .taken))
 
-loop-less : tie.Need-loop-less Inv-loop μ-loop
-loop-less c = search needs
-
 loop-again : tie.Need-loop-again Inv-loop μ-loop
 loop-again c =
     let h = c .before .before .before .before in
     let g = h .before .before .args in
     some-more _ _ _ (h .loop-test .taken) (h .before .loop .inv)
     (other-second (g .pairs .now) (h .before .loop .at) (g .before) (g .after) (c .if2 .left))
-
-loop-less-2 : tie.Need-loop-less-2 Inv-loop μ-loop
-loop-less-2 c = search needs
 
 loop-again-2 : tie.Need-loop-again-2 Inv-loop μ-loop
 loop-again-2 c =
@@ -55,8 +49,8 @@ has-pair-spec =
     (λ c. search needs) (λ c. search needs) (λ c. search needs) (λ c. search needs) (λ c. search needs)
     (λ c. search needs) (λ c. search needs)
     returns
-    loop-less
+    (λ c. search needs)
     loop-again
-    loop-less-2
+    (λ c. search needs)
     loop-again-2
     returns-2)

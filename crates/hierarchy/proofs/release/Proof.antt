@@ -26,17 +26,11 @@ loosen-requires c κs = let h = c .before .before .before .before .before .befor
   h .before .loop .inv .roomy,
 )
 
-loop-less : tie.Need-loop-less Inv-loop μ-loop
-loop-less c = search needs
-
 loop-again : tie.Need-loop-again Inv-loop μ-loop
 loop-again c = let h =
     c .before .before .before .before .before .before .before .before in release-hit _ _ _ _ _ _ _ _ _
     (h .loop-test .taken) (h .before .loop .inv) (c .before .before .before .before .before .counts .ensures) _ _ _ _
     (c .before .before .before .wide32 .ensures) (c .before .before .before .before .if1 .taken) (c .loosen .ensures)
-
-loop-less-2 : tie.Need-loop-less-2 Inv-loop μ-loop
-loop-less-2 c = search needs
 
 loop-again-2 : tie.Need-loop-again-2 Inv-loop μ-loop
 loop-again-2 c = let h =
@@ -56,8 +50,8 @@ release-spec =
     (λ c. search needs) (λ c. search needs) (λ c. search needs) (λ c. search needs) (λ c. search needs)
     (λ c. search needs) (λ c. search needs) (λ c κs. search needs) (λ c κs. search needs)
     loosen-requires
-    loop-less
+    (λ c. search needs)
     loop-again
-    loop-less-2
+    (λ c. search needs)
     loop-again-2
     returns)

@@ -21,9 +21,6 @@ loop-holds c = queue-none _ _ _ _ _ (c .before .pre .1)
 release-requires : tie.Need-release-requires Inv-loop μ-loop
 release-requires c κs = (search needs, c .before .before .before .before .loop .inv .roomy)
 
-loop-less : tie.Need-loop-less Inv-loop μ-loop
-loop-less c = search needs
-
 loop-again : tie.Need-loop-again Inv-loop μ-loop
 loop-again c =
     let h = c .before .before .before .before in
@@ -41,7 +38,6 @@ take-queue-spec =
     loop-holds
     (λ c. search needs) (λ c. search needs)
     release-requires
-    (λ c. search needs)
-    loop-less
+    (λ c. search needs) (λ c. search needs)
     loop-again
     returns)

@@ -21,9 +21,6 @@ add-waits c =
     let h = c .before .before .before .before .before .before .before in
     omega (arith, h .loop .inv .small (c .before .before .wide322 .result))
 
-loop-less : tie.Need-loop-less Inv-loop μ-loop
-loop-less c = search needs
-
 loop-again : tie.Need-loop-again Inv-loop μ-loop
 loop-again c =
     let h = c .before .before .before .before .before .before in
@@ -31,17 +28,11 @@ loop-again c =
     (c .before .before .before .before .wide32 .ensures) (c .before .before .wide322 .ensures) (search needs)
     (search needs) (search needs)
 
-loop-less-2 : tie.Need-loop-less-2 Inv-loop μ-loop
-loop-less-2 c = search needs
-
 loop-again-2 : tie.Need-loop-again-2 Inv-loop μ-loop
 loop-again-2 c =
     let h = c .before .before .before .before .before .before in
     tally-miss _ _ _ _ (h .loop-test .taken) (h .before .loop .inv)
     (λ p q. omega (arith, c .before .before .wide322 .ensures, c .if2 .left))
-
-loop-less-3 : tie.Need-loop-less-3 Inv-loop μ-loop
-loop-less-3 c = search needs
 
 loop-again-3 : tie.Need-loop-again-3 Inv-loop μ-loop
 loop-again-3 c =
@@ -63,11 +54,10 @@ tally-spec =
     (λ c. search needs) (λ c. search needs) (λ c κs. search needs) (λ c. search needs) (λ c. search needs)
     (λ c. search needs)
     add-waits
-    (λ c. search needs)
-    loop-less
+    (λ c. search needs) (λ c. search needs)
     loop-again
-    loop-less-2
+    (λ c. search needs)
     loop-again-2
-    loop-less-3
+    (λ c. search needs)
     loop-again-3
     returns)

@@ -32,9 +32,6 @@ abbrev μ-loop : tie.MeasureT-loop
 loop-holds : tie.Need-loop-holds Inv-loop μ-loop
 loop-holds c = (sym (begin _ _ _ _), refl, omega arith, omega arith, omega arith)
 
-loop-less : tie.Need-loop-less Inv-loop μ-loop
-loop-less c = omega arith
-
 loop-again : tie.Need-loop-again Inv-loop μ-loop
 loop-again c =
     let l = c .before .before .loop in (
@@ -60,9 +57,6 @@ returns c =
 
 try-candidate-requires : tie.Need-try-candidate-requires Inv-loop μ-loop
 try-candidate-requires c κs = omega (arith, c .before .before .before .before .before .loop .inv .1)
-
-loop-less-2 : tie.Need-loop-less-2 Inv-loop μ-loop
-loop-less-2 c = omega arith
 
 loop-again-2 : tie.Need-loop-again-2 Inv-loop μ-loop
 loop-again-2 c =
@@ -94,15 +88,13 @@ alternatives-spec =
     Inv-loop
     μ-loop
     loop-holds
-    (λ c. omega arith)
-    loop-less
+    (λ c. omega arith) (λ c. omega arith)
     loop-again
     (λ c κs. search needs)
     same-length
     returns
     try-candidate-requires
-    (λ c. omega arith) (λ c. omega arith)
-    loop-less-2
+    (λ c. omega arith) (λ c. omega arith) (λ c. omega arith)
     loop-again-2
     same-length-2
     returns-2)

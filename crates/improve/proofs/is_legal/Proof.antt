@@ -24,9 +24,6 @@ abbrev μ-loop : tie.MeasureT-loop
 loop-holds : tie.Need-loop-holds Inv-loop μ-loop
 loop-holds c = (omega arith, refl, order-none _)
 
-loop-less : tie.Need-loop-less Inv-loop μ-loop
-loop-less c = omega arith
-
 loop-again : tie.Need-loop-again Inv-loop μ-loop
 loop-again c =
     let l = c .before .before .before .loop in (
@@ -53,8 +50,7 @@ is-legal-spec =
     Inv-loop
     μ-loop
     loop-holds
-    (λ c. search needs) (λ c κs. search needs) (λ c. omega arith) (λ c. omega arith)
-    loop-less
+    (λ c. search needs) (λ c κs. search needs) (λ c. omega arith) (λ c. omega arith) (λ c. omega arith)
     loop-again
     (λ c. omega arith)
     slice-aggregate-keeps-pairs

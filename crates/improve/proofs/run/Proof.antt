@@ -135,9 +135,6 @@ loop2-again c =
       omega arith,
     )
 
-loop-less : tie.Need-loop-less Inv-loop2 μ-loop2 Inv-loop μ-loop Inv-search μ-search
-loop-less c = omega arith
-
 loop-again : tie.Need-loop-again Inv-loop2 μ-loop2 Inv-loop μ-loop Inv-search μ-search
 loop-again c =
     let l = c .before .before .before .loop in
@@ -234,8 +231,7 @@ run-spec =
     add-j-2
     (λ c. omega arith)
     loop2-again
-    (λ c. omega arith)
-    loop-less
+    (λ c. omega arith) (λ c. omega arith)
     loop-again
     (λ c. omega arith)
     search-again

@@ -45,9 +45,6 @@ returns c =
       omega arith,
     )
 
-loop-less : tie.Need-loop-less Inv-loop μ-loop
-loop-less c = omega arith
-
 loop-again : tie.Need-loop-again Inv-loop μ-loop
 loop-again c =
     let l = c .before .before .before .before .before .before .loop in (
@@ -76,8 +73,7 @@ turns-spec =
     turn-at-requires
     same-length
     returns
-    (λ c. omega arith)
-    loop-less
+    (λ c. omega arith) (λ c. omega arith)
     loop-again
     same-length-2
     returns-2)

@@ -13,25 +13,13 @@ Inv-loop card n all₀ k₀ all k = (k ≤ n) × (all ≡ heldAt card k)
 abbrev μ-loop : tie.MeasureT-loop
 μ-loop card n all₀ k₀ all k = n - k
 
-held-requires : tie.Need-held-requires Inv-loop μ-loop
-held-requires c κs = tt
-
-none-requires : tie.Need-none-requires Inv-loop μ-loop
-none-requires c κs = tt
-
 loop-holds : tie.Need-loop-holds Inv-loop μ-loop
 loop-holds c = (omega arith, c .none .ensures ∙ none-yet _)
-
-offers-requires : tie.Need-offers-requires Inv-loop μ-loop
-offers-requires c κs = tt
 
 joined-requires : tie.Need-joined-requires Inv-loop μ-loop
 joined-requires c κs = let t = c .before .loop-test .taken in
     let e = c .before .before .before .before .held .ensures in
     roomy _ _ _ _ (rw e at t) (c .before .before .loop .inv .1) (c .offers .ensures)
-
-loop-less : tie.Need-loop-less Inv-loop μ-loop
-loop-less c = omega arith
 
 loop-again : tie.Need-loop-again Inv-loop μ-loop
 loop-again c = let t = c .before .before .loop-test .taken in
@@ -51,12 +39,10 @@ gather-spec =
     (tie.spec
     Inv-loop
     μ-loop
-    held-requires
-    none-requires
+    (λ c κs. tt) (λ c κs. tt)
     loop-holds
-    offers-requires
+    (λ c κs. tt)
     joined-requires
-    (λ c. omega arith)
-    loop-less
+    (λ c. omega arith) (λ c. omega arith)
     loop-again
     returns)

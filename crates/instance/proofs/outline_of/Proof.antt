@@ -13,20 +13,8 @@ Inv-loop card k v numbers₀ j₀ numbers j = (j ≤ v) × (numbers ≡ numbersA
 abbrev μ-loop : tie.MeasureT-loop
 μ-loop card k v numbers₀ j₀ numbers j = v - j
 
-vertices-requires : tie.Need-vertices-requires Inv-loop μ-loop
-vertices-requires c κs = tt
-
-most-requires : tie.Need-most-requires Inv-loop μ-loop
-most-requires c κs = tt
-
 loop-holds : tie.Need-loop-holds Inv-loop μ-loop
 loop-holds c = (omega arith, numbers-none _ _)
-
-vertex-requires : tie.Need-vertex-requires Inv-loop μ-loop
-vertex-requires c κs = tt
-
-loop-less : tie.Need-loop-less Inv-loop μ-loop
-loop-less c = omega arith
 
 loop-again : tie.Need-loop-again Inv-loop μ-loop
 loop-again c = (
@@ -46,13 +34,11 @@ outline-of-spec =
     (tie.spec
     Inv-loop
     μ-loop
-    vertices-requires
-    most-requires
+    (λ c κs. tt) (λ c κs. tt)
     loop-holds
-    vertex-requires
+    (λ c κs. tt)
     (λ c. omega arith) (λ c. omega arith) (λ c. omega arith) (λ c. omega arith) (λ c. omega arith) (λ c. omega arith)
-    (λ c. omega arith) (λ c. omega arith)
-    loop-less
+    (λ c. omega arith) (λ c. omega arith) (λ c. omega arith)
     loop-again
     (λ c. omega arith)
     returns)

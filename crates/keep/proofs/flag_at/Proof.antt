@@ -5,11 +5,8 @@ use borrow.Author.Needs.{needs}
 use Rattle.keep.proofs.flag_at.Statement.{statement}
 use Rattle.keep.proofs.flag_at.Tie as tie
 
-returns : tie.Need-returns
-returns c = search needs
-
 returns-2 : tie.Need-returns-2
 returns-2 c = sym (List·getD-eq-default (c .before .args .flags .now) 0 (c .if1 .left))
 
 pub flag-at-spec : {M : Type 1} → statement M
-flag-at-spec = tie.close (tie.spec (λ c. search needs) returns returns-2)
+flag-at-spec = tie.close (tie.spec (λ c. search needs) (λ c. search needs) returns-2)

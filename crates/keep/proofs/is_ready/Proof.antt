@@ -23,9 +23,6 @@ returns c = let h =
     c .before .before .before .before in pair-waits _ _ _ _ _ (h .loop-test .taken) (h .before .loop .inv)
     (c .before .ready-by .ensures) (not-true _ (c .if1 .taken))
 
-loop-less : tie.Need-loop-less Inv-loop μ-loop
-loop-less c = search needs
-
 loop-again : tie.Need-loop-again Inv-loop μ-loop
 loop-again c = let h =
     c .before .before .before .before in pair-ready _ _ _ _ _ (h .loop-test .taken) (h .before .loop .inv)
@@ -43,7 +40,6 @@ is-ready-spec =
     loop-holds
     (λ c. search needs) (λ c. search needs) (λ c. search needs) (λ c. search needs) (λ c κs. search needs)
     returns
-    (λ c. search needs)
-    loop-less
+    (λ c. search needs) (λ c. search needs)
     loop-again
     returns-2)

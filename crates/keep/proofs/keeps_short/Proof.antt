@@ -27,9 +27,6 @@ returns c =
     pair-broken _ _ _ _ _ _ (table-rank _ _ _ _ table (w .0) (w .1)) (table-rank _ _ _ _ table (v .0) (v .1))
     (h .loop-test .taken) (h .before .loop .inv) (c .before .kept-by .ensures) (not-true _ (c .if1 .taken))
 
-loop-less : tie.Need-loop-less Inv-loop μ-loop
-loop-less c = search needs
-
 loop-again : tie.Need-loop-again Inv-loop μ-loop
 loop-again c =
     let h = c .before .before .before .before .before .before in
@@ -53,7 +50,6 @@ keeps-short-spec =
     (λ c. search needs) (λ c. search needs) (λ c κs. search needs) (λ c. search needs) (λ c. search needs)
     (λ c κs. search needs) (λ c. search needs) (λ c. search needs) (λ c κs. search needs)
     returns
-    (λ c. search needs)
-    loop-less
+    (λ c. search needs) (λ c. search needs)
     loop-again
     returns-2)

@@ -15,9 +15,6 @@ abbrev μ-loop : tie.MeasureT-loop
 loop-holds : tie.Need-loop-holds Inv-loop μ-loop
 loop-holds c = ranks-none _ _ (c .before .pre .1)
 
-loop-less : tie.Need-loop-less Inv-loop μ-loop
-loop-less c = search needs
-
 loop-again : tie.Need-loop-again Inv-loop μ-loop
 loop-again c = ranks-more _ _ _ _ _ (c .wide .ensures .0) (c .wide .ensures .1) (c .before .before .loop-test .taken)
     (c .before .before .before .loop .inv)
@@ -33,6 +30,6 @@ note-ranks-spec =
     μ-loop
     loop-holds
     (λ c. search needs) (λ c κs. search needs) (λ c. search needs) (λ c. search needs) (λ c. search needs)
-    loop-less
+    (λ c. search needs)
     loop-again
     returns)

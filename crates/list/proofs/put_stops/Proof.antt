@@ -25,15 +25,6 @@ loop-holds c = (omega arith, refl, refl)
 cast-locate : tie.Need-cast-locate Inv-loop μ-loop
 cast-locate c = omega (arith, c .shared-slice-known3 .given (c .before .before .loop .p))
 
-locate-requires : tie.Need-locate-requires Inv-loop μ-loop
-locate-requires c κs = tt
-
-put-place-requires : tie.Need-put-place-requires Inv-loop μ-loop
-put-place-requires c κs = tt
-
-loop-less : tie.Need-loop-less Inv-loop μ-loop
-loop-less c = omega arith
-
 loop-again : tie.Need-loop-again Inv-loop μ-loop
 loop-again c = (
   omega arith,
@@ -60,10 +51,7 @@ put-stops-spec =
     loop-holds
     (λ c. omega arith)
     cast-locate
-    locate-requires
-    put-place-requires
-    (λ c. omega arith)
-    loop-less
+    (λ c κs. tt) (λ c κs. tt) (λ c. omega arith) (λ c. omega arith)
     loop-again
     same-length
     returns)

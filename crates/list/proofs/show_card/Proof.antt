@@ -17,9 +17,6 @@ slice-aggregate-write-all c =
     front-is _ _ _ (c .before .before .write-whole .ensures .0) (sym (c .before .before .write-whole .ensures .1))
     .whole
 
-returns : tie.Need-returns
-returns c = search needs
-
 pub show-card-spec : {M : Type 1} → statement M
 show-card-spec =
     tie.close
@@ -28,5 +25,4 @@ show-card-spec =
     write-whole-requires
     array-share-prefix-page
     slice-aggregate-write-all
-    (λ c κs. search needs)
-    returns)
+    (λ c κs. search needs) (λ c. search needs))

@@ -20,12 +20,6 @@ abbrev μ-loop : tie.MeasureT-loop
 loop-holds : tie.Need-loop-holds Inv-loop μ-loop
 loop-holds c = (omega arith, below-none _)
 
-point-at-requires : tie.Need-point-at-requires Inv-loop μ-loop
-point-at-requires c κs = tt
-
-bad-point-requires : tie.Need-bad-point-requires Inv-loop μ-loop
-bad-point-requires c κs = tt
-
 returns : tie.Need-returns Inv-loop μ-loop
 unfolding firstBad badAt
 returns c =
@@ -36,9 +30,6 @@ returns c =
       holds = rw (← (c .before .before .point-at .ensures), ← (c .before .bad-point .ensures)) (c .if1 .taken);
       before = c .before .before .before .before .loop .inv .1;
     }))
-
-loop-less : tie.Need-loop-less Inv-loop μ-loop
-loop-less c = omega arith
 
 loop-again : tie.Need-loop-again Inv-loop μ-loop
 unfolding badAt
@@ -59,10 +50,8 @@ first-bad-spec =
     Inv-loop
     μ-loop
     loop-holds
-    point-at-requires
-    bad-point-requires
+    (λ c κs. tt) (λ c κs. tt)
     returns
-    (λ c. search needs)
-    loop-less
+    (λ c. search needs) (λ c. omega arith)
     loop-again
     returns-2)

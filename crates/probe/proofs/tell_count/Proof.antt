@@ -4,11 +4,8 @@ use borrow.Author.Needs.{needs}
 use Rattle.probe.proofs.tell_count.Statement.{statement}
 use Rattle.probe.proofs.tell_count.Tie as tie
 
-returns : tie.Need-returns
-returns c = search needs
-
 returns-2 : tie.Need-returns-2
 returns-2 c = rw (c .before .before .a2 .given .1) (c .code .ensures, refl)
 
 pub tell-count-spec : {M : Type 1} → statement M
-tell-count-spec = tie.close (tie.spec (λ c. search needs) (λ c. search needs) (λ c κs. search needs) returns returns-2)
+tell-count-spec = tie.close (tie.spec (λ c. search needs) (λ c. search needs) (λ c κs. search needs) (λ c. search needs) returns-2)

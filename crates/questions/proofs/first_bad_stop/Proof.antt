@@ -20,18 +20,12 @@ loop-holds : tie.Need-loop-holds Inv-loop μ-loop
 loop-holds c = let a =
     c .before .before .args in (omega arith, none-yet (badStop (now (a .owner)) (a .t) (now (a .order))))
 
-bad-stop-requires : tie.Need-bad-stop-requires Inv-loop μ-loop
-bad-stop-requires c κs = tt
-
 returns : tie.Need-returns Inv-loop μ-loop
 unfolding firstBadStop
 returns c = let a = c .before .before .before .before .before .before .args in
     found-here (badStop (now (a .owner)) (a .t) (now (a .order))) (length (now (a .order))) _
     (c .before .before .loop-test .taken) (c .before .before .before .loop .inv .1)
     (sym (c .before .bad-stop .ensures) ∙ c .if1 .taken)
-
-loop-less : tie.Need-loop-less Inv-loop μ-loop
-loop-less c = omega arith
 
 loop-again : tie.Need-loop-again Inv-loop μ-loop
 loop-again c = let a = c .before .before .before .before .before .before .args in (
@@ -53,9 +47,8 @@ first-bad-stop-spec =
     Inv-loop
     μ-loop
     loop-holds
-    bad-stop-requires
+    (λ c κs. tt)
     returns
-    (λ c. omega arith)
-    loop-less
+    (λ c. omega arith) (λ c. omega arith)
     loop-again
     returns-2)

@@ -15,15 +15,9 @@ Inv-loop owner order p k j₀ j = (j ≤ p) × Nowhere (same owner order p) j
 abbrev μ-loop : tie.MeasureT-loop
 μ-loop owner order p k j₀ j = p - j
 
-stop-at-requires : tie.Need-stop-at-requires Inv-loop μ-loop
-stop-at-requires c κs = tt
-
 loop-holds : tie.Need-loop-holds Inv-loop μ-loop
 loop-holds c = let a =
     c .before .before .before .args in (omega arith, none-yet (same (now (a .owner)) (now (a .order)) (a .p)))
-
-stop-at-requires-2 : tie.Need-stop-at-requires-2 Inv-loop μ-loop
-stop-at-requires-2 c κs = tt
 
 returns : tie.Need-returns Inv-loop μ-loop
 returns c = let a = c .before .before .before .before .before .before .before .args in
@@ -32,9 +26,6 @@ returns c = let a = c .before .before .before .before .before .before .before .a
     (c .before .before .before .loop .inv .1)
     (met-here (now (a .owner)) (now (a .order)) (a .p) _ _ _ (c .before .before .before .before .stop-at .ensures)
     (c .before .stop-at2 .ensures) (c .if1 .taken)))
-
-loop-less : tie.Need-loop-less Inv-loop μ-loop
-loop-less c = omega arith
 
 loop-again : tie.Need-loop-again Inv-loop μ-loop
 loop-again c = let a = c .before .before .before .before .before .before .before .args in (
@@ -56,11 +47,10 @@ met-before-spec =
     (tie.spec
     Inv-loop
     μ-loop
-    stop-at-requires
+    (λ c κs. tt)
     loop-holds
-    stop-at-requires-2
+    (λ c κs. tt)
     returns
-    (λ c. omega arith)
-    loop-less
+    (λ c. omega arith) (λ c. omega arith)
     loop-again
     returns-2)

@@ -24,12 +24,6 @@ abbrev μ-loop : tie.MeasureT-loop
 loop-holds : tie.Need-loop-holds Inv-loop μ-loop
 loop-holds c = let a = c .before .args in (omega arith, none-yet (now (a .card)) (a .at) (a .count), refl)
 
-read-field-requires : tie.Need-read-field-requires Inv-loop μ-loop
-read-field-requires c κs = tt
-
-loop-less : tie.Need-loop-less Inv-loop μ-loop
-loop-less c = omega arith
-
 loop-again : tie.Need-loop-again Inv-loop μ-loop
 loop-again c = let l = c .before .before in
     let i = l .loop .inv in
@@ -50,8 +44,7 @@ coordinates-spec =
     Inv-loop
     μ-loop
     loop-holds
-    read-field-requires
-    (λ c. omega arith) (λ c. omega arith) (λ c. omega arith)
-    loop-less
+    (λ c κs. tt)
+    (λ c. omega arith) (λ c. omega arith) (λ c. omega arith) (λ c. omega arith)
     loop-again
     returns)

@@ -6,9 +6,6 @@ use borrow.Author.Needs.{needs}
 use Rattle.replay.proofs.read_some.Statement.{statement}
 use Rattle.replay.proofs.read_some.Tie as tie
 
-returns : tie.Need-returns
-returns c = search needs
-
 slice-aggregate-read-full : tie.Need-slice-aggregate-read-full
 slice-aggregate-read-full c = sym (length-take-le _ _ (c .before .if1 .left))
 
@@ -19,8 +16,7 @@ pub read-some-spec : {M : Type 1} → statement M
 read-some-spec =
     tie.close
     (tie.spec
-    returns
-    (λ c. search needs)
+    (λ c. search needs) (λ c. search needs)
     slice-aggregate-read-full
     (λ c κs. search needs) (λ c. search needs)
     returns-2)

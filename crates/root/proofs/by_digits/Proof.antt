@@ -15,9 +15,6 @@ Inv-loop m r₀ span₀ r span = (r * r ≤ m) × (m < (r + span) * (r + span)) 
 abbrev μ-loop : tie.MeasureT-loop
 μ-loop m r₀ span₀ r span = span
 
-loop-holds : tie.Need-loop-holds Inv-loop μ-loop
-loop-holds c = omega arith
-
 add-next : tie.Need-add-next Inv-loop μ-loop
 add-next c =
     let x = root-lt (c .before .loop .inv .0) (c .before .before .pre) in
@@ -31,9 +28,6 @@ mul-if1 c =
           (c .before .before .pre) (omega arith) (omega arith));
     }
 
-loop-less : tie.Need-loop-less Inv-loop μ-loop
-loop-less c = omega arith
-
 loop-again : tie.Need-loop-again Inv-loop μ-loop
 loop-again c = (
   omega arith,
@@ -41,9 +35,6 @@ loop-again c = (
       (c .before .before .loop .inv .1) (omega arith),
   omega arith,
 )
-
-loop-less-2 : tie.Need-loop-less-2 Inv-loop μ-loop
-loop-less-2 c = omega arith
 
 loop-again-2 : tie.Need-loop-again-2 Inv-loop μ-loop
 loop-again-2 c = omega arith
@@ -59,12 +50,11 @@ by-digits-spec =
     (tie.spec
     Inv-loop
     μ-loop
-    loop-holds
-    (λ c. omega arith)
+    (λ c. omega arith) (λ c. omega arith)
     add-next
     mul-if1
-    loop-less
+    (λ c. omega arith)
     loop-again
-    loop-less-2
+    (λ c. omega arith)
     loop-again-2
     returns)

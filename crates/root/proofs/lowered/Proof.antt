@@ -7,11 +7,5 @@ use Rattle.root.proofs.lowered.Tie as tie
 mul-if1 : tie.Need-mul-if1
 mul-if1 c = record { fits = square-fits (c .pre .1) }
 
-returns : tie.Need-returns
-returns c = search needs
-
-returns-2 : tie.Need-returns-2
-returns-2 c = search needs
-
 pub lowered-spec : {M : Type 1} → statement M
-lowered-spec = tie.close (tie.spec mul-if1 (λ c. search needs) returns returns-2)
+lowered-spec = tie.close (tie.spec mul-if1 (λ c. search needs) (λ c. search needs) (λ c. search needs))

@@ -25,14 +25,8 @@ float-to-bits-b c = no-nan (c .before .args .x) (c .if1 .left)
 seldom-requires : tie.Need-seldom-requires
 seldom-requires c κs = (own (c .before .before), (fit (c .before .before), omega arith))
 
-returns-2 : tie.Need-returns-2
-returns-2 c = search needs
-
 seldom-requires-2 : tie.Need-seldom-requires-2
 seldom-requires-2 c κs = (own (c .before .before .before), (fit (c .before .before .before), omega arith))
-
-returns-3 : tie.Need-returns-3
-returns-3 c = search needs
 
 float-from-bits-result : tie.Need-float-from-bits-result
 float-from-bits-result c = finite-pattern (c .root-bits .result) (c .root-bits .ensures .0)
@@ -50,9 +44,9 @@ sqrt-spec =
     returns
     float-to-bits-b
     seldom-requires
-    returns-2
+    (λ c. search needs)
     seldom-requires-2
-    returns-3
+    (λ c. search needs)
     (λ c. search needs) (λ c κs. search needs)
     float-from-bits-result
     returns-4)

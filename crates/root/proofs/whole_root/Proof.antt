@@ -14,9 +14,6 @@ mul-square c = record { fits = square-fits (c .lowered .ensures) }
 returns : tie.Need-returns
 returns c = sym (whole-unique _ _ (c .before .if1 .taken) (omega arith))
 
-returns-2 : tie.Need-returns-2
-returns-2 c = search needs
-
 pub whole-root-spec : {M : Type 1} → statement M
 whole-root-spec =
-    tie.close (tie.spec (λ c κs. search needs) mul-square (λ c. search needs) returns (λ c κs. search needs) returns-2)
+    tie.close (tie.spec (λ c κs. search needs) mul-square (λ c. search needs) returns (λ c κs. search needs) (λ c. search needs))

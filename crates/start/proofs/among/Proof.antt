@@ -24,9 +24,6 @@ abbrev μ-loop : tie.MeasureT-loop
 loop-holds : tie.Need-loop-holds Inv-loop μ-loop
 loop-holds c = (λ g w tells. sym (begin _ _ _ _), omega arith)
 
-loop-less : tie.Need-loop-less Inv-loop μ-loop
-loop-less c = omega arith
-
 loop-again : tie.Need-loop-again Inv-loop μ-loop
 loop-again c = (
   λ g w tells.
@@ -45,7 +42,6 @@ among-spec =
     Inv-loop
     μ-loop
     loop-holds
-    (λ c κs. search needs) (λ c κs. search needs) (λ c. omega arith)
-    loop-less
+    (λ c κs. search needs) (λ c κs. search needs) (λ c. omega arith) (λ c. omega arith)
     loop-again
     returns)

@@ -26,9 +26,6 @@ abbrev μ-loop : tie.MeasureT-loop
 loop-holds : tie.Need-loop-holds Inv-loop μ-loop
 loop-holds c = (λ g w tells f p v. begin-zero _ _ _, omega arith)
 
-loop-less : tie.Need-loop-less Inv-loop μ-loop
-loop-less c = omega arith
-
 loop-again : tie.Need-loop-again Inv-loop μ-loop
 loop-again c = (
   λ g w tells f p v.
@@ -36,9 +33,6 @@ loop-again c = (
       (passed-over g w _ _ _ (c .before .is-open .ensures g w v p) (not-true _ (c .if1 .taken))),
   omega arith,
 )
-
-loop-less-2 : tie.Need-loop-less-2 Inv-loop μ-loop
-loop-less-2 c = omega arith
 
 loop-again-2 : tie.Need-loop-again-2 Inv-loop μ-loop
 loop-again-2 c = (
@@ -61,10 +55,8 @@ choose-spec =
     Inv-loop
     μ-loop
     loop-holds
-    (λ c κs. search needs) (λ c. omega arith)
-    loop-less
+    (λ c κs. search needs) (λ c. omega arith) (λ c. omega arith)
     loop-again
-    (λ c κs. search needs) (λ c. omega arith)
-    loop-less-2
+    (λ c κs. search needs) (λ c. omega arith) (λ c. omega arith)
     loop-again-2
     returns)

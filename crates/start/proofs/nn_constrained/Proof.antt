@@ -43,9 +43,6 @@ loop-holds c = (([], flags-none flagCount, begin-zero _ _ _), refl, omega arith,
 slice-aggregate-choose : tie.Need-slice-aggregate-choose Inv-loop μ-loop
 slice-aggregate-choose c = sym (c .before .before .loop .inv .4)
 
-loop-less : tie.Need-loop-less Inv-loop μ-loop
-loop-less c = omega arith
-
 loop-again : tie.Need-loop-again Inv-loop μ-loop
 loop-again c =
     let l = c .before .before .before .before .before .loop in
@@ -71,9 +68,6 @@ slice-write-tour c = omega (arith, c .before .before .before .before .before .lo
 
 array-write-visited : tie.Need-array-write-visited Inv-loop μ-loop
 array-write-visited c = omega (arith, c .before .before .before .choose .ok)
-
-loop-less-2 : tie.Need-loop-less-2 Inv-loop μ-loop
-loop-less-2 c = omega arith
 
 loop-again-2 : tie.Need-loop-again-2 Inv-loop μ-loop
 loop-again-2 c =
@@ -119,14 +113,12 @@ nn-constrained-spec =
     loop-holds
     (λ c. omega arith)
     slice-aggregate-choose
-    (λ c. omega arith) (λ c κs. search needs)
-    loop-less
+    (λ c. omega arith) (λ c κs. search needs) (λ c. omega arith)
     loop-again
     slice-write-tour
     (λ c. search needs)
     array-write-visited
-    (λ c. omega arith)
-    loop-less-2
+    (λ c. omega arith) (λ c. omega arith)
     loop-again-2
     same-length
     returns-2)

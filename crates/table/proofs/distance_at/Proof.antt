@@ -11,8 +11,5 @@ mul-float-at c = omega (arith, row-small (c .before .args .a) (c .before .args .
 add-float-at : tie.Need-add-float-at
 add-float-at c = omega (arith, row-small (c .before .args .a) (c .before .args .t) (omega arith) (omega arith))
 
-returns : tie.Need-returns
-returns c = search needs
-
 pub distance-at-spec : {M : Type 1} → statement M
-distance-at-spec = tie.close (tie.spec mul-float-at add-float-at (λ c κs. search needs) returns)
+distance-at-spec = tie.close (tie.spec mul-float-at add-float-at (λ c κs. search needs) (λ c. search needs))

@@ -23,9 +23,6 @@ returns c = length-none _ _ _ _ (c .if1 .taken)
 loop-holds : tie.Need-loop-holds Inv-loop μ-loop
 loop-holds c = (omega arith, length-first _ _ _ _ _ (c .before .before .if1 .left) (c .home-at .ensures))
 
-loop-less : tie.Need-loop-less Inv-loop μ-loop
-loop-less c = omega arith
-
 loop-again : tie.Need-loop-again Inv-loop μ-loop
 loop-again c = (
   omega arith,
@@ -45,7 +42,6 @@ evaluate-solution-spec =
     returns
     (λ c. search needs) (λ c κs. search needs)
     loop-holds
-    (λ c. search needs) (λ c κs. search needs) (λ c. omega arith)
-    loop-less
+    (λ c. search needs) (λ c κs. search needs) (λ c. omega arith) (λ c. omega arith)
     loop-again
     returns-2)

@@ -28,12 +28,6 @@ loop-holds : tie.Need-loop-holds Inv-loop μ-loop
 unfolding listed
 loop-holds c = (omega arith, refl, refl)
 
-distance-requires : tie.Need-distance-requires Inv-loop μ-loop
-distance-requires c κs = tt
-
-loop-less : tie.Need-loop-less Inv-loop μ-loop
-loop-less c = search needs
-
 loop-again : tie.Need-loop-again Inv-loop μ-loop
 loop-again c =
     let h = c .before .before .before in (
@@ -60,10 +54,8 @@ fill-home-spec =
     returns
     returns-2
     loop-holds
-    (λ c. search needs) (λ c. omega arith)
-    distance-requires
-    (λ c. search needs) (λ c. search needs) (λ c. search needs)
-    loop-less
+    (λ c. search needs) (λ c. omega arith) (λ c κs. tt)
+    (λ c. search needs) (λ c. search needs) (λ c. search needs) (λ c. search needs)
     loop-again
     same-length
     returns-3)

@@ -17,21 +17,9 @@ Inv-loop room₀ t owner a items from k b₀ room b =
 abbrev μ-loop : tie.MeasureT-loop
 μ-loop room₀ t owner a items from k b₀ room b = t - b
 
-byte-at-requires : tie.Need-byte-at-requires Inv-loop μ-loop
-byte-at-requires c κs = tt
-
 loop-holds : tie.Need-loop-holds Inv-loop μ-loop
 unfolding listed
 loop-holds c = (omega arith, refl, refl)
-
-byte-at-requires-2 : tie.Need-byte-at-requires-2 Inv-loop μ-loop
-byte-at-requires-2 c κs = tt
-
-leg-requires : tie.Need-leg-requires Inv-loop μ-loop
-leg-requires c κs = tt
-
-loop-less : tie.Need-loop-less Inv-loop μ-loop
-loop-less c = omega arith
 
 loop-again : tie.Need-loop-again Inv-loop μ-loop
 loop-again c =
@@ -57,14 +45,10 @@ fill-row-spec =
     (tie.spec
     Inv-loop
     μ-loop
-    (λ c. omega arith) (λ c. omega arith)
-    byte-at-requires
+    (λ c. omega arith) (λ c. omega arith) (λ c κs. tt)
     loop-holds
-    (λ c. omega arith) (λ c. omega arith)
-    byte-at-requires-2
-    leg-requires
-    (λ c. omega arith) (λ c. omega arith) (λ c. omega arith)
-    loop-less
+    (λ c. omega arith) (λ c. omega arith) (λ c κs. tt) (λ c κs. tt)
+    (λ c. omega arith) (λ c. omega arith) (λ c. omega arith) (λ c. omega arith)
     loop-again
     same-length
     returns)

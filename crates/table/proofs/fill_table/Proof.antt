@@ -62,9 +62,6 @@ fill-row-requires c κs =
           (omega (arith, row-fits (h .a) (s .args .t) (omega arith))),
     )
 
-loop-less : tie.Need-loop-less Inv-loop μ-loop
-loop-less c = omega arith
-
 loop-again : tie.Need-loop-again Inv-loop μ-loop
 loop-again c =
     let h = c .before .before .before .before .before .loop in
@@ -102,8 +99,7 @@ fill-table-spec =
     part-fill-row-start
     (λ c. omega arith)
     fill-row-requires
-    (λ c. omega arith)
-    loop-less
+    (λ c. omega arith) (λ c. omega arith)
     loop-again
     same-length
     returns-3)
