@@ -2,10 +2,11 @@
 # refusals.sh [TOP]: holds what each wrong program says of its refusal against the logs that `rt ci` left in TOP/target.
 #
 # A sweep, crates/NAME/must-fail/*.edit, tries many wrong programs at once, and rt is content if anything in it is refused. So
-# each wrong program stands there under its name, `wrong: NAME`, and behind its replacements a line `refused: PLACE FACT` says
-# which fact of which function or file of proofs the prover must refuse. It fails unless every fact named is refused, no two
-# wrong programs of a sweep name the same one, each replacement in a function is refused in that function (but where a sweep is
-# of statements), and docs/PROMISES.md has the name.
+# each wrong program stands there under its name, `wrong: NAME`, and behind each of its replacements a line `refused: PLACE FACT`
+# says which fact of which function or file of proofs the prover must refuse. It fails unless every fact named is refused, no
+# two of a sweep name the same one, and docs/PROMISES.md has the name. In a sweep of bodies each replacement is refused in the
+# function that it changes, and no function is changed by two wrong programs; replacements share a line only where they make
+# one change of one function or statement.
 set -eu
 
 cd "${1:-$(dirname "$0")/..}"
@@ -57,12 +58,12 @@ function end_wrong() {
 
 FNR == 1 {
     end_wrong()
-    wrong = "-"; told = 1; sweeps++
+    wrong = ""; sweeps++
     sweep = FILENAME
     crate = sweep; sub(/\/must-fail\/.*/, "", crate)
     label = sweep; sub(/.*\//, "", label); sub(/\.edit$/, "", label)
     read_log("target/must-fail/" substr(crate, 8) "/" label "/.log")
-    delete used
+    delete used; delete changed
     of_bodies = (label !~ /^statements/)
 }
 /^wrong: / {
@@ -71,7 +72,16 @@ FNR == 1 {
     if (!(wrong in promised)) bad("docs/PROMISES.md does not name it")
 }
 /^file: / { file = substr($0, 7) }
-/^old: / { open++; if (of_bodies) own = holder(crate "/" file, substr($0, 6)) }
+/^old: / {
+    if (wrong == "") bad("a replacement that has no name")
+    if (of_bodies) {
+        own = holder(crate "/" file, substr($0, 6))
+        if (open > 0 && own != before) bad("one refusal for " before " and " own)
+        if ((own in changed) && changed[own] != wrong) bad(changed[own] " changes " own " too")
+        changed[own] = wrong; before = own
+    }
+    open++
+}
 /^refused: / {
     fact = substr($0, 10)
     if (open == 0) bad("a refusal of nothing")

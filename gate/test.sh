@@ -1,7 +1,7 @@
 #!/bin/sh
 # test.sh: refusals.sh must pass a sweep whose wrong programs are each refused at their own fact, and name what is wrong with
-# one that has a harmless replacement in it, one refused elsewhere, one told twice, or a name that docs/PROMISES.md lacks. The
-# log is one that `rt must-fail` wrote of crates/block, cut short.
+# one that has a harmless replacement in it, one refused elsewhere, one told twice, a name that docs/PROMISES.md lacks, and so
+# on. The log is one that `rt must-fail` wrote of crates/block, cut short.
 set -eu
 
 here=$(cd "$(dirname "$0")" && pwd -P)
@@ -59,3 +59,17 @@ says 1 'harmless: another wrong program is refused at byte_at returns'
 says 1 'harmless: it is in is_checked, not in byte_at returns'
 sweep unheard_of '    check_at(s, at) == u32_at(s, at + 504)' 'is_checked returns-2'
 says 1 'unheard_of: docs/PROMISES.md does not name it'
+
+# one refusal for two functions, one function changed twice, a replacement without a name, and no log
+sweep check_read_early '    check_at(s, at) == u32_at(s, at + 504)' 'is_checked returns-2'
+edit=$tree/crates/block/must-fail/bodies_1.edit
+whole=$(cat "$edit")
+echo "$whole" | sed '/^refused: byte_at/d; /^wrong: check_read_early/d' >"$edit"
+says 1 'first_byte_for_any: one refusal for byte_at and is_checked'
+echo "$whole" | sed 's/^old:     check_at.*/old: return s[at];/' >"$edit"
+says 1 'check_read_early: first_byte_for_any changes byte_at too'
+echo "$whole" | sed '/^wrong: /d' >"$edit"
+says 1 ': a replacement that has no name'
+echo "$whole" >"$edit"
+rm "$tree/target/must-fail/block/bodies_1/.log"
+says 1 'first_byte_for_any: not refused at byte_at returns'

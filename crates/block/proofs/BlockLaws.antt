@@ -11,7 +11,7 @@ use lib.Seq.{take-all, take-nil, drop-cons}
 use borrow.Author.Tests.{eq-eqb, ne-eqb}
 use lib.Dec.{eqb}
 use Rattle.block.specs.Field.{byteAt, u16At, u32At}
-use Rattle.block.specs.Block.{checkPlace, weigh, checkAt, checked, starts, allZero, zerosAt}
+use Rattle.block.specs.Block.{checkOffset, weigh, checkAt, checked, starts, allZero, zerosAt}
 use Rattle.block.proofs.FieldLaws.{past-byte, past-u16, past-u32}
 
 -- ---- one more byte adds its weight times itself
@@ -29,8 +29,8 @@ pub weigh-step : (t : List ℕ) (p sum x : ℕ) → p < length t → sum ≡ wei
 weigh-step t p sum x h e f = rw (e, f, add-one, weigh-suc 1 t p h, suc-add 0 p, zero-add)
 
 -- a byte's weight times itself, within 508 bytes
-pub weight-bound : (p x : ℕ) → p < checkPlace → x < 256 → (p + 1) * x ≤ checkPlace * 255
-weight-bound p x h g = mul-le-mul {n₂ = checkPlace} {m₂ = 255} (omega arith) (omega arith)
+pub weight-bound : (p x : ℕ) → p < checkOffset → x < 256 → (p + 1) * x ≤ checkOffset * 255
+weight-bound p x h g = mul-le-mul {n₂ = checkOffset} {m₂ = 255} (omega arith) (omega arith)
 
 -- the whole of what was weighed
 pub weigh-all : (t : List ℕ) (p : ℕ) → length t ≤ p → p ≤ length t → weigh 1 (take p t) ≡ weigh 1 t
@@ -113,22 +113,22 @@ part-whole s at count = let e : at + count - at ≡ count = omega arith in rw e
 
 pub check-none : (s : List ℕ) (at : ℕ) → length s ≤ at → 0 ≡ checkAt s at
 unfolding checkAt weigh
-check-none s at h = rw (part-none s at checkPlace h)
+check-none s at h = rw (part-none s at checkOffset h)
 
-pub check-rest : (s : List ℕ) (at r : ℕ) → length s - at < checkPlace → r ≡ weigh 1 (take (length s - at) (drop at s))
+pub check-rest : (s : List ℕ) (at r : ℕ) → length s - at < checkOffset → r ≡ weigh 1 (take (length s - at) (drop at s))
     → r ≡ checkAt s at
 unfolding checkAt
-check-rest s at r h e = e ∙ ap (weigh 1) (part-rest s at checkPlace h)
+check-rest s at r h e = e ∙ ap (weigh 1) (part-rest s at checkOffset h)
 
-pub check-whole : (s : List ℕ) (at r : ℕ) → r ≡ weigh 1 (take (at + checkPlace - at) (drop at s)) → r ≡ checkAt s at
+pub check-whole : (s : List ℕ) (at r : ℕ) → r ≡ weigh 1 (take (at + checkOffset - at) (drop at s)) → r ≡ checkAt s at
 unfolding checkAt
-check-whole s at r e = e ∙ ap (weigh 1) (part-whole s at checkPlace)
+check-whole s at r e = e ∙ ap (weigh 1) (part-whole s at checkOffset)
 
 pub checked-none : (s : List ℕ) (at : ℕ) → length s ≤ at → true ≡ checked s at
 unfolding checked
-checked-none s at h = rw (← check-none s at h, past-u32 s (at + checkPlace) (omega arith))
+checked-none s at h = rw (← check-none s at h, past-u32 s (at + checkOffset) (omega arith))
 
-pub checked-is : (s : List ℕ) (at a b : ℕ) → a ≡ checkAt s at → b ≡ u32At s (at + checkPlace) → eqb a b ≡ checked s at
+pub checked-is : (s : List ℕ) (at a b : ℕ) → a ≡ checkAt s at → b ≡ u32At s (at + checkOffset) → eqb a b ≡ checked s at
 unfolding checked
 checked-is s at a b e f = rw (e, f)
 

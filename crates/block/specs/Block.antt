@@ -12,8 +12,8 @@ use Rattle.block.specs.Field.{byteAt, u16At, u32At}
 abbrev pub blockBytes : ℕ
 blockBytes = 512
 
-abbrev pub checkPlace : ℕ
-checkPlace = 508
+abbrev pub checkOffset : ℕ
+checkOffset = 508
 
 -- bytes of a block's payload
 abbrev pub payloadBytes : ℕ
@@ -27,12 +27,12 @@ weigh w (x ∷ rest) = w * x + weigh (suc w) rest
 -- the check of the block: byte p counts p + 1 times
 unfoldable pub checkAt : List ℕ → ℕ → ℕ
 unfolding weigh
-checkAt s at = weigh 1 (take checkPlace (drop at s))
+checkAt s at = weigh 1 (take checkOffset (drop at s))
 
 -- the check is the one written behind the bytes that it covers
 unfoldable pub checked : List ℕ → ℕ → Bool
 unfolding checkAt u32At
-checked s at = eqb (checkAt s at) (u32At s (at + checkPlace))
+checked s at = eqb (checkAt s at) (u32At s (at + checkOffset))
 
 -- the block starts as is due: its kind, the version, its number, four zeros
 unfoldable pub starts : List ℕ → ℕ → ℕ → ℕ → ℕ → Bool

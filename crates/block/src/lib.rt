@@ -7,7 +7,7 @@ ghost use Prim.Native.Nat.{_+_, _≤_, _<_};
 ghost use lib.ListN.{length};
 ghost use lib.Ieee.{binary64, ofBits};
 ghost use Rattle.block.specs.Field.{byteAt, u16At, u32At, u64At, f64At};
-ghost use Rattle.block.specs.Block.{weigh, checkAt, checked, starts, allZero, zerosAt, checkPlace};
+ghost use Rattle.block.specs.Block.{weigh, checkAt, checked, starts, allZero, zerosAt, checkOffset};
 
 // How many bytes a block has.
 pub const BLOCK: usize = 512;
@@ -121,7 +121,7 @@ pub fn starts_as(s: &[u8], at: usize, kind: u8, version: u8, number: usize) -> b
 
 // The weighted sum of at most 508 bytes.
 fn weighed(t: &[u8]) -> u32
-    requires { ⌜ length (now t) ≤ checkPlace ⌝ }
+    requires { ⌜ length (now t) ≤ checkOffset ⌝ }
     ensures { λ r. ⌜ r ≡ weigh 1 (now (t .entry)) ⌝ }
 {
     let mut sum: u32 = 0;

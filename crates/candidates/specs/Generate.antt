@@ -25,8 +25,7 @@ candidateAt way s =
       y = s .point .y;
       «end_x» = s .point .x;
       «end_y» = s .point .y;
-      vertex =
-          s .vertex;
+      vertex = s .vertex;
       direction = way;
     }
 

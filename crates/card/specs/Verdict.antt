@@ -52,5 +52,6 @@ abbrev pub stagesOf : List ℕ → List Check
 stagesOf s = headStages s ++ blockStages s ++ contourStages s ++ pairStages s
 
 unfoldable pub checkOf : List ℕ → Check
-unfolding firstRefusal lengthFault checkFault startFault headFault countFault contourFault spareFault farFault repeatFault nameFault tagFault cycleFault
+unfolding firstRefusal lengthFault checkFault startFault headFault countFault contourFault spareFault farFault
+    repeatFault nameFault tagFault cycleFault
 checkOf s = firstRefusal (stagesOf s)

@@ -83,8 +83,7 @@ if-exact true k Row to from =
 if-exact false k Row to from =
     record {
       found = λ p e. let z : _≡_ {A = ℕ} 0 1 = cc in absurd (omega arith);
-      here =
-          λ p r. absurd (never false (from p r .0) refl);
+      here = λ p r. absurd (never false (from p r .0) refl);
     }
 
 -- ---- rows in turn

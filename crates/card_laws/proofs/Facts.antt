@@ -162,7 +162,8 @@ at-tabulated f (suc n) k d h = go (eq-or-lt-of-le (le-of-suc-le-suc h)) (at-tabu
   where
     go : (k ≡ n) ⊎ (k < n) → (k < n → getD (tabulated f n) k d ≡ f k) → getD (tabulated f n ++ (f n ∷ [])) k d ≡ f k
     go (inl e) earlier = getD-at (tabulated f n) (f n) [] d k (length-tabulated f n ∙ sym e) ∙ ap f (sym e)
-    go (inr g) earlier = List·getD-append (tabulated f n) (f n ∷ []) d k (omega (arith, length-tabulated f n)) ∙ earlier g
+    go (inr g) earlier =
+        List·getD-append (tabulated f n) (f n ∷ []) d k (omega (arith, length-tabulated f n)) ∙ earlier g
 
 -- the record has as many contours, vertices and pairs as the counts say, and each is what the field questions read
 pub contours-in-all : (s : List ℕ) → length (cardOf s .contours) ≡ contoursOf s

@@ -103,8 +103,7 @@ module _ (s : List ℕ) (i j : ℕ) where
             pair = b .pair;
             is-pair = omega (arith, b .is-pair);
             first = b .first;
-            second =
-                b .second;
+            second = b .second;
           }
       go (inr t) later =
           record {

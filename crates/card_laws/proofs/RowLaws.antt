@@ -13,7 +13,7 @@ use Rattle.answer.specs.declared.Found.the-variants.{At, Absent}
 use Rattle.answer.specs.Lowest.{lowest}
 use Rattle.answer.proofs.LowestLaws.{is-at, is-absent}
 use Rattle.block.specs.Field.{u32At}
-use Rattle.block.specs.Block.{blockBytes, checkPlace, checkAt, checked, starts, Due}
+use Rattle.block.specs.Block.{blockBytes, checkOffset, checkAt, checked, starts, Due}
 use Rattle.block.proofs.Readings.{due-is, is-due}
 use Rattle.closure.proofs.PairLaws.{lt-or}
 use Rattle.fields.specs.Limits.{cardBytes, perContourLimit, vertexLimit, pairsABlock}
@@ -78,8 +78,8 @@ module _ (s : List ℕ) where
   unfolding checkFault checked
   exact2 =
       lowest-exact _ (blocksOf s) (CheckDiffers s)
-      (λ b h t e. not-so (eqb (checkAt s (blockBytes * b)) (u32At s (blockBytes * b + checkPlace))) t (eq-eqb _ _ e))
-      (λ b h d. so-not (eqb (checkAt s (blockBytes * b)) (u32At s (blockBytes * b + checkPlace)))
+      (λ b h t e. not-so (eqb (checkAt s (blockBytes * b)) (u32At s (blockBytes * b + checkOffset))) t (eq-eqb _ _ e))
+      (λ b h d. so-not (eqb (checkAt s (blockBytes * b)) (u32At s (blockBytes * b + checkOffset)))
       (λ t. d (eqb-true _ _ t)))
 
   -- ---- 3
@@ -149,8 +149,7 @@ module _ (s : List ℕ) where
   exact5 =
       if-exact (not (eqb (blocksOf s) (blocksDue s))) (blocksOf s) (Row5 s)
       (λ t. record {
-        differs =
-            λ p w e. not-so (eqb (blocksOf s) (blocksDue s)) t (eq-eqb _ _ (due-blocks p w e));
+        differs = λ p w e. not-so (eqb (blocksOf s) (blocksDue s)) t (eq-eqb _ _ (due-blocks p w e));
         told = refl;
       })
       (λ p r. (so-not (eqb (blocksOf s) (blocksDue s)) (λ t. r .differs _ blocks-hold (eqb-true _ _ t)), r .told))

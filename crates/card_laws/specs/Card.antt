@@ -55,8 +55,7 @@ contourOf s k =
       id = idOf s k;
       tag = tagOf s k;
       kind = asType (typeOf s k);
-      vertices =
-          tabulated (λ j. pointAt s (vertexOffset k j)) (vertexCountOf s k);
+      vertices = tabulated (λ j. pointAt s (vertexOffset k j)) (vertexCountOf s k);
     }
 
 abbrev pub pairOf : List ℕ → ℕ → Pair
@@ -65,8 +64,7 @@ pairOf s q =
       before-id = beforeIdOf s q;
       before-tag = beforeTagOf s q;
       after-id = afterIdOf s q;
-      after-tag =
-          afterTagOf s q;
+      after-tag = afterTagOf s q;
     }
 
 -- what the bytes say

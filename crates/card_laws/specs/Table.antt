@@ -10,7 +10,7 @@ use lib.ListN.{length}
 use Rattle.answer.specs.declared.Refusal.{Refusal}
 use Rattle.answer.specs.declared.Check.the-variants.{Fine, Refused}
 use Rattle.block.specs.Field.{byteAt, u32At}
-use Rattle.block.specs.Block.{blockBytes, payloadBytes, checkPlace, checkAt, Due}
+use Rattle.block.specs.Block.{blockBytes, payloadBytes, checkOffset, checkAt, Due}
 use Rattle.points.specs.Bad.{badPoint}
 use Rattle.closure.specs.Limits.{CONTOURS, PAIRS}
 use Rattle.fields.specs.Limits.{cardBytes, perContourLimit, candidateLimit, passLimit, vertexLimit, pairsABlock}
@@ -35,7 +35,7 @@ pub record Row1 (s : List ℕ) (place : ℕ) : Type 0 where
 
 -- 2: a check differs; the lowest block
 abbrev pub CheckDiffers : List ℕ → ℕ → Type 0
-CheckDiffers s b = checkAt s (blockBytes * b) ≡ u32At s (blockBytes * b + checkPlace) → ⊥
+CheckDiffers s b = checkAt s (blockBytes * b) ≡ u32At s (blockBytes * b + checkOffset) → ⊥
 
 abbrev pub Row2 : List ℕ → ℕ → Type 0
 Row2 s = Lowest (blocksOf s) (CheckDiffers s)

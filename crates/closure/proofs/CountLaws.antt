@@ -97,8 +97,7 @@ module _ (n : ℕ) (link : ℕ → ℕ → Bool) (low : Within n link) (free : (
         record {
           within = l;
           holds = t;
-          none =
-              λ b hb p e. true-false (both-true (P b) (link b k) p e) (none b hb);
+          none = λ b hb p e. true-false (both-true (P b) (link b k) p e) (none b hb);
         },
       )
 

@@ -46,8 +46,7 @@ row-none n k i f w =
       within = omega arith;
       done = λ c h. absurd (omega arith);
       ahead = λ c h g. refl;
-      rest =
-          λ r c h g ne. refl;
+      rest = λ r c h g ne. refl;
     }
 
 module _ (n k i j : ℕ) (f g : List Bool) (small : n ≤ CONTOURS) (hk : k < n) (hi : i < n) (hj : j < n)

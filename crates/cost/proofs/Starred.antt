@@ -23,5 +23,7 @@ half64 = ofBits binary64 0x3fe0_0000_0000_0000
 -- closest to (2,2) is (2,0), on edge 0, halfway along
 pub closest-of-square : closestOnPolygonOf square (point two64 two64)
     ≡ At (record { point = point two64 zero64; vertex = 0; t = half64 })
-unfolding closestOnPolygonOf polygonAndPoint firstRefusal firstBad lowest lowestFrom badAt badPoint badNumber points closestTo edges closing closestFrom closerOf clampOf footOf alongOf distanceSqOf squares add sub mul div neg lt ofBits ofFields odd size span climb round units sum trailingZeros
+unfolding closestOnPolygonOf polygonAndPoint firstRefusal firstBad lowest lowestFrom badAt badPoint badNumber points
+    closestTo edges closing closestFrom closerOf clampOf footOf alongOf distanceSqOf squares add sub mul div neg lt
+    ofBits ofFields odd size span climb round units sum trailingZeros
 closest-of-square = refl

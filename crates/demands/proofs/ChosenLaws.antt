@@ -230,8 +230,7 @@ module _ (ground : Ground) (way : Way) (n : ℕ) (rises : (k : ℕ) → k < n �
               inl (record {
                 contour = o .contour;
                 below = (let l = o .below in omega arith);
-                is-open =
-                    o .is-open;
+                is-open = o .is-open;
                 among = o .among;
               })
 
@@ -245,8 +244,7 @@ module _ (ground : Ground) (way : Way) (n : ℕ) (rises : (k : ℕ) → k < n �
                 contour = o .contour;
                 below = (let l = o .below in omega arith);
                 is-open = o .is-open;
-                among =
-                    o .among;
+                among = o .among;
               }
 
       go : (c : Bool) → isOpen ground way k ≡ c

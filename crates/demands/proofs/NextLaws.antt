@@ -149,8 +149,7 @@ module _ (s : List ℕ) (fine : checkOf s ≡ Fine) where
         contour = r .contour;
         below = r .is-contour;
         is-open = r .is-open;
-        among =
-            record { from = r .from; to = r .to };
+        among = record { from = r .from; to = r .to };
       }
 
   reals : (w : Way) → AllBelow (countOn s) (w .tour) → (b : ℕ) → Open g w (contoursOf s) b → Real (reachOn s w b)
@@ -170,8 +169,7 @@ module _ (s : List ℕ) (fine : checkOf s ≡ Fine) where
           contour = _;
           is-contour = fair .within;
           is-open = fair .«open»;
-          from =
-              fair .candidate .from;
+          from = fair .candidate .from;
           to = fair .candidate .to;
         };
         least = λ b r. chosen-least g w (contoursOf s) rises (reals w h) e b (opened w b r);

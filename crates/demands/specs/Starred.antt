@@ -10,7 +10,9 @@ use Rattle.answer.specs.declared.CutDirection.the-variants.{Ccw, Cw}
 use Rattle.answer.specs.declared.Check.the-variants.{Fine, Refused}
 use Rattle.root.specs.Root.{sqrtOf}
 use Rattle.cost.specs.declared.Closest.the-variants.{At}
+use Rattle.points.specs.Numbers.{zero64}
 use Rattle.points.specs.Points.{point, points}
+use Rattle.points.specs.Square.{four64, square}
 use Rattle.cost.specs.Closest.{closestOnPolygonOf}
 use Rattle.candidates.specs.Along.{spot}
 use Rattle.candidates.specs.Generate.{candidateAt, blank, candidatesOf}
@@ -25,22 +27,12 @@ use Rattle.tour.specs.Search.{tourOn, outcomeOn}
 abbrev pub HasRoot : ℕ → ℕ → Type 0
 HasRoot x r = sqrtOf (ofBits binary64 x) ≡ ofBits binary64 r
 
--- 0, 0.5, 2 and 4
-abbrev pub zero64 : Float
-zero64 = ofBits binary64 0
-
+-- 0.5 and 2
 abbrev pub half64 : Float
 half64 = ofBits binary64 0x3fe0_0000_0000_0000
 
 abbrev pub two64 : Float
 two64 = ofBits binary64 0x4000_0000_0000_0000
-
-abbrev pub four64 : Float
-four64 = ofBits binary64 0x4010_0000_0000_0000
-
--- the square (0,0), (4,0), (4,4), (0,4)
-abbrev pub square : List Float
-square = zero64 ∷ zero64 ∷ four64 ∷ zero64 ∷ four64 ∷ four64 ∷ zero64 ∷ four64 ∷ []
 
 -- a line of the list: id, tag, candidate within its contour, direction
 pub record Line : Type 0 where
@@ -57,8 +49,7 @@ lineOf s a =
       id = idOf s k;
       tag = tagOf s k;
       candidate = a - getD (firstsOn s) k 0;
-      direction =
-          getD (candidatesOn s) a blank .direction;
+      direction = getD (candidatesOn s) a blank .direction;
     }
 
 -- the list of a card that is written

@@ -31,7 +31,8 @@ unfolding gridPoints ofBits ofFields odd trailingZeros
 on-the-grid = refl
 
 reported : computed home stops ≡ ofBits binary64 0x4038_0000_0000_0000
-unfolding alongRoute distanceOf distanceSqOf squaresOf total add sub mul neg sum ofBits ofFields odd size span climb round units trailingZeros sqrtOf rootFinite halves wholeRoot digits
+unfolding alongRoute distanceOf distanceSqOf squaresOf total add sub mul neg sum ofBits ofFields odd size span climb
+    round units trailingZeros sqrtOf rootFinite halves wholeRoot digits
 reported = refl
 
 exactly : lowerEnd (squares home stops) ≡ 24 * 2 ^ 40

@@ -263,8 +263,7 @@ grid-leg a b t u =
       plain = record {
         held = root-fits x real;
         finite-one = root-finite x held real;
-        plus =
-            root-sign x held real ∙ plus .plus;
+        plus = root-sign x held real ∙ plus .plus;
       };
       small = squared-small a b t u;
       within = grid-root x S held real (in-steps x S v) (squared-small a b t u);

@@ -71,8 +71,7 @@ next-leg P E G i A R D r s f w p h l =
     record {
       high = omega (arith, f .high, w .high);
       low = omega (arith, f .low, w .low);
-      small =
-          omega (arith, f .small);
+      small = omega (arith, f .small);
     }
 
 -- ---- the sum of a list

@@ -20,7 +20,7 @@ use Rattle.answer.proofs.RoomLaws.{padded-length}
 use Rattle.hierarchy.specs.Fill.{Filled}
 use Rattle.hierarchy.specs.Sort.{Kahn, heldBack, tallied, freeBelow, untaken, loosened, released, frontTaken}
 use Rattle.hierarchy.specs.Sort.{queueTaken, sortedBy}
-use Rattle.hierarchy.specs.Code.{heldCount, standing, firstTaken, Roomy, Stands}
+use Rattle.hierarchy.specs.Code.{heldCount, standing, firstTaken, HasRoom, Stands}
 use Rattle.answer.specs.declared.Check.{Check}
 use Rattle.hierarchy.specs.declared.Order.{Order}
 use Rattle.hierarchy.specs.Questions.{orderOf}
@@ -55,8 +55,7 @@ tally-none n pairs =
     record {
       size = length-replicate {A = ℕ} CONTOURS 0;
       within = omega arith;
-      small =
-          λ a. omega (arith, zeros CONTOURS a);
+      small = λ a. omega (arith, zeros CONTOURS a);
       left = refl;
     }
 
@@ -151,11 +150,11 @@ held-yes : (w : ℕ) → (w ≡ 0 → ⊥) → held w ≡ 1
 held-yes w d = rw (ne-eqb w 0 d)
 
 -- the array is as long as the limit
-roomy-length : (w o : List ℕ) (k : ℕ) → Roomy w o k → length o ≡ CONTOURS
+roomy-length : (w o : List ℕ) (k : ℕ) → HasRoom w o k → length o ≡ CONTOURS
 roomy-length w o k s =
     ap length (s .filled .holds) ∙ padded-length CONTOURS 0 (take k o) (omega (arith, s .filled .counts, s .room))
 
-module _ (w o : List ℕ) (k a : ℕ) (roomy : Roomy w o k) (ha : a < CONTOURS) where
+module _ (w o : List ℕ) (k a : ℕ) (roomy : HasRoom w o k) (ha : a < CONTOURS) where
   in-waits : a < length w
   in-waits = omega (arith, roomy .size)
 
@@ -215,10 +214,11 @@ module _ (b a x n : ℕ) where
 
 pub record ReleasePart (n x : ℕ) (pairs : List ℕ) (at : ℕ) (s : Kahn) (w o : List ℕ) (k : ℕ) : Type 0 where
   pub within : at ≤ length pairs
-  pub roomy : Roomy w o k
+  pub roomy : HasRoom w o k
   pub left : released n x (paired (drop at pairs)) (standing w o k) ≡ released n x (paired pairs) s
 
-pub release-none : (n x : ℕ) (pairs w o : List ℕ) (k : ℕ) → Roomy w o k → ReleasePart n x pairs 0 (standing w o k) w o k
+pub release-none : (n x : ℕ) (pairs w o : List ℕ) (k : ℕ) → HasRoom w o k
+    → ReleasePart n x pairs 0 (standing w o k) w o k
 release-none n x pairs w o k roomy = record { within = omega arith; roomy = roomy; left = refl }
 
 module _ (n x : ℕ) (pairs : List ℕ) (at : ℕ) (s : Kahn) (w o : List ℕ) (k : ℕ) (r : Bool) (more : at + 1 < length pairs)
@@ -307,12 +307,12 @@ queue-end zero n i ps s h = refl
 queue-end (suc most) n i ps s h = rw (le-ltb 0 (length (drop i (s .queue))) (omega (arith, length-drop i (s .queue))))
 
 pub record QueuePart (n : ℕ) (pairs : List ℕ) (i : ℕ) (s : Kahn) (w o : List ℕ) (k : ℕ) : Type 0 where
-  pub roomy : Roomy w o k
+  pub roomy : HasRoom w o k
   pub left :
       queueTaken (CONTOURS - i) n (paired pairs) (firstTaken i (standing w o k))
       ≡ queueTaken CONTOURS n (paired pairs) s
 
-pub queue-none : (n : ℕ) (pairs w o : List ℕ) (k : ℕ) → Roomy w o k → QueuePart n pairs 0 (standing w o k) w o k
+pub queue-none : (n : ℕ) (pairs w o : List ℕ) (k : ℕ) → HasRoom w o k → QueuePart n pairs 0 (standing w o k) w o k
 queue-none n pairs w o k roomy = record { roomy = roomy; left = refl }
 
 pub queue-more : (n : ℕ) (pairs : List ℕ) (i : ℕ) (s : Kahn) (w o : List ℕ) (k x : ℕ) (w' o' : List ℕ) (k' : ℕ) →

@@ -357,8 +357,7 @@ grown-on : (o k l : List ℕ) → Grown o k → Grown k l → Grown o l
 grown-on o k l f g =
     record {
       longer = omega (arith, f .longer, g .longer);
-      kept =
-          λ q h. g .kept q (omega (arith, f .longer)) ∙ f .kept q h;
+      kept = λ q h. g .kept q (omega (arith, f .longer)) ∙ f .kept q h;
     }
 
 record Walked (n : ℕ) (pairs : List ℕ) (done : ℕ → Bool) (x : ℕ) (rest : List Pair) (o : List ℕ)

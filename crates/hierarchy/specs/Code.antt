@@ -24,12 +24,12 @@ abbrev pub firstTaken : ℕ → Kahn → Kahn
 firstTaken i s = record { taken = take i (s .queue); queue = drop i (s .queue); waits = s .waits }
 
 -- the order has room for every position still held back
-pub record Roomy (waits order : List ℕ) (count : ℕ) : Type 0 where
+pub record HasRoom (waits order : List ℕ) (count : ℕ) : Type 0 where
   pub size : length waits ≡ CONTOURS
   pub filled : Filled CONTOURS order count (take count order)
   pub room : count + heldCount waits ≤ CONTOURS
 
 -- the arrays hold this
 pub record Stands (s : Kahn) (waits order : List ℕ) (count : ℕ) : Type 0 where
-  pub roomy : Roomy waits order count
+  pub roomy : HasRoom waits order count
   pub is : standing waits order count ≡ s

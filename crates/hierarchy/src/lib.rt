@@ -17,7 +17,7 @@ ghost use Rattle.keep.specs.Keep.{lastRank, keepsPairs};
 ghost use Rattle.hierarchy.specs.Questions.{pairsCheck, picked, endsAt, startsAt, pairListOf, idsOf, numContours, precedencesOf, violatesOf, predecessorsOf, successorsOf, validSequence, orderOf, topologicalSort};
 ghost use Rattle.hierarchy.specs.Fill.{Filled};
 ghost use Rattle.hierarchy.specs.Sort.{tallied, freeBelow, loosened, released, queueTaken, sortedBy};
-ghost use Rattle.hierarchy.specs.Code.{standing, Roomy, Stands};
+ghost use Rattle.hierarchy.specs.Code.{standing, HasRoom, Stands};
 
 // Yes or no, or why neither.
 pub enum Verdict {
@@ -327,7 +327,7 @@ fn loosen(
     order: &mut [u32; CONTOURS],
     count: usize,
 ) -> usize
-    requires { ⌜ (a < CONTOURS) × Roomy (now waits) (now order) count ⌝ }
+    requires { ⌜ (a < CONTOURS) × HasRoom (now waits) (now order) count ⌝ }
     ensures { λ r. ⌜ Stands (loosened (standing (now (waits .entry)) (now (order .entry)) count) a) (now (waits .exit)) (now (order .exit)) r ⌝ }
 {
     let w = waits[a];
@@ -362,7 +362,7 @@ fn release(
     order: &mut [u32; CONTOURS],
     before: usize,
 ) -> usize
-    requires { ⌜ (n ≤ CONTOURS) × Roomy (now waits) (now order) before ⌝ }
+    requires { ⌜ (n ≤ CONTOURS) × HasRoom (now waits) (now order) before ⌝ }
     ensures { λ r. ⌜ Stands (released n x (paired (now (pairs .entry))) (standing (now (waits .entry)) (now (order .entry)) before)) (now (waits .exit)) (now (order .exit)) r ⌝ }
 {
     let mut count = before;
@@ -386,7 +386,7 @@ fn take_queue(
     order: &mut [u32; CONTOURS],
     free: usize,
 ) -> usize
-    requires { ⌜ (n ≤ CONTOURS) × Roomy (now waits) (now order) free ⌝ }
+    requires { ⌜ (n ≤ CONTOURS) × HasRoom (now waits) (now order) free ⌝ }
     ensures { λ r. ⌜ Filled CONTOURS (now (order .exit)) r ((queueTaken CONTOURS n (paired (now (pairs .entry))) (standing (now (waits .entry)) (now (order .entry)) free)) .taken) ⌝ }
 {
     let mut count = free;

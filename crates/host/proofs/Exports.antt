@@ -84,8 +84,7 @@ coded : Coded
 coded = record {
   good = λ s. (zero-fine s (checkOf s) refl, λ e. ap codeOf e);
   number = code-number;
-  place =
-      code-place;
+  place = code-place;
 }
 
 -- the exported tour is the tour of the question

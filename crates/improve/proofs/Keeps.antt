@@ -144,8 +144,7 @@ keeps-carries chart limit n P keeps = record {
           cost = s .cost;
           better = s .better;
           moves = s .moves;
-          cut =
-              s .cut;
+          cut = s .cut;
         })) (sym (set-getD (s .tour) p 0)) q
 
 -- what every trial keeps, the search keeps

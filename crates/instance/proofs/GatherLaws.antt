@@ -79,8 +79,7 @@ among n c k = go (leb n CONTOURS) (ltb 0 c) (leb c perContourLimit) (leb (n * c)
           below = h;
           contours = leb-true n CONTOURS e;
           wanted = ltb-true 0 c f;
-          fit =
-              leb-true (n * c) candidateLimit g;
+          fit = leb-true (n * c) candidateLimit g;
         }
 
 -- ---- how many candidates
@@ -287,11 +286,9 @@ module _ (held : Instance) (found : Candidates) (k : ℕ) (r : Roomy held found 
       → record {
         items = items;
         owner = owner;
-        first =
-            set (held .first) (k + 1) (held .count + found .count);
+        first = set (held .first) (k + 1) (held .count + found .count);
         contours = k + 1;
-        count =
-            held .count + found .count;
+        count = held .count + found .count;
       } ≡ joined held found k
   unfolding joined
   all-copied j items owner e f g = rw (f, g, e)

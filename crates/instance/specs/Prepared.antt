@@ -37,7 +37,7 @@ pub record Front {A : Type 0} (n : ℕ) (room l : List A) : Type 0 where
   pub whole : n ≡ length (take n room)
   pub within : n ≤ length room
 
--- what was gathered of an accepted card: each part's front is what the search reads
+-- what was gathered of a card, as it is where the card is accepted: each part's front is what the search reads
 pub record HeldOn (s : List ℕ) (all : Instance) : Type 0 where
   pub contours : all .contours ≡ contoursOf s
   pub few-contours : all .contours ≤ CONTOURS
@@ -54,7 +54,7 @@ pub record PreparedOn (s : List ℕ) (p : Prepared) : Type 0 where
   pub homes : Front (p .all .count) (p .homes) (homesOn s)
   pub pairs : Front (p .seats) (p .pairs) (pairsOn s)
 
--- of some accepted card
+-- what was prepared of some such card
 pub record Fit (p : Prepared) : Type 0 where
   pub card : List ℕ
   pub on : PreparedOn card p

@@ -13,22 +13,8 @@ fn wide(x: u8) -> usize
     x as usize
 }
 
-// The last rank of every byte in the order, counted from 1, where the ranks fit into a byte; a byte
-// that is not there keeps what it has.
-fn note_ranks(order: &[u8], ranks: &mut [u8; 256])
-    requires { ⌜ (length (now order) < 256) × (length (now ranks) ≡ 256) ⌝ }
-    ensures { λ r. ⌜ RanksOf (now (order .entry)) (now (ranks .entry)) (now (ranks .exit)) ⌝ }
-{
-    let mut i = 0;
-    while i < order.len() {
-        let x = wide(order[i]);
-        i += 1;
-        ranks[x] = i as u8;
-    }
-}
-
-// The same for an order of any length.
-fn note_long(order: &[u8], ranks: &mut [usize; 256])
+// The last rank of every byte in the order, counted from 1; a byte that is not there keeps what it has.
+fn note_ranks(order: &[u8], ranks: &mut [usize; 256])
     requires { ⌜ length (now ranks) ≡ 256 ⌝ }
     ensures { λ r. ⌜ RanksOf (now (order .entry)) (now (ranks .entry)) (now (ranks .exit)) ⌝ }
 {
@@ -50,41 +36,12 @@ pub fn kept_at(b: usize, a: usize) -> bool
     b < a
 }
 
-// The same for ranks that fit into a byte.
-fn kept_by(first: u8, second: u8) -> bool
-    ensures { λ r. ⌜ r ≡ keptAt first second ⌝ }
-{
-    if second == 0 {
-        return true;
-    }
-    first < second
-}
-
-// Whether an order of fewer than 256 entries keeps to pairs: the table of ranks is small.
-fn keeps_short(order: &[u8], pairs: &[u8]) -> bool
-    requires { ⌜ length (now order) < 256 ⌝ }
-    ensures { λ r. ⌜ r ≡ keepsPairs (now (order .entry)) (now (pairs .entry)) ⌝ }
-{
-    let mut ranks = [0u8; 256];
-    note_ranks(order, &mut ranks);
-    let mut at = 0;
-    while at + 1 < pairs.len() {
-        let b = wide(pairs[at]);
-        let a = wide(pairs[at + 1]);
-        if !kept_by(ranks[b], ranks[a]) {
-            return false;
-        }
-        at += 2;
-    }
-    true
-}
-
-// Whether an order of any length keeps to pairs.
-fn keeps_long(order: &[u8], pairs: &[u8]) -> bool
+// Whether an order of positions keeps to pairs of positions, going by last ranks.
+pub fn keeps_pairs(order: &[u8], pairs: &[u8]) -> bool
     ensures { λ r. ⌜ r ≡ keepsPairs (now (order .entry)) (now (pairs .entry)) ⌝ }
 {
     let mut ranks = [0usize; 256];
-    note_long(order, &mut ranks);
+    note_ranks(order, &mut ranks);
     let mut at = 0;
     while at + 1 < pairs.len() {
         let b = wide(pairs[at]);
@@ -95,16 +52,6 @@ fn keeps_long(order: &[u8], pairs: &[u8]) -> bool
         at += 2;
     }
     true
-}
-
-// Whether an order of positions keeps to pairs of positions, going by last ranks.
-pub fn keeps_pairs(order: &[u8], pairs: &[u8]) -> bool
-    ensures { λ r. ⌜ r ≡ keepsPairs (now (order .entry)) (now (pairs .entry)) ⌝ }
-{
-    if order.len() < 256 {
-        return keeps_short(order, pairs);
-    }
-    keeps_long(order, pairs)
 }
 
 // The flag at a position; 0 past the end.

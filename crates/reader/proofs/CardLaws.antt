@@ -77,7 +77,8 @@ vertices-walked s k j (suc v) place cut =
     let two : 2 * suc v ≡ suc (suc (2 * v)) = omega arith in
     let cut′ : mid ≡ min (vertexOffset k j + 8) (length s) = omega arith in
     let x : u64At s place ≡ u64At s (vertexOffset k j) = ap (u64At s) cut ∙ cut-value s (vertexOffset k j) Eight in
-    let y : u64At s mid ≡ u64At s (vertexOffset k j + 8) = ap (u64At s) cut′ ∙ cut-value s (vertexOffset k j + 8) Eight in
+    let y : u64At s mid ≡ u64At s (vertexOffset k j + 8) =
+    ap (u64At s) cut′ ∙ cut-value s (vertexOffset k j + 8) Eight in
     let on = vertices-walked s k (suc j) v (min (mid + 8) (length s)) (omega arith) in
     rw (two, x, y, on)
 
@@ -130,7 +131,8 @@ module _ (s : List ℕ) (k place count : ℕ) (head : ContourHead) (coordinates 
       ap (λ (h : ContourHead). h .kind) e ∙ ap (λ (a : ℕ). byteAt s (a + 10)) cut ∙ cut-byte s p 10 in
       let filler : head .filler ≡ fillerOf s k =
       ap (λ (h : ContourHead). h .filler) e ∙ ap (λ (a : ℕ). byteAt s (a + 11)) cut ∙ cut-byte s p 11 in
-      let after : head .after ≡ min (vertexOffset k 0) (length s) = ap (λ (h : ContourHead). h .after) e ∙ omega arith in
+      let after : head .after ≡ min (vertexOffset k 0) (length s) =
+      ap (λ (h : ContourHead). h .after) e ∙ omega arith in
       let v = min (vertexCountOf s k) vertexLimit in
       let all : coordinates ≡ filled (coordinatesFrom s k 0 v) =
       f ∙ ap (λ (c : ℕ). filled (walk s (head .after) (eights c))) (n ∙ ap (λ (c : ℕ). 2 * min c vertexLimit) vertices)

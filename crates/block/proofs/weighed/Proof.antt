@@ -4,12 +4,12 @@ use Prim.Native.Nat.{_≤_, _*_, _-_}
 use native.Mathlib.Omega.{arith}
 use lib.ListN.{length, take}
 use Rattle.block.proofs.BlockLaws.{weigh-all, weigh-step, weight-bound}
-use Rattle.block.specs.Block.{checkPlace, weigh}
+use Rattle.block.specs.Block.{checkOffset, weigh}
 use Rattle.block.proofs.weighed.Statement.{statement}
 use Rattle.block.proofs.weighed.Tie as tie
 
 abbrev Inv-loop : tie.InvT-loop
-Inv-loop t sum₀ p₀ sum p = (p ≤ length t) × (sum ≡ weigh 1 (take p t)) × (sum ≤ checkPlace * 255 * p)
+Inv-loop t sum₀ p₀ sum p = (p ≤ length t) × (sum ≡ weigh 1 (take p t)) × (sum ≤ checkOffset * 255 * p)
 
 abbrev μ-loop : tie.MeasureT-loop
 μ-loop t sum₀ p₀ sum p = length t - p

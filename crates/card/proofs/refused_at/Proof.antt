@@ -7,4 +7,5 @@ returns : tie.Need-returns
 returns c = rw (c .before .before .f .given .1) (c .refused .ensures)
 
 pub refused-at-spec : {M : Type 1} → statement M
-refused-at-spec = tie.close (tie.spec (λ c. search needs) (λ c κs. search needs) (λ c. search needs) returns (λ c. search needs))
+refused-at-spec =
+    tie.close (tie.spec (λ c. search needs) (λ c κs. search needs) (λ c. search needs) returns (λ c. search needs))

@@ -24,4 +24,5 @@ returns c = rows-joined _ _ _ _ _ (c .loop-test .left) (c .before .loop .inv)
 pub join-rows-spec : {M : Type 1} → statement M
 join-rows-spec =
     tie.close
-    (tie.spec Inv-loop μ-loop loop-holds (λ c κs. search needs) (λ c. search needs) (λ c. search needs) loop-again returns)
+    (tie.spec Inv-loop μ-loop loop-holds (λ c κs. search needs) (λ c. search needs) (λ c. search needs) loop-again
+    returns)

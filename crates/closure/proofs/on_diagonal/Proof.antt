@@ -24,8 +24,7 @@ returns c =
     sym (at-is _ _ _ (record {
       within = search needs;
       holds = c .if1 .taken;
-      before =
-          c .before .before .before .loop .inv .1;
+      before = c .before .before .before .loop .inv .1;
     }))
 
 loop-again : tie.Need-loop-again Inv-loop μ-loop

@@ -13,7 +13,7 @@ abbrev μ-loop : tie.MeasureT-loop
 μ-loop order ranks₀ i₀ ranks i = length order - i
 
 loop-holds : tie.Need-loop-holds Inv-loop μ-loop
-loop-holds c = ranks-none _ _ (c .before .pre .1)
+loop-holds c = ranks-none _ _ (c .before .pre)
 
 loop-again : tie.Need-loop-again Inv-loop μ-loop
 loop-again c = ranks-more _ _ _ _ _ (c .wide .ensures .0) (c .wide .ensures .1) (c .before .before .loop-test .taken)

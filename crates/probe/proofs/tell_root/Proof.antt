@@ -8,4 +8,5 @@ returns-2 : tie.Need-returns-2
 returns-2 c = rw (c .before .before .a2 .given .1) (c .code .ensures, refl)
 
 pub tell-root-spec : {M : Type 1} → statement M
-tell-root-spec = tie.close (tie.spec (λ c. search needs) (λ c. search needs) (λ c κs. search needs) (λ c. search needs) returns-2)
+tell-root-spec =
+    tie.close (tie.spec (λ c. search needs) (λ c. search needs) (λ c κs. search needs) (λ c. search needs) returns-2)

@@ -11,4 +11,5 @@ returns-3 c = rw (c .before .before .a2 .given .1) (c .code .ensures)
 
 pub tell-verdict-spec : {M : Type 1} → statement M
 tell-verdict-spec =
-    tie.close (tie.spec (λ c. search needs) returns (λ c. search needs) (λ c κs. search needs) (λ c. search needs) returns-3)
+    tie.close (tie.spec (λ c. search needs) returns (λ c. search needs) (λ c κs. search needs) (λ c. search needs)
+    returns-3)

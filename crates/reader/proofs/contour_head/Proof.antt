@@ -355,16 +355,14 @@ module _ {M : Type 1} (𝓤 : URA M) (H : Heap 𝓤) (A : Atoms 𝓤) (W : Given
           tag = f₁ .value;
           vertices = f₂ .value;
           kind = f₃ .value;
-          filler =
-              f₄ .value;
+          filler = f₄ .value;
           after = f₄ .after;
         })
         (LL.owes S.the-type S′.the-laws (record {
           id = f₀ .value;
           tag = f₁ .value;
           vertices = f₂ .value;
-          kind =
-              f₃ .value;
+          kind = f₃ .value;
           filler = f₄ .value;
           after = f₄ .after;
         }) (

@@ -563,27 +563,23 @@ module _ {M : Type 1} (𝓤 : URA M) (H : Heap 𝓤) (A : Atoms 𝓤) (W : Given
           job = f₀ .value;
           contours = f₁ .value;
           pairs = f₂ .value;
-          candidates =
-              f₃ .value;
+          candidates = f₃ .value;
           passes = f₄ .value;
           moves = f₅ .value;
           x = f₆ .value;
           y = f₇ .value;
-          exterior =
-              f₈ .value;
+          exterior = f₈ .value;
           interior = f₉ .value;
         })
         (LL.owes S.the-type S′.the-laws (record {
           job = f₀ .value;
           contours = f₁ .value;
-          pairs =
-              f₂ .value;
+          pairs = f₂ .value;
           candidates = f₃ .value;
           passes = f₄ .value;
           moves = f₅ .value;
           x = f₆ .value;
-          y =
-              f₇ .value;
+          y = f₇ .value;
           exterior = f₈ .value;
           interior = f₉ .value;
         }) (

@@ -9,8 +9,7 @@ use Rattle.root.proofs.share.Tie as tie
 mul-result : tie.Need-mul-result
 mul-result c =
     record {
-      fits =
-          lt-of-le-of-lt (mul-le-mul {n₂ = 2 ^ 24} {m₂ = 2 ^ 23} (c .pre .0) (le-of-lt (c .pre .1))) (lit< tt);
+      fits = lt-of-le-of-lt (mul-le-mul {n₂ = 2 ^ 24} {m₂ = 2 ^ 23} (c .pre .0) (le-of-lt (c .pre .1))) (lit< tt);
     }
 
 returns : tie.Need-returns

@@ -16,4 +16,5 @@ returns c = sym (whole-unique _ _ (c .before .if1 .taken) (omega arith))
 
 pub whole-root-spec : {M : Type 1} → statement M
 whole-root-spec =
-    tie.close (tie.spec (λ c κs. search needs) mul-square (λ c. search needs) returns (λ c κs. search needs) (λ c. search needs))
+    tie.close (tie.spec (λ c κs. search needs) mul-square (λ c. search needs) returns (λ c κs. search needs)
+    (λ c. search needs))

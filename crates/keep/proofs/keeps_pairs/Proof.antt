@@ -1,4 +1,4 @@
--- `keep::keeps_long` meets its contract. Assumes nothing.
+-- `keep::keeps_pairs` meets its contract. Assumes nothing.
 use Prim.Native.Nat.{_-_}
 use lib.ListN.{length}
 use borrow.Author.Needs.{needs}
@@ -6,8 +6,8 @@ use borrow.Author.Tests.{not-true, not-false}
 use Rattle.closure.proofs.PairLaws.{EveryPart, every-none}
 use Rattle.keep.specs.Keep.{keptIn}
 use Rattle.keep.proofs.RankLaws.{table-rank, pair-kept, pair-broken, pairs-kept}
-use Rattle.keep.proofs.keeps_long.Statement.{statement}
-use Rattle.keep.proofs.keeps_long.Tie as tie
+use Rattle.keep.proofs.keeps_pairs.Statement.{statement}
+use Rattle.keep.proofs.keeps_pairs.Tie as tie
 
 abbrev Inv-loop : tie.InvT-loop
 Inv-loop order pairs ranks at₀ at = EveryPart (keptIn order) pairs at
@@ -23,7 +23,7 @@ returns c =
     let h = c .before .before .before .before .before .before in
     let w = c .before .before .before .before .wide .ensures in
     let v = c .before .before .wide2 .ensures in
-    let table = h .before .before .note-long .ensures in
+    let table = h .before .before .note-ranks .ensures in
     pair-broken _ _ _ _ _ _ (table-rank _ _ _ _ table (w .0) (w .1)) (table-rank _ _ _ _ table (v .0) (v .1))
     (h .loop-test .taken) (h .before .loop .inv) (c .before .kept-at .ensures) (not-true _ (c .if1 .taken))
 
@@ -32,15 +32,15 @@ loop-again c =
     let h = c .before .before .before .before .before .before in
     let w = c .before .before .before .before .wide .ensures in
     let v = c .before .before .wide2 .ensures in
-    let table = h .before .before .note-long .ensures in
+    let table = h .before .before .note-ranks .ensures in
     pair-kept _ _ _ _ _ _ (table-rank _ _ _ _ table (w .0) (w .1)) (table-rank _ _ _ _ table (v .0) (v .1))
     (h .loop-test .taken) (h .before .loop .inv) (c .before .kept-at .ensures) (not-false _ (c .if1 .left))
 
 returns-2 : tie.Need-returns-2 Inv-loop μ-loop
 returns-2 c = pairs-kept _ _ _ (c .loop-test .left) (c .before .loop .inv)
 
-pub keeps-long-spec : {M : Type 1} → statement M
-keeps-long-spec =
+pub keeps-pairs-spec : {M : Type 1} → statement M
+keeps-pairs-spec =
     tie.close
     (tie.spec
     Inv-loop
