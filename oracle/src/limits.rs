@@ -1,19 +1,10 @@
-//! A card's limits, and where its fields stand, for all that makes cards, damages them and asks about them. What follows
-//! from other numbers is computed from them. The second reading (reading.rs) has its own.
+//! A card's limits, which are the Rust host's, and where its fields stand, for all that makes cards, damages them and asks
+//! about them. The second reading (reading.rs) has its own.
 
-/// The most contours of a card, and its most pairs.
-pub const CONTOURS: usize = 40;
-pub const PAIRS: usize = 124;
+pub use jambolive::{BLOCK, CANDIDATES, CARD_BYTES, CONTOURS, PAIRS, PAIRS_A_BLOCK, PER_CONTOUR, VERTICES};
 
-/// The most candidates of one contour, and of all of them.
-pub const PER_CONTOUR: usize = 8;
-pub const CANDIDATES: usize = 80;
-
-/// The most passes of a search.
-pub const PASSES: u16 = 1000;
-
-/// The most vertices of a contour.
-pub const VERTICES: usize = 30;
+/// The most passes of a search, as the card holds them.
+pub const PASSES: u16 = jambolive::PASSES as u16;
 
 /// The largest size of a coordinate.
 pub const REACH: f64 = 1_048_576.0;
@@ -24,19 +15,13 @@ pub const AUTO: u8 = 2;
 /// The most pierces that `sequence_cost` counts.
 pub const PIERCES: usize = 1000;
 
-/// The bytes of a block; where its payload begins and ends: there stands its check.
-pub const BLOCK: usize = 512;
+/// Where a block's payload begins and ends: there stands its check.
 pub const PAYLOAD_AT: usize = 8;
 pub const CHECK_AT: usize = 508;
 
-/// The bytes of a vertex and of a pair, and the pairs that a block takes.
+/// The bytes of a vertex and of a pair.
 pub const VERTEX: usize = 16;
 pub const PAIR: usize = 16;
-pub const PAIRS_A_BLOCK: usize = 31;
-
-/// The most blocks of a card: the head, its contours and its pairs; and so its most bytes.
-pub const BLOCKS: usize = 1 + CONTOURS + PAIRS.div_ceil(PAIRS_A_BLOCK);
-pub const CARD_BYTES: usize = BLOCKS * BLOCK;
 
 /// Where fields of the head stand in its block.
 pub mod head {
@@ -59,13 +44,4 @@ pub mod contour {
 /// The most candidates of each of n contours, where only those of all of them are limited.
 pub fn shared(n: usize) -> usize {
     CANDIDATES / n.max(1)
-}
-
-/// The Rust host's limits are these.
-#[test]
-fn the_host_has_the_same() {
-    assert_eq!([jambolive::CONTOURS, jambolive::PAIRS], [CONTOURS, PAIRS]);
-    assert_eq!([jambolive::PER_CONTOUR, jambolive::CANDIDATES], [PER_CONTOUR, CANDIDATES]);
-    assert_eq!([jambolive::PASSES, jambolive::VERTICES], [usize::from(PASSES), VERTICES]);
-    assert_eq!([jambolive::BLOCKS, jambolive::CARD_BYTES], [BLOCKS, CARD_BYTES]);
 }

@@ -279,3 +279,13 @@ pub fn card(bytes: &[u8]) -> Result<Card, Refusal> {
         pairs: (0..file.m).map(pair).collect(),
     })
 }
+
+/// The Rust host's limits are those that this reading takes from the paper.
+#[test]
+fn the_host_has_the_same() {
+    assert_eq!([jambolive::CONTOURS, jambolive::PAIRS], [CONTOURS, PAIRS]);
+    assert_eq!([jambolive::PER_CONTOUR, jambolive::CANDIDATES], [PER_CONTOUR, CANDIDATES]);
+    assert_eq!([jambolive::PASSES, jambolive::VERTICES], [PASSES, VERTICES]);
+    assert_eq!([jambolive::BLOCKS * BLOCK, jambolive::CARD_BYTES], [LONGEST, LONGEST]);
+    assert_eq!([jambolive::BLOCK, jambolive::PAIRS_A_BLOCK], [BLOCK, PAIRS_A_BLOCK]);
+}
