@@ -2,7 +2,12 @@
  *
  * A card is any `bytes` bytes at `card`. Every call answers one number: 0, or why it refuses, as the refusal's
  * number times 2^32 plus its place; docs/CARD.md says what each number and place means. Nothing that is lent is kept,
- * and what a comment does not name stays as it was; after a refusal that is everything. The lent parts may not overlap. */
+ * and what a comment does not name stays as it was; after a refusal that is everything. The lent parts may not overlap.
+ *
+ * Calls may run side by side: the library has no memory of its own.
+ * A call takes less than JL_STACK_BYTES of stack.
+ * It asks for memcpy, memset and fmod of the C library (-lm), and is right if they are.
+ * No bytes and no room need no address: NULL with 0 behind it will do. */
 #ifndef JAMBOLIVE_H
 #define JAMBOLIVE_H
 
@@ -16,6 +21,9 @@ extern "C" {
 /* The most contours of a card, so the most entries of a tour; its most pairs. */
 #define JL_CONTOURS 40
 #define JL_PAIRS 124
+
+/* The stack that a call takes at most, in bytes (hosts/c/stack.c measures it). */
+#define JL_STACK_BYTES 98304
 
 /* The bytes of a block, and the pairs that one takes. */
 #define JL_BLOCK 512

@@ -1,6 +1,7 @@
 #!/bin/sh
 # Builds list.c over the archive. What it prints, and what the program cutlist prints where it is built, is held against the
-# list of each example card, and against the refusal of no bytes and of more than any card has.
+# list of each example card, and against the refusal of no bytes and of more than any card has. Then stack.c, over the cards
+# of the fixed list.
 set -eu
 
 cd "$(dirname "$0")/../.."
@@ -8,6 +9,8 @@ command -v cc >/dev/null || { echo 'C host: left out, no cc on this machine'; ex
 list=target/staticlib/list
 # -lm: the remainder of two floats is the C library's fmod
 cc -std=c11 -O2 -Wall -Wextra -Werror -pedantic -o "$list" hosts/c/list.c target/staticlib/libhost.a -lm
+stack=target/staticlib/stack
+cc -std=gnu11 -O2 -Wall -Wextra -Werror -pedantic -pthread -o "$stack" hosts/c/stack.c target/staticlib/libhost.a -lm
 
 prints() { # WORDS..: the program, run on every input
     cards=0
@@ -25,6 +28,7 @@ prints() { # WORDS..: the program, run on every input
 over=$(($(echo 'JL_CARD_BYTES + 1' | cc -E -P -xc -include hosts/c/jambolive.h - | tail -n 1)))
 prints "$list"
 echo "C host: $cards cards print their lists, no bytes and a million are refused"
+"$stack" <crates/replay/data/cards
 if [ -x target/bin/cutlist ]; then
     prints hosts/native/run.sh cutlist
     echo "cutlist: $cards cards print their lists, no bytes and a million are refused"

@@ -1,0 +1,80 @@
+/* What the header says of a call's surroundings: how much stack it takes, over cards that each stand behind their length in four
+ * bytes on standard input, each asked about in a thread whose stack was painted; and that no card needs no address. */
+#include "jambolive.h"
+
+#include <pthread.h>
+#include <stdio.h>
+#include <stdlib.h>
+#include <string.h>
+
+#define CALLS 3
+#define SPACE (1 << 20)
+#define PAINT 0xa5
+
+static uint8_t card[JL_CARD_BYTES + 1];
+static size_t bytes;
+static int call;
+static uintptr_t top;
+
+static void *ask(void *tour)
+{
+    uint64_t a = 0, b = 0;
+    top = (uintptr_t)&a;
+    if (call == 0)
+        jl_check(card, bytes);
+    else if (call == 1)
+        jl_tour(card, bytes, tour, JL_CONTOURS, &a, &b);
+    else
+        jl_place(card, bytes, 0, &a, &b);
+    return NULL;
+}
+
+/* what the call touches below its caller's numbers */
+static size_t taken(uint8_t *space)
+{
+    static uint8_t tour[JL_CONTOURS];
+    pthread_attr_t with;
+    pthread_t thread;
+    memset(space, PAINT, SPACE);
+    if (pthread_attr_init(&with) || pthread_attr_setstack(&with, space, SPACE)
+        || pthread_create(&thread, &with, ask, tour) || pthread_join(thread, NULL)) {
+        fputs("no thread\n", stderr);
+        exit(2);
+    }
+    pthread_attr_destroy(&with);
+    size_t low = 0;
+    while (low < SPACE && space[low] == PAINT)
+        low++;
+    return top - (uintptr_t)(space + low);
+}
+
+int main(void)
+{
+    static const char *const calls[CALLS] = {"jl_check", "jl_tour", "jl_place"};
+    size_t most[CALLS] = {0};
+    uint8_t length[4], *space = aligned_alloc(1 << 16, SPACE);
+    int cards = 0;
+    for (; space && fread(length, 1, 4, stdin) == 4; cards++) {
+        bytes = length[0] | (size_t)length[1] << 8 | (size_t)length[2] << 16 | (size_t)length[3] << 24;
+        if (bytes > sizeof card || fread(card, 1, bytes, stdin) != bytes)
+            return 2;
+        for (call = 0; call < CALLS; call++) {
+            size_t now = taken(space);
+            most[call] = now > most[call] ? now : most[call];
+        }
+    }
+    free(space);
+
+    uint64_t a = 5, b = 7, empty = (uint64_t)1 << 32;
+    int kept = jl_check(NULL, 0) == empty && jl_tour(NULL, 0, NULL, 0, &a, &b) == empty
+        && jl_place(NULL, 0, 0, &a, &b) == empty && a == 5 && b == 7;
+
+    printf("C host: stack over %d cards:", cards);
+    int fits = cards > 0;
+    for (call = 0; call < CALLS; call++) {
+        printf(" %s %zu", calls[call], most[call]);
+        fits = fits && most[call] <= JL_STACK_BYTES;
+    }
+    printf(" bytes of %d; no card without an address: %s\n", JL_STACK_BYTES, kept ? "refused" : "NOT AS DUE");
+    return fits && kept ? 0 : 1;
+}
