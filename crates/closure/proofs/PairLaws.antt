@@ -17,6 +17,12 @@ use Rattle.closure.specs.Pairs.{Pair, paired, every, someOf, isPair}
 pub same-or : (a b : ℕ) → (a ≡ b) ⊎ (a ≡ b → ⊥)
 same-or a b = elim (ℕ-discrete a b) [ yes p ↦ inl p | no q ↦ inr q ]
 
+-- two numbers are equal to two others, or not both
+pub both-or : (a b c d : ℕ) → ((a ≡ c) × (b ≡ d)) ⊎ (a ≡ c → b ≡ d → ⊥)
+both-or a b c d = ⊎-elim
+    (λ (p : a ≡ c). ⊎-elim (λ (q : b ≡ d). inl (p, q)) (λ (q : b ≡ d → ⊥). inr (λ _ e. q e)) (same-or b d))
+    (λ (p : a ≡ c → ⊥). inr (λ e _. p e)) (same-or a c)
+
 -- one is below the other or not
 pub lt-or : (a b : ℕ) → (a < b) ⊎ (b ≤ a)
 lt-or a b = elim (decLt a b) [ yes p ↦ inl p | no q ↦ inr (omega arith) ]

@@ -4,7 +4,7 @@ use mathlib.Core.Bool.{Bool, true, false, _&&_, _||_}
 use mathlib.Core.Path.{_≡_, refl, sym, ap, _∙_}
 use mathlib.Core.Logic.{_⊎_, inl, inr, ⊎-elim, _↔_}
 use mathlib.Core.List.{List, [], _∷_}
-use Prim.Native.Nat.{ℕ, zero, suc, _*_, _≤_, _<_}
+use Prim.Native.Nat.{ℕ, zero, suc, _≤_, _<_}
 use native.Mathlib.Nat.{eq-or-lt-of-le, le-of-suc-le-suc, not-suc-le-zero}
 use native.Mathlib.Omega.{arith}
 use lib.Dec.{eqb, ltb}
@@ -12,10 +12,9 @@ use borrow.Author.Tests.{eqb-true, ltb-true}
 use Rattle.answer.specs.declared.Found.{Found}
 use Rattle.answer.specs.Lowest.{lowest}
 use Rattle.answer.proofs.LowestLaws.{absent-is, is-absent}
-use lib.ListN.{replicate}
 use Rattle.closure.specs.Limits.{CONTOURS}
 use Rattle.closure.specs.Flags.{flag, Noted, Says}
-use Rattle.closure.proofs.FlagLaws.{closed-leads, linked-is}
+use Rattle.closure.proofs.FlagLaws.{unset, closed-leads, linked-is}
 use Rattle.closure.specs.Pairs.{Pair, paired, every, someOf, isPair}
 use Rattle.closure.proofs.PairLaws.{is-pair}
 use Rattle.closure.specs.Cycle.{linked, Reaches, step, onward, leads, onCycle, Acyclic}
@@ -174,8 +173,8 @@ absent-exactly n pairs = (
 )
 
 -- in the closed table the flag of i and j says yes exactly where pairs lead from i to j
-pub flags-exactly : (n : ℕ) (pairs : List ℕ) (f g : List Bool) → n ≤ CONTOURS
-    → Noted n pairs (replicate (CONTOURS * CONTOURS) false) f → Says n (leads (flag f) n) g →
+pub flags-exactly : (n : ℕ) (pairs : List ℕ) (f g : List (List Bool)) → n ≤ CONTOURS
+    → Noted n (paired pairs) unset f → Says n (leads (flag f) n) g →
     (i j : ℕ) → i < n → j < n → (flag g i j ≡ true) ↔ Reaches (linked n pairs) i j
 flags-exactly n pairs f g small noted says i j h l =
     let e : flag g i j ≡ leads (linked n pairs) n i j = closed-leads n pairs f g small noted says i j h l in (

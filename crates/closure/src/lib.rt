@@ -2,10 +2,12 @@
 // reachability, and the lowest position on a cycle read off the diagonal.
 use answer::Found;
 ghost use mathlib.Core.Bool.{true};
+ghost use mathlib.Core.List.{[], _∷_};
 ghost use mathlib.Core.Path.{_≡_};
 ghost use Prim.Native.Nat.{_<_, _≤_, min};
 ghost use Rattle.answer.specs.Lowest.{lowest};
 ghost use Rattle.closure.specs.Limits.{CONTOURS};
+ghost use Rattle.closure.specs.Pairs.{paired};
 ghost use Rattle.closure.specs.Cycle.{leads, firstOnCycle};
 ghost use Rattle.closure.specs.Flags.{flag, Whole, RowJoined, RowsJoined, Noted, Says};
 
@@ -15,25 +17,22 @@ pub const CONTOURS: usize = 40;
 // The most pairs that it takes.
 pub const PAIRS: usize = 124;
 
-// One flag for each ordered pair of contours.
-const CELLS: usize = CONTOURS * CONTOURS;
-
 // Where i leads to k, all that k leads to is added to what i leads to.
-fn join_row(flags: &mut [bool; CELLS], n: usize, k: usize, i: usize)
+fn join_row(flags: &mut [[bool; CONTOURS]; CONTOURS], n: usize, k: usize, i: usize)
     requires { ⌜ (n ≤ CONTOURS) × (k < n) × (i < n) × Whole (now flags) ⌝ }
     ensures { λ r. ⌜ RowJoined n k i (now (flags .entry)) (now (flags .exit)) ⌝ }
 {
-    if flags[i * CONTOURS + k] {
+    if flags[i][k] {
         let mut j = 0;
         while j < n {
-            flags[i * CONTOURS + j] = flags[i * CONTOURS + j] | flags[k * CONTOURS + j];
+            flags[i][j] = flags[i][j] | flags[k][j];
             j += 1;
         }
     }
 }
 
 // The same for every row: what i reaches by way of k is added for each i.
-fn join_rows(flags: &mut [bool; CELLS], n: usize, k: usize)
+fn join_rows(flags: &mut [[bool; CONTOURS]; CONTOURS], n: usize, k: usize)
     requires { ⌜ (n ≤ CONTOURS) × (k < n) × Whole (now flags) ⌝ }
     ensures { λ r. ⌜ RowsJoined n k (now (flags .entry)) (now (flags .exit)) ⌝ }
 {
@@ -45,7 +44,7 @@ fn join_rows(flags: &mut [bool; CELLS], n: usize, k: usize)
 }
 
 // The flags closed under reachability: yes exactly where links lead from one to the other.
-fn close(flags: &mut [bool; CELLS], n: usize)
+fn close(flags: &mut [[bool; CONTOURS]; CONTOURS], n: usize)
     requires { ⌜ (n ≤ CONTOURS) × Whole (now flags) ⌝ }
     ensures { λ r. ⌜ Says n (leads (flag (now (flags .entry))) n) (now (flags .exit)) ⌝ }
 {
@@ -57,18 +56,30 @@ fn close(flags: &mut [bool; CELLS], n: usize)
 }
 
 // The lowest position whose flag for itself is set.
-fn on_diagonal(flags: &[bool; CELLS], n: usize) -> Found
+fn on_diagonal(flags: &[[bool; CONTOURS]; CONTOURS], n: usize) -> Found
     requires { ⌜ n ≤ CONTOURS ⌝ }
     ensures { λ r. ⌜ r ≡ lowest (λ i. flag (now (flags .entry)) i i) n ⌝ }
 {
     let mut k = 0;
     while k < n {
-        if flags[k * CONTOURS + k] {
+        if flags[k][k] {
             return Found::At(k);
         }
         k += 1;
     }
     Found::Absent
+}
+
+// The flag of one pair, where its two positions are below n.
+fn note(before: usize, after: usize, n: usize, flags: &mut [[bool; CONTOURS]; CONTOURS])
+    requires { ⌜ (n ≤ CONTOURS) × Whole (now flags) ⌝ }
+    ensures { λ r. ⌜ Noted n (record { before = before; after = after } ∷ []) (now (flags .entry)) (now (flags .exit)) ⌝ }
+{
+    if before < n {
+        if after < n {
+            flags[before][after] = true;
+        }
+    }
 }
 
 // A byte as an index.
@@ -79,20 +90,14 @@ fn wide(x: u8) -> usize
 }
 
 // The flag of each pair whose two positions are below n.
-fn note_pairs(pairs: &[u8], n: usize, flags: &mut [bool; CELLS])
+fn note_pairs(pairs: &[u8], n: usize, flags: &mut [[bool; CONTOURS]; CONTOURS])
     requires { ⌜ (n ≤ CONTOURS) × Whole (now flags) ⌝ }
-    ensures { λ r. ⌜ Noted n (now (pairs .entry)) (now (flags .entry)) (now (flags .exit)) ⌝ }
+    ensures { λ r. ⌜ Noted n (paired (now (pairs .entry))) (now (flags .entry)) (now (flags .exit)) ⌝ }
 {
     let mut at = 0;
     while at + 1 < pairs.len() {
-        let b = wide(pairs[at]);
-        let a = wide(pairs[at + 1]);
+        note(wide(pairs[at]), wide(pairs[at + 1]), n, flags);
         at += 2;
-        if b < n {
-            if a < n {
-                flags[b * CONTOURS + a] = true;
-            }
-        }
     }
 }
 
@@ -104,20 +109,14 @@ fn wide32(x: u32) -> usize
 }
 
 // As note_pairs, for numbers of 32 bits.
-fn note_wide(pairs: &[u32], n: usize, flags: &mut [bool; CELLS])
+fn note_wide(pairs: &[u32], n: usize, flags: &mut [[bool; CONTOURS]; CONTOURS])
     requires { ⌜ (n ≤ CONTOURS) × Whole (now flags) ⌝ }
-    ensures { λ r. ⌜ Noted n (now (pairs .entry)) (now (flags .entry)) (now (flags .exit)) ⌝ }
+    ensures { λ r. ⌜ Noted n (paired (now (pairs .entry))) (now (flags .entry)) (now (flags .exit)) ⌝ }
 {
     let mut at = 0;
     while at + 1 < pairs.len() {
-        let b = wide32(pairs[at]);
-        let a = wide32(pairs[at + 1]);
+        note(wide32(pairs[at]), wide32(pairs[at + 1]), n, flags);
         at += 2;
-        if b < n {
-            if a < n {
-                flags[b * CONTOURS + a] = true;
-            }
-        }
     }
 }
 
@@ -136,7 +135,7 @@ pub fn first_on_cycle(contours: usize, pairs: &[u8]) -> Found
     ensures { λ r. ⌜ r ≡ firstOnCycle contours (now (pairs .entry)) ⌝ }
 {
     let n = capped(contours);
-    let mut flags = [false; CELLS];
+    let mut flags = [[false; CONTOURS]; CONTOURS];
     note_pairs(pairs, n, &mut flags);
     close(&mut flags, n);
     on_diagonal(&flags, n)
@@ -147,7 +146,7 @@ pub fn first_on_cycle_wide(contours: usize, pairs: &[u32]) -> Found
     ensures { λ r. ⌜ r ≡ firstOnCycle contours (now (pairs .entry)) ⌝ }
 {
     let n = capped(contours);
-    let mut flags = [false; CELLS];
+    let mut flags = [[false; CONTOURS]; CONTOURS];
     note_wide(pairs, n, &mut flags);
     close(&mut flags, n);
     on_diagonal(&flags, n)

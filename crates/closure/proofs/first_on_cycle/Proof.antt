@@ -1,6 +1,6 @@
 -- `closure::first_on_cycle` meets its contract. Assumes nothing.
 use mathlib.Core.Path.{_∙_}
-use Rattle.closure.proofs.FlagLaws.{diagonal-capped}
+use Rattle.closure.proofs.FlagLaws.{unset-whole, diagonal-capped}
 use borrow.Author.Needs.{needs}
 use Rattle.closure.proofs.first_on_cycle.Statement.{statement}
 use Rattle.closure.proofs.first_on_cycle.Tie as tie
@@ -14,4 +14,5 @@ returns c =
 pub first-on-cycle-spec : {M : Type 1} → statement M
 first-on-cycle-spec =
     tie.close
-    (tie.spec (λ c κs. search needs) (λ c κs. search needs) (λ c κs. search needs) (λ c κs. search needs) returns)
+    (tie.spec (λ c κs. search needs) (λ c κs. (search needs, unset-whole)) (λ c κs. search needs) (λ c κs. search needs)
+    returns)
