@@ -1,5 +1,5 @@
 -- Counting positions: a descent ends, and n different positions below n are all of them. Assumes nothing.
-use mathlib.Core.Bool.{Bool, true, false, cond, _&&_, _||_}
+use mathlib.Core.Bool.{Bool, true, false, cond, _&&_, _||_, true≢false}
 use mathlib.Core.Path.{_≡_, refl, sym, ap, _∙_}
 use mathlib.Core.Logic.{_⊎_, inl, inr, ⊎-elim}
 use mathlib.Core.List.{List}
@@ -123,7 +123,7 @@ any-is test (suc m) p h t = go (eq-or-lt-of-le (le-of-suc-le-suc h)) (any-is tes
 
 pub any-at : (test : ℕ → Bool) (m : ℕ) → anyBelow test m ≡ true → (p : ℕ) × (p < m) × (test p ≡ true)
 unfolding anyBelow
-any-at test zero e = let z : _≡_ {A = ℕ} 0 1 = cc in absurd (omega arith)
+any-at test zero e = absurd (true≢false (sym e))
 any-at test (suc m) e = go (or-cases (anyBelow test m) (test m) e) (any-at test m)
   where
     go : (anyBelow test m ≡ true) ⊎ (test m ≡ true) → (anyBelow test m ≡ true → (p : ℕ) × (p < m) × (test p ≡ true))

@@ -1,9 +1,9 @@
 -- What a store into the table of flags does to each flag, and what joining rows comes to. Assumes nothing.
-use mathlib.Core.Bool.{Bool, true, false, _&&_, _||_, or-true, or-false}
+use mathlib.Core.Bool.{Bool, true, false, _&&_, _||_, or-true, or-false, or-assoc}
 use mathlib.Core.Path.{_≡_, refl, sym, ap, _∙_, subst}
 use mathlib.Core.Logic.{_⊎_, inl, inr, ⊎-elim}
 use mathlib.Core.List.{List, [], _∷_}
-use Prim.Native.Nat.{ℕ, zero, suc, _+_, _*_, _≤_, _<_, min}
+use Prim.Native.Nat.{ℕ, zero, suc, _+_, _≤_, _<_, min}
 use native.Mathlib.Numerals.{add-one}
 use native.Mathlib.Omega.{arith}
 use lib.ListN.{length, getD, set, drop, replicate, length-set, length-replicate, getD-replicate}
@@ -84,7 +84,8 @@ module _ (n k i j : ℕ) (f g : List (List Bool)) (small : n ≤ CONTOURS) (hk :
       stays : (r c : ℕ) → (r ≡ i → c ≡ j → ⊥) → flag (put g i j (flag g i j || flag g k j)) r c ≡ flag g r c
       stays = put-other g i j _ (part .whole) (omega arith)
 
-pub row-joined : (n k i j : ℕ) (f g : List (List Bool)) → flag f i k ≡ true → n ≤ j → RowPart n k i j f g → RowJoined n k i f g
+pub row-joined : (n k i j : ℕ) (f g : List (List Bool)) → flag f i k ≡ true → n ≤ j → RowPart n k i j f g
+    → RowJoined n k i f g
 row-joined n k i j f g t all part =
     record { whole = part .whole; row = λ c h. part .done c (omega arith) ∙ rw t; rest = part .rest }
 
@@ -209,9 +210,7 @@ noted-none n pairs f w = record { whole = w; within = omega arith; told = λ r c
 
 -- what is added to a flag is added with what else there is
 or-one : (a b c : Bool) → (a || (b || false) || c) ≡ (a || (b || c))
-or-one true b c = refl
-or-one false true c = refl
-or-one false false c = refl
+or-one a b c = or-assoc a (b || false) c ∙ ap (λ (z : Bool). a || (z || c)) (or-false b)
 
 pub noted-more : (n : ℕ) (pairs : List ℕ) (at : ℕ) (f g h : List (List Bool)) (b a : ℕ) → b ≡ getD pairs at 0
     → a ≡ getD pairs (at + 1) 0 → at + 1 < length pairs → NotedPart n pairs at f g
@@ -221,7 +220,8 @@ noted-more n pairs at f g h b a p q more part one = record {
   whole = one .whole;
   within = omega arith;
   told = λ r c l m. rw (one .told r c l m, p, q)
-      (or-one (flag g r c) (isPair r c (pairAt pairs at)) (someOf (isPair r c) (paired (drop (at + 2) pairs))) ∙ (rw (paired-more pairs at more) at (part .told r c l m)));
+      (or-one (flag g r c) (isPair r c (pairAt pairs at)) (someOf (isPair r c) (paired (drop (at + 2) pairs)))
+      ∙ (rw (paired-more pairs at more) at (part .told r c l m)));
 }
 
 pub noted-all : (n : ℕ) (pairs : List ℕ) (at : ℕ) (f g : List (List Bool)) → length pairs ≤ at + 1

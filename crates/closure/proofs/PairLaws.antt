@@ -1,7 +1,7 @@
 -- How a loop that goes two numbers at a time walks the pairs of a flat list, and when a pair is a given one. Assumes
 -- nothing.
 use mathlib.Core.Bool.{Bool, true, false}
-use mathlib.Core.Path.{_≡_, refl}
+use mathlib.Core.Path.{_≡_, refl, sym, _∙_}
 use mathlib.Core.Logic.{_⊎_, inl, inr, ⊎-elim}
 use mathlib.Core.List.{List, [], _∷_}
 use Prim.Native.Nat.{ℕ, suc, _+_, _≤_, _<_}
@@ -63,54 +63,46 @@ other-first l at i j d = no-pair (getD l at 0) (getD l (at + 1) 0) i j (λ p _. 
 pub other-second : (l : List ℕ) (at i j : ℕ) → (getD l (at + 1) 0 ≡ j → ⊥) → isPair i j (pairAt l at) ≡ false
 other-second l at i j d = no-pair (getD l at 0) (getD l (at + 1) 0) i j (λ _ q. d q)
 
--- ---- a test of every pair, two numbers at a time
-
--- what is left to test decides the whole
-pub record EveryPart (test : Pair → Bool) (pairs : List ℕ) (at : ℕ) : Type 0 where
-  pub within : at ≤ length pairs
-  pub left : every test (paired (drop at pairs)) ≡ every test (paired pairs)
-
-pub every-none : (test : Pair → Bool) (pairs : List ℕ) → EveryPart test pairs 0
-every-none test pairs = record { within = omega arith; left = refl }
-
-pub every-more : (test : Pair → Bool) (pairs : List ℕ) (at : ℕ) → at + 1 < length pairs → EveryPart test pairs at
-    → test (pairAt pairs at) ≡ true → EveryPart test pairs (at + 2)
-unfolding every
-every-more test pairs at more part t =
-    record { within = omega arith; left = rw (paired-more pairs at more, t) at (part .left) }
-
-pub every-fails : (test : Pair → Bool) (pairs : List ℕ) (at : ℕ) → at + 1 < length pairs → EveryPart test pairs at
-    → test (pairAt pairs at) ≡ false → false ≡ every test (paired pairs)
-unfolding every
-every-fails test pairs at more part t = rw (paired-more pairs at more, t) at (part .left)
-
-pub every-all : (test : Pair → Bool) (pairs : List ℕ) (at : ℕ) → length pairs ≤ at + 1 → EveryPart test pairs at
-    → true ≡ every test (paired pairs)
-unfolding every
-every-all test pairs at all part = rw (paired-end pairs at all) at (part .left)
-
--- ---- a search for some pair, two numbers at a time
+-- ---- a question on all pairs, two numbers at a time
 
 -- what is left to look at decides the whole
-pub record SomePart (test : Pair → Bool) (pairs : List ℕ) (at : ℕ) : Type 0 where
+pub record WalkPart (of : List Pair → Bool) (pairs : List ℕ) (at : ℕ) : Type 0 where
   pub within : at ≤ length pairs
-  pub left : someOf test (paired (drop at pairs)) ≡ someOf test (paired pairs)
+  pub left : of (paired (drop at pairs)) ≡ of (paired pairs)
 
-pub some-none : (test : Pair → Bool) (pairs : List ℕ) → SomePart test pairs 0
-some-none test pairs = record { within = omega arith; left = refl }
+pub walk-none : (of : List Pair → Bool) (pairs : List ℕ) → WalkPart of pairs 0
+walk-none of pairs = record { within = omega arith; left = refl }
 
-pub some-more : (test : Pair → Bool) (pairs : List ℕ) (at : ℕ) → at + 1 < length pairs → SomePart test pairs at
-    → test (pairAt pairs at) ≡ false → SomePart test pairs (at + 2)
-unfolding someOf
-some-more test pairs at more part t =
-    record { within = omega arith; left = rw (paired-more pairs at more, t) at (part .left) }
+module _ (of : List Pair → Bool) (pairs : List ℕ) (at : ℕ) (more : at + 1 < length pairs)
+    (part : WalkPart of pairs at) where
+  -- the pair at this place leaves the answer to those behind it
+  pub walk-on : of (pairAt pairs at ∷ paired (drop (at + 2) pairs)) ≡ of (paired (drop (at + 2) pairs))
+      → WalkPart of pairs (at + 2)
+  walk-on e = record { within = omega arith; left = sym e ∙ (rw (paired-more pairs at more) at (part .left)) }
 
-pub some-found : (test : Pair → Bool) (pairs : List ℕ) (at : ℕ) → at + 1 < length pairs → SomePart test pairs at
-    → test (pairAt pairs at) ≡ true → true ≡ someOf test (paired pairs)
-unfolding someOf
-some-found test pairs at more part t = rw (paired-more pairs at more, t) at (part .left)
+  -- or it gives the answer
+  pub walk-told : (b : Bool) → of (pairAt pairs at ∷ paired (drop (at + 2) pairs)) ≡ b → b ≡ of (paired pairs)
+  walk-told b e = sym e ∙ (rw (paired-more pairs at more) at (part .left))
 
-pub some-all : (test : Pair → Bool) (pairs : List ℕ) (at : ℕ) → length pairs ≤ at + 1 → SomePart test pairs at
-    → false ≡ someOf test (paired pairs)
-unfolding someOf
-some-all test pairs at all part = rw (paired-end pairs at all) at (part .left)
+-- at the end the answer is that for no pairs
+pub walk-end : (of : List Pair → Bool) (pairs : List ℕ) (at : ℕ) → length pairs ≤ at + 1 → WalkPart of pairs at
+    → of [] ≡ of (paired pairs)
+walk-end of pairs at all part = rw (paired-end pairs at all) at (part .left)
+
+-- whether every pair passes a test, or some pair does: what one pair does to the answer
+module _ (test : Pair → Bool) (p : Pair) (more : List Pair) where
+  pub every-on : test p ≡ true → every test (p ∷ more) ≡ every test more
+  unfolding every
+  every-on t = rw t
+
+  pub every-off : test p ≡ false → every test (p ∷ more) ≡ false
+  unfolding every
+  every-off t = rw t
+
+  pub some-on : test p ≡ false → someOf test (p ∷ more) ≡ someOf test more
+  unfolding someOf
+  some-on t = rw t
+
+  pub some-here : test p ≡ true → someOf test (p ∷ more) ≡ true
+  unfolding someOf
+  some-here t = rw t

@@ -1,6 +1,6 @@
 -- `leads` says yes exactly where a path is: links that lead from one position to another; below n, links are the pairs
 -- of the list. Assumes nothing.
-use mathlib.Core.Bool.{Bool, true, false, _&&_, _||_}
+use mathlib.Core.Bool.{Bool, true, false, _&&_, _||_, or-true, and-eq-true-iff, true≢false}
 use mathlib.Core.Path.{_≡_, refl, sym, ap, _∙_}
 use mathlib.Core.Logic.{_⊎_, inl, inr, ⊎-elim, _↔_}
 use mathlib.Core.List.{List, [], _∷_}
@@ -29,26 +29,23 @@ pub or-left : (a b : Bool) → a ≡ true → (a || b) ≡ true
 or-left a b e = rw e
 
 pub or-right : (a b : Bool) → b ≡ true → (a || b) ≡ true
-or-right true b e = refl
-or-right false b e = e
+or-right a b e = rw e (or-true a)
 
 pub and-first : (a b : Bool) → (a && b) ≡ true → a ≡ true
-and-first true b e = refl
-and-first false b e = e
+and-first a b e = and-eq-true-iff a b .0 e .0
 
 pub and-second : (a b : Bool) → (a && b) ≡ true → b ≡ true
-and-second true b e = e
-and-second false b e = let z : _≡_ {A = ℕ} 0 1 = cc in absurd (omega arith)
+and-second a b e = and-eq-true-iff a b .0 e .1
 
 pub both-true : (a b : Bool) → a ≡ true → b ≡ true → (a && b) ≡ true
-both-true a b p q = rw (p, q)
+both-true a b p q = and-eq-true-iff a b .1 (p, q)
 
 pub yes-or-no : (b : Bool) → (b ≡ true) ⊎ (b ≡ false)
 yes-or-no true = inl refl
 yes-or-no false = inr refl
 
 pub true-false : {b : Bool} → b ≡ true → b ≡ false → ⊥
-true-false p q = let z : _≡_ {A = ℕ} 0 1 = cc in omega arith
+true-false p q = true≢false (sym p ∙ q)
 
 -- ---- paths
 
@@ -200,7 +197,7 @@ every-is test (p ∷ more) h = both-true (test p) (every test more)
 pub every-at : (test : Pair → Bool) (ps : List Pair) (b a : ℕ) → every test ps ≡ true → someOf (isPair b a) ps ≡ true
     → test (record { before = b; after = a }) ≡ true
 unfolding every someOf
-every-at test [] b a e t = let z : _≡_ {A = ℕ} 0 1 = cc in absurd (omega arith)
+every-at test [] b a e t = absurd (true≢false (sym t))
 every-at test (p ∷ more) b a e t =
     go (or-cases (isPair b a p) (someOf (isPair b a) more) t)
     (every-at test more b a (and-second (test p) (every test more) e))

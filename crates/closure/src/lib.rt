@@ -71,13 +71,13 @@ fn on_diagonal(flags: &[[bool; CONTOURS]; CONTOURS], n: usize) -> Found
 }
 
 // The flag of one pair, where its two positions are below n.
-fn note(before: usize, after: usize, n: usize, flags: &mut [[bool; CONTOURS]; CONTOURS])
+fn note(b: usize, a: usize, n: usize, flags: &mut [[bool; CONTOURS]; CONTOURS])
     requires { ⌜ (n ≤ CONTOURS) × Whole (now flags) ⌝ }
-    ensures { λ r. ⌜ Noted n (record { before = before; after = after } ∷ []) (now (flags .entry)) (now (flags .exit)) ⌝ }
+    ensures { λ r. ⌜ Noted n (record { before = b; after = a } ∷ []) (now (flags .entry)) (now (flags .exit)) ⌝ }
 {
-    if before < n {
-        if after < n {
-            flags[before][after] = true;
+    if b < n {
+        if a < n {
+            flags[b][a] = true;
         }
     }
 }

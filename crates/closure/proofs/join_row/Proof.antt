@@ -11,21 +11,17 @@ Inv-loop flags₀ n k i j₀ flags j = RowPart n k i j flags₀ flags
 abbrev μ-loop : tie.MeasureT-loop
 μ-loop flags₀ n k i j₀ flags j = n - j
 
--- src/lib.rt:29:9
 loop-holds : tie.Need-loop-holds Inv-loop μ-loop
 loop-holds c = row-none _ _ _ _ (c .before .before .pre .3)
 
--- src/lib.rt:29:9
 loop-again : tie.Need-loop-again Inv-loop μ-loop
 loop-again c =
     row-more _ _ _ _ _ _ (search needs) (search needs) (search needs) (search needs)
     (c .before .before .before .loop .inv)
 
--- src/lib.rt:23:1
 returns : tie.Need-returns Inv-loop μ-loop
 returns c = row-joined _ _ _ _ _ _ (c .before .before .if1 .taken) (c .loop-test .left) (c .before .loop .inv)
 
--- src/lib.rt:23:1
 returns-2 : tie.Need-returns-2 Inv-loop μ-loop
 returns-2 c = row-kept _ _ _ _ (c .before .before .pre .3) (c .if1 .left)
 
