@@ -10,7 +10,8 @@ use lib.Dec.{eqb, ltb}
 use borrow.Author.Tests.{eq-eqb, ne-eqb, lt-ltb}
 use lib.ListN.{length, getD, set, drop, replicate, length-set, getD-replicate, drop-of-length-le}
 use lib.Seq.{drop-cons, getD-set-same, getD-set-other}
-use Rattle.closure.proofs.PairLaws.{same-or, pairAt, EveryPart, every-more, every-fails, every-all}
+use Rattle.closure.specs.Pairs.{paired, every}
+use Rattle.closure.proofs.PairLaws.{same-or, pairAt, WalkPart, walk-on, walk-told, every-on, every-off}
 use Rattle.keep.specs.Keep.{lastRank, keptAt, keptIn, keepsPairs, readyBy, readyIn}
 use Rattle.keep.specs.Code.{latest, RanksOf}
 
@@ -95,24 +96,24 @@ table-rank order ranks x y table e h =
     table .told x h ∙ ap (λ (z : ℕ). latest x 0 z order) (getD-replicate 256 x 0 0 h)
     ∙ latest-last x order ∙ ap (lastRank order) e
 
+pub keeps-is : (order pairs : List ℕ) → every (keptIn order) (paired pairs) ≡ keepsPairs order pairs
+unfolding keepsPairs
+keeps-is order pairs = refl
+
 module _ (order pairs : List ℕ) (at b a : ℕ) (r : Bool) (eb : b ≡ lastRank order (getD pairs at 0))
     (ea : a ≡ lastRank order (getD pairs (at + 1) 0))
-    (more : at + 1 < length pairs) (part : EveryPart (keptIn order) pairs at) (is : r ≡ keptAt b a) where
+    (more : at + 1 < length pairs) (part : WalkPart (every (keptIn order)) pairs at) (is : r ≡ keptAt b a) where
   kept-answer : keptIn order (pairAt pairs at) ≡ r
   unfolding keptIn
   kept-answer = sym (is ∙ rw (eb, ea))
 
-  pub pair-kept : r ≡ true → EveryPart (keptIn order) pairs (at + 2)
-  pair-kept t = every-more (keptIn order) pairs at more part (kept-answer ∙ t)
+  pub pair-kept : r ≡ true → WalkPart (every (keptIn order)) pairs (at + 2)
+  pair-kept t = walk-on (every (keptIn order)) pairs at more part (every-on (keptIn order) _ _ (kept-answer ∙ t))
 
   pub pair-broken : r ≡ false → false ≡ keepsPairs order pairs
-  unfolding keepsPairs
-  pair-broken t = every-fails (keptIn order) pairs at more part (kept-answer ∙ t)
-
-pub pairs-kept : (order pairs : List ℕ) (at : ℕ) → length pairs ≤ at + 1 → EveryPart (keptIn order) pairs at
-    → true ≡ keepsPairs order pairs
-unfolding keepsPairs
-pairs-kept order pairs at all part = every-all (keptIn order) pairs at all part
+  pair-broken t =
+      walk-told (every (keptIn order)) pairs at more part false (every-off (keptIn order) _ _ (kept-answer ∙ t))
+      ∙ keeps-is order pairs
 
 -- ---- what a pair asks of the flags
 
@@ -126,19 +127,9 @@ pub ready-flag : (visited : List ℕ) (b a k w f : ℕ) → a ≡ k → w ≡ b 
 unfolding readyBy
 ready-flag visited b a k w f e p q = rw (eq-eqb a k e, q, p)
 
-module _ (visited pairs : List ℕ) (k at : ℕ) (r : Bool) (more : at + 1 < length pairs)
-    (part : EveryPart (readyBy visited k) pairs at) (is : r ≡ readyBy visited k (pairAt pairs at)) where
-  pub pair-ready : r ≡ true → EveryPart (readyBy visited k) pairs (at + 2)
-  pair-ready t = every-more (readyBy visited k) pairs at more part (sym is ∙ t)
-
-  pub pair-waits : r ≡ false → false ≡ readyIn visited pairs k
-  unfolding readyIn
-  pair-waits t = every-fails (readyBy visited k) pairs at more part (sym is ∙ t)
-
-pub pairs-ready : (visited pairs : List ℕ) (k at : ℕ) → length pairs ≤ at + 1 → EveryPart (readyBy visited k) pairs at
-    → true ≡ readyIn visited pairs k
+pub ready-is : (visited pairs : List ℕ) (k : ℕ) → every (readyBy visited k) (paired pairs) ≡ readyIn visited pairs k
 unfolding readyIn
-pairs-ready visited pairs k at all part = every-all (readyBy visited k) pairs at all part
+ready-is visited pairs k = refl
 
 -- ---- the last rank of one id, by walking the ids
 
