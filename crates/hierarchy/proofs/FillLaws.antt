@@ -49,14 +49,14 @@ module _ (n : ℕ) (test : Pair → Bool) (pick : Pair → ℕ) (pairs : List �
       ≡ picked test pick (paired pairs)
   picked-walk = rw (paired-more pairs at more) at (part .left)
 
-  pub pick-yes : count < n → test (pairAt pairs at) ≡ true
-      → PickPart n test pick pairs (at + 2) (set items count (pick (pairAt pairs at))) (count + 1)
+  pub pick-yes : (x : ℕ) → x ≡ pick (pairAt pairs at) → count < n → test (pairAt pairs at) ≡ true
+      → PickPart n test pick pairs (at + 2) (set items count x) (count + 1)
   unfolding picked
-  pick-yes h t = record {
-    sofar = part .sofar ++ (pick (pairAt pairs at) ∷ []);
-    filled = filled-more n items count (part .sofar) (pick (pairAt pairs at)) h (part .filled);
-    left = append-assoc (part .sofar) (pick (pairAt pairs at) ∷ []) (picked test pick (paired (drop (at + 2) pairs)))
-        ∙ (rw t at picked-walk);
+  pick-yes x e h t = record {
+    sofar = part .sofar ++ (x ∷ []);
+    filled = filled-more n items count (part .sofar) x h (part .filled);
+    left = rw e (append-assoc (part .sofar) (pick (pairAt pairs at) ∷ [])
+        (picked test pick (paired (drop (at + 2) pairs))) ∙ (rw t at picked-walk));
     within = omega arith;
     few = omega (arith, part .few);
   }

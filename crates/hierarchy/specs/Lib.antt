@@ -1,4 +1,4 @@
 pub mod Fill
 pub mod Sort
-pub mod Code
 pub mod Questions
+pub mod Code

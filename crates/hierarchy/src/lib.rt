@@ -14,10 +14,10 @@ ghost use Rattle.closure.specs.Limits.{CONTOURS, PAIRS};
 ghost use Rattle.closure.specs.Pairs.{paired, someOf, isPair, both};
 ghost use lib.ListN.{length, replicate};
 ghost use Rattle.keep.specs.Keep.{lastRank, keepsPairs};
-ghost use Rattle.hierarchy.specs.Questions.{pairsCheck, picked, endsAt, startsAt, pairListOf, idsOf, numContours, precedencesOf, violatesOf, predecessorsOf, successorsOf, validSequence, orderOf, topologicalSort};
+ghost use Rattle.hierarchy.specs.Questions.{pairsCheck, pairListOf, idsOf, numContours, precedencesOf, violatesOf, predecessorsOf, successorsOf, validSequence, orderOf, topologicalSort};
 ghost use Rattle.hierarchy.specs.Fill.{Filled};
 ghost use Rattle.hierarchy.specs.Sort.{tallied, freeBelow, loosened, released, queueTaken, sortedBy};
-ghost use Rattle.hierarchy.specs.Code.{standing, HasRoom, Stands};
+ghost use Rattle.hierarchy.specs.Code.{sideOf, othersOf, standing, HasRoom, Stands};
 
 // Yes or no, or why neither.
 pub enum Verdict {
@@ -137,10 +137,20 @@ pub fn violates(contours: usize, pairs: &[u32], a: u32, b: u32) -> Verdict
     Verdict::Refused(r)
 }
 
-// The firsts of the pairs whose second is the id.
-fn list_before(pairs: &[u32], id: u32) -> Ids
+// Of a pair's two numbers the second, or the first.
+fn side(b: u32, a: u32, second: bool) -> u32
+    ensures { λ r. ⌜ r ≡ sideOf second (record { before = b; after = a }) ⌝ }
+{
+    if second {
+        return a;
+    }
+    b
+}
+
+// The numbers on one side of the pairs that have the id on the other.
+fn list_others(pairs: &[u32], id: u32, second: bool) -> Ids
     requires { ⌜ length (now pairs) ≤ 2 * PAIRS ⌝ }
-    ensures { λ r. ⌜ r ≡ idsOf Check.Fine (picked (endsAt id) (λ p. p .before) (paired (now (pairs .entry)))) ⌝ }
+    ensures { λ r. ⌜ r ≡ idsOf Check.Fine (othersOf second id (paired (now (pairs .entry)))) ⌝ }
 {
     let mut ids = [0u32; PAIRS];
     let mut count = 0;
@@ -149,8 +159,8 @@ fn list_before(pairs: &[u32], id: u32) -> Ids
         let b = pairs[at];
         let a = pairs[at + 1];
         at += 2;
-        if a == id {
-            ids[count] = b;
+        if side(b, a, !second) == id {
+            ids[count] = side(b, a, second);
             count += 1;
         }
     }
@@ -159,60 +169,35 @@ fn list_before(pairs: &[u32], id: u32) -> Ids
         ids,
         count,
     }
+}
+
+// The same where the pairs pass the check.
+fn others(contours: usize, pairs: &[u32], id: u32, second: bool) -> Ids
+    ensures { λ r. let ps = now (pairs .entry) in ⌜ r ≡ idsOf (pairsCheck contours ps) (othersOf second id (paired ps)) ⌝ }
+{
+    let check = check_pairs(contours, pairs);
+    let Check::Fine = check else {
+        return Ids {
+            check,
+            ids: [0u32; PAIRS],
+            count: 0,
+        };
+    };
+    list_others(pairs, id, second)
 }
 
 // The ids that pairs put before this one, in the order of the pairs, repeats kept.
 pub fn predecessors(contours: usize, pairs: &[u32], id: u32) -> Ids
     ensures { λ r. ⌜ r ≡ predecessorsOf contours (now (pairs .entry)) id ⌝ }
 {
-    let check = check_pairs(contours, pairs);
-    let Check::Fine = check else {
-        return Ids {
-            check,
-            ids: [0u32; PAIRS],
-            count: 0,
-        };
-    };
-    list_before(pairs, id)
-}
-
-// The seconds of the pairs whose first is the id.
-fn list_after(pairs: &[u32], id: u32) -> Ids
-    requires { ⌜ length (now pairs) ≤ 2 * PAIRS ⌝ }
-    ensures { λ r. ⌜ r ≡ idsOf Check.Fine (picked (startsAt id) (λ p. p .after) (paired (now (pairs .entry)))) ⌝ }
-{
-    let mut ids = [0u32; PAIRS];
-    let mut count = 0;
-    let mut at = 0;
-    while at + 1 < pairs.len() {
-        let b = pairs[at];
-        let a = pairs[at + 1];
-        at += 2;
-        if b == id {
-            ids[count] = a;
-            count += 1;
-        }
-    }
-    Ids {
-        check: Check::Fine,
-        ids,
-        count,
-    }
+    others(contours, pairs, id, false)
 }
 
 // The ids that pairs put after this one, in the order of the pairs, repeats kept.
 pub fn successors(contours: usize, pairs: &[u32], id: u32) -> Ids
     ensures { λ r. ⌜ r ≡ successorsOf contours (now (pairs .entry)) id ⌝ }
 {
-    let check = check_pairs(contours, pairs);
-    let Check::Fine = check else {
-        return Ids {
-            check,
-            ids: [0u32; PAIRS],
-            count: 0,
-        };
-    };
-    list_after(pairs, id)
+    others(contours, pairs, id, true)
 }
 
 // The last rank of an id, counted from 1; 0 where it is not there.
