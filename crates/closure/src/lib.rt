@@ -70,6 +70,20 @@ fn on_diagonal(flags: &[[bool; CONTOURS]; CONTOURS], n: usize) -> Found
     Found::Absent
 }
 
+// A byte as an index.
+fn wide(x: u8) -> usize
+    ensures { λ r. ⌜ r ≡ x ⌝ }
+{
+    x as usize
+}
+
+// A number of 32 bits as an index.
+fn wide32(x: u32) -> usize
+    ensures { λ r. ⌜ r ≡ x ⌝ }
+{
+    x as usize
+}
+
 // The flag of one pair, where its two positions are below n.
 fn note(b: usize, a: usize, n: usize, flags: &mut [[bool; CONTOURS]; CONTOURS])
     requires { ⌜ (n ≤ CONTOURS) × Whole (now flags) ⌝ }
@@ -82,13 +96,6 @@ fn note(b: usize, a: usize, n: usize, flags: &mut [[bool; CONTOURS]; CONTOURS])
     }
 }
 
-// A byte as an index.
-fn wide(x: u8) -> usize
-    ensures { λ r. ⌜ r ≡ x ⌝ }
-{
-    x as usize
-}
-
 // The flag of each pair whose two positions are below n.
 fn note_pairs(pairs: &[u8], n: usize, flags: &mut [[bool; CONTOURS]; CONTOURS])
     requires { ⌜ (n ≤ CONTOURS) × Whole (now flags) ⌝ }
@@ -99,13 +106,6 @@ fn note_pairs(pairs: &[u8], n: usize, flags: &mut [[bool; CONTOURS]; CONTOURS])
         note(wide(pairs[at]), wide(pairs[at + 1]), n, flags);
         at += 2;
     }
-}
-
-// A number of 32 bits as an index.
-fn wide32(x: u32) -> usize
-    ensures { λ r. ⌜ r ≡ x ⌝ }
-{
-    x as usize
 }
 
 // As note_pairs, for numbers of 32 bits.

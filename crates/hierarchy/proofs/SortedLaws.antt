@@ -1,5 +1,5 @@
 -- The topological order is legal: what holds while its positions are taken. Assumes nothing.
-use mathlib.Core.Bool.{Bool, true, false, cond, not, _&&_, _||_, or-false}
+use mathlib.Core.Bool.{Bool, true, false, cond, not, _&&_, _||_, or-true, or-false, and-false}
 use mathlib.Core.Path.{_≡_, refl, sym, ap, _∙_, subst, fun-ext}
 use mathlib.Core.Logic.{_⊎_, inl, inr, ⊎-elim, _↔_}
 use mathlib.Core.List.{List, [], _∷_, _++_, append-nil}
@@ -11,14 +11,14 @@ use borrow.Author.Tests.{eq-eqb, ne-eqb, eqb-true, eqb-false, not-true, lt-ltb, 
 use lib.ListN.{length, getD, set, replicate, length-set, length-append, length-replicate, List·getD-append}
 use lib.Seq.{getD-set-same, getD-set-other, getD-append-seam, take-all}
 use Rattle.closure.specs.Limits.{CONTOURS}
-use Rattle.closure.specs.Pairs.{Pair, paired, someOf, isPair, both}
+use Rattle.closure.specs.Pairs.{Pair, paired, every, someOf, isPair, both}
 use Rattle.closure.specs.Cycle.{linked, onCycle, Acyclic, firstOnCycle}
 use Rattle.answer.specs.declared.Check.{Check}
 use Rattle.answer.specs.declared.Found.{Found}
 use Rattle.answer.specs.Lowest.{lowest}
 use Rattle.answer.proofs.LowestLaws.{LowestAt, Nowhere, at-is, absent-is, search-through}
 use Rattle.closure.proofs.PairLaws.{same-or, lt-or, is-pair}
-use Rattle.closure.proofs.PathLaws.{or-cases, or-left, or-right, and-first, and-second, both-true, yes-or-no}
+use Rattle.closure.proofs.PathLaws.{or-left, or-right, and-first, and-second, both-true, yes-or-no, every-at}
 use Rattle.closure.proofs.PathLaws.{true-false, linked-within, absent-exactly, linked-pair, pair-linked}
 use Rattle.hierarchy.specs.Sort.{Kahn, heldBack, tallied, freeBelow, untaken, loosened, released, queueTaken}
 use Rattle.hierarchy.specs.Sort.{sortedBy}
@@ -38,24 +38,15 @@ pairCount : (Pair → Bool) → List Pair → ℕ
 pairCount test [] = 0
 pairCount test (p ∷ more) = pairCount test more + cond (test p) 1 0
 
--- where none passes, no pair of the list does
-count-zero : (test : Pair → Bool) (ps : List Pair) (b a : ℕ) → pairCount test ps ≡ 0 → someOf (isPair b a) ps ≡ true
-    → test (record { before = b; after = a }) ≡ false
-unfolding pairCount someOf
-count-zero test [] b a e t = let z : _≡_ {A = ℕ} 0 1 = cc in absurd (omega arith)
-count-zero test (p ∷ more) b a e t =
-    go (or-cases (isPair b a p) (someOf (isPair b a) more) t) (yes-or-no (test p)) (count-zero test more b a)
-  where
-    go : (isPair b a p ≡ true) ⊎ (someOf (isPair b a) more ≡ true) → (test p ≡ true) ⊎ (test p ≡ false) →
-        (pairCount test more ≡ 0 → someOf (isPair b a) more ≡ true → test (record { before = b; after = a }) ≡ false)
-        → test (record { before = b; after = a }) ≡ false
-    go i (inl y) rec = let f : pairCount test more + 1 ≡ 0 = rw y at e in absurd (omega arith)
-    go (inl i) (inr y) rec =
-        let u : p .before ≡ b = eqb-true (p .before) b (and-first (eqb (p .before) b) (eqb (p .after) a) i) in
-        let v : p .after ≡ a = eqb-true (p .after) a (and-second (eqb (p .before) b) (eqb (p .after) a) i) in
-        let q : p ≡ record { before = b; after = a } = λ j. record { before = u j; after = v j } in
-        ap test (sym q) ∙ y
-    go (inr s) (inr y) rec = let f : pairCount test more + 0 ≡ 0 = rw y at e in rec (omega arith) s
+-- where none passes, each fails
+count-zero : (test : Pair → Bool) (ps : List Pair) → pairCount test ps ≡ 0 → every (λ p. not (test p)) ps ≡ true
+unfolding pairCount every
+count-zero test [] e = refl
+count-zero test (p ∷ more) e = ⊎-elim
+    (λ (y : test p ≡ true). let f : pairCount test more + 1 ≡ 0 = rw y at e in absurd (omega arith))
+    (λ (y : test p ≡ false). let f : pairCount test more + 0 ≡ 0 = rw y at e in
+    rw y (count-zero test more (omega arith)))
+    (yes-or-no (test p))
 
 -- where some pass, one can be named
 count-some : (test : Pair → Bool) (ps : List Pair) → (pairCount test ps ≡ 0 → ⊥)
@@ -87,6 +78,21 @@ count-some test (p ∷ more) d = go (yes-or-no (test p)) (count-some test more)
 abbrev holds : ℕ → (ℕ → Bool) → ℕ → Pair → Bool
 holds n done a p = both n p && (eqb (p .after) a && not (done (p .before)))
 
+-- where none does, all that is linked to a is done
+all-done : (n : ℕ) (pairs : List ℕ) (done : ℕ → Bool) (b a : ℕ) → pairCount (holds n done a) (paired pairs) ≡ 0
+    → linked n pairs b a ≡ true → done b ≡ true
+all-done n pairs done b a e l =
+    ⊎-elim (λ (y : done b ≡ true). y) (λ (y : done b ≡ false). absurd (true-false (still y) none)) (yes-or-no (done b))
+  where
+    none : holds n done a (record { before = b; after = a }) ≡ false
+    none = not-true _ (every-at (λ p. not (holds n done a p)) (paired pairs) b a
+        (count-zero (holds n done a) (paired pairs) e) (pair-linked n pairs b a l))
+
+    still : done b ≡ false → holds n done a (record { before = b; after = a }) ≡ true
+    still y = let r = linked-within n pairs b a l in
+        both-true (both n (record { before = b; after = a })) (eqb a a && not (done b))
+        (both-yes n (record { before = b; after = a }) (r .0) (r .1)) (rw (eq-eqb a a refl, y))
+
 -- a pair is from x to a
 abbrev goes : ℕ → ℕ → ℕ → Pair → Bool
 goes n x a p = both n p && (eqb (p .after) a && eqb (p .before) x)
@@ -102,7 +108,7 @@ count-split n a x old new e is (p ∷ more) =
     count-split n a x old new e is more in
     let one : cond (holds n old a p) 1 0 ≡ cond (holds n new a p) 1 0 + cond (goes n x a p) 1 0 = ⊎-elim
     (λ (s : p .before ≡ x). same (both n p) (eqb (p .after) a) (old (p .before)) (new (p .before)) (eqb (p .before) x)
-    (rw s e) (is (p .before) ∙ rw (eq-eqb x (p .before) (sym s)) (mathlib.Core.Bool.or-true (old (p .before))))
+    (rw s e) (is (p .before) ∙ rw (eq-eqb x (p .before) (sym s)) (or-true (old (p .before))))
     (eq-eqb (p .before) x s))
     (λ (d : p .before ≡ x → ⊥). other (both n p) (eqb (p .after) a) (old (p .before)) (new (p .before))
     (eqb (p .before) x) (is (p .before) ∙ rw (ne-eqb x (p .before) (λ z. d (sym z))) (or-false (old (p .before))))
@@ -192,7 +198,7 @@ free-first w (suc k) = ⊎-elim
     (λ (z : getD w k 0 ≡ 0). rw (eq-eqb (getD w k 0) 0 z) (record {
       listed = λ a. push-met (freeBelow w k) k a ∙ rw (free-first w k .listed a) (⊎-elim
           (λ (e : a ≡ k). rw (e, eq-eqb (getD w k 0) 0 z, eq-eqb k k refl, lt-ltb k (suc k) (omega arith))
-          (mathlib.Core.Bool.or-true (ltb k k && true)))
+          (or-true (ltb k k && true)))
           (λ (d : a ≡ k → ⊥). rw (ne-eqb k a (λ s. d (sym s)), below-next a k d)
           (or-false (ltb a k && eqb (getD w a 0) 0))) (same-or a k));
       different =
@@ -203,7 +209,7 @@ free-first w (suc k) = ⊎-elim
     (λ (z : getD w k 0 ≡ 0 → ⊥). rw (ne-eqb (getD w k 0) 0 z, append-nil (freeBelow w k)) (record {
       listed = λ a. free-first w k .listed a ∙ ⊎-elim
           (λ (e : a ≡ k). rw (e, ne-eqb (getD w k 0) 0 z)
-          (mathlib.Core.Bool.and-false (ltb k k) ∙ sym (mathlib.Core.Bool.and-false (ltb k (suc k)))))
+          (and-false (ltb k k) ∙ sym (and-false (ltb k (suc k)))))
           (λ (d : a ≡ k → ⊥). rw (below-next a k d)) (same-or a k);
       different = wider k (freeBelow w k) (length (freeBelow w k)) (free-first w k .different);
     })) (same-or (getD w k 0) 0)
@@ -266,7 +272,7 @@ module _ (n : ℕ) (small : n ≤ CONTOURS) (pairs : List ℕ) (done : ℕ → B
 
     other-goes : (a : ℕ) → (a ≡ into → ⊥) → goes n x a p ≡ false
     unfolding into
-    other-goes a d = rw (ne-eqb (p .after) a (λ e. d (sym e))) (mathlib.Core.Bool.and-false (both n p))
+    other-goes a d = rw (ne-eqb (p .after) a (λ e. d (sym e))) (and-false (both n p))
 
     here : getD w into 0 ≡ pairCount (holds n done into) (paired pairs) + pairCount (goes n x into) rest + 1
     here = count-step into low ∙ rw this-goes (omega arith)
@@ -309,7 +315,7 @@ module _ (n : ℕ) (small : n ≤ CONTOURS) (pairs : List ℕ) (done : ℕ → B
       counts = counts-on;
       listed = λ a h. push-met o into a ∙ ⊎-elim
           (λ (e : a ≡ into). rw (e, getD-set-same w into (getD w into 0 - 1) 0 in-waits, eq-eqb into into refl, one)
-          (mathlib.Core.Bool.or-true (met o (length o) into)))
+          (or-true (met o (length o) into)))
           (λ (c : a ≡ into → ⊥). rw (getD-set-other w into a (getD w into 0 - 1) 0 c, ne-eqb into a (λ s. c (sym s)))
           (or-false (met o (length o) a) ∙ mid .listed a h)) (same-or a into);
       different =
@@ -319,20 +325,6 @@ module _ (n : ℕ) (small : n ≤ CONTOURS) (pairs : List ℕ) (done : ℕ → B
           mid .known b e in (f .0, omega (arith, f .1, push-length o into), push-old o into (f .0) (f .1) ∙ f .2);
     }
       where
-        first : (b : ℕ) → linked n pairs b into ≡ true → (q : ℕ) × (q < length o) × (getD o q 0 ≡ b)
-        first b l =
-            mid .known b (⊎-elim (λ (y : done b ≡ true). y)
-            (λ (y : done b ≡ false). absurd (true-false (still y) none)) (yes-or-no (done b)))
-          where
-            none : holds n done into (record { before = b; after = into }) ≡ false
-            none = count-zero (holds n done into) (paired pairs) b into (omega (arith, here))
-                (pair-linked n pairs b into l)
-
-            still : done b ≡ false → holds n done into (record { before = b; after = into }) ≡ true
-            still y = let r = linked-within n pairs b into l in
-                both-true (both n (record { before = b; after = into })) (eqb into into && not (done b))
-                (both-yes n (record { before = b; after = into }) (r .0) (r .1)) (rw (eq-eqb into into refl, y))
-
         early : (q : ℕ) → q < length (o ++ (into ∷ [])) → (b : ℕ)
             → linked n pairs b (getD (o ++ (into ∷ [])) q 0) ≡ true
             → (r : ℕ) × (r < q) × (getD (o ++ (into ∷ [])) r 0 ≡ b)
@@ -340,7 +332,8 @@ module _ (n : ℕ) (small : n ≤ CONTOURS) (pairs : List ℕ) (done : ℕ → B
           where
             go : (q ≡ length o) ⊎ (q < length o) → (r : ℕ) × (r < q) × (getD (o ++ (into ∷ [])) r 0 ≡ b)
             go (inl e) =
-                let f = first b (rw (e, push-new o into) at l) in
+                let f = mid .known b (all-done n pairs done b into (omega (arith, here))
+                (rw (e, push-new o into) at l)) in
                 (f .0, omega (arith, f .1), push-old o into (f .0) (f .1) ∙ f .2)
             go (inr i) =
                 let f = mid .early q i b (rw (push-old o into q i) at l) in
@@ -352,6 +345,9 @@ module _ (n : ℕ) (small : n ≤ CONTOURS) (pairs : List ℕ) (done : ℕ → B
 record Grown (o k : List ℕ) : Type 0 where
   longer : length o ≤ length k
   kept : (q : ℕ) → q < length o → getD k q 0 ≡ getD o q 0
+
+grown-none : (o : List ℕ) → Grown o o
+grown-none o = record { longer = omega arith; kept = λ q h. refl }
 
 grown-on : (o k l : List ℕ) → Grown o k → Grown k l → Grown o l
 grown-on o k l f g =
@@ -381,19 +377,18 @@ walk-one n small pairs done x p rest s mid = ⊎-elim
     (λ (d : getD (s .waits) (p .after) 0 ≡ 1 → ⊥). rw (ne-eqb (getD (s .waits) (p .after) 0) 1 d, append-nil (s .queue))
     (record {
       mid = mid-still n small pairs done x p rest (s .waits) (s .queue) mid t d;
-      grown = record { longer = omega arith; kept = λ q h. refl };
+      grown = grown-none (s .queue);
     })) (same-or (getD (s .waits) (p .after) 0) 1)))
     (λ (f : (eqb (p .before) x && both n p) ≡ false). rw f (record {
       mid = mid-pass n small pairs done x p rest (s .waits) (s .queue) mid f;
-      grown = record { longer = omega arith; kept = λ q h. refl };
+      grown = grown-none (s .queue);
     })) (yes-or-no (eqb (p .before) x && both n p))
 
 walk-all : (n : ℕ) → n ≤ CONTOURS → (pairs : List ℕ) (done : ℕ → Bool) (x : ℕ) (rest : List Pair) (s : Kahn) →
     Mid n pairs done x rest (s .waits) (s .queue) →
     Walked n pairs done x [] (s .queue) (released n x rest s)
 unfolding released
-walk-all n small pairs done x [] s mid =
-    record { mid = mid; grown = record { longer = omega arith; kept = λ q h. refl } }
+walk-all n small pairs done x [] s mid = record { mid = mid; grown = grown-none (s .queue) }
 walk-all n small pairs done x (p ∷ rest) s mid =
     let one = walk-one n small pairs done x p rest s mid in
     let all = walk-all n small pairs done x rest (cond (eqb (p .before) x && both n p) (loosened s (p .after)) s)
@@ -531,9 +526,7 @@ outer-first n small pairs = record {
 
     early : (p : ℕ) → p < length o → (b : ℕ) → linked n pairs b (getD o p 0) ≡ true
         → (q : ℕ) × (q < p) × (getD o q 0 ≡ b)
-    early p h b l =
-        absurd (true-false held (count-zero (holds n (λ _. false) a) (paired pairs) b a (sym (count a low) ∙ zero')
-        (pair-linked n pairs b a l)))
+    early p h b l = absurd (true-false (all-done n pairs (λ _. false) b a (sym (count a low) ∙ zero') l) refl)
       where
         a : ℕ
         a = getD o p 0
@@ -544,11 +537,6 @@ outer-first n small pairs = record {
         zero' : getD w a 0 ≡ 0
         zero' = eqb-true (getD w a 0) 0 (and-second (ltb a n) (eqb (getD w a 0) 0)
             (sym (free .listed a) ∙ met-is o (length o) a p h refl))
-
-        held : holds n (λ _. false) a (record { before = b; after = a }) ≡ true
-        held = let r =
-            linked-within n pairs b a l in both-true (both n (record { before = b; after = a })) (eqb a a && true)
-            (both-yes n (record { before = b; after = a }) (r .0) (r .1)) (rw (eq-eqb a a refl))
 
 -- ---- the whole order
 

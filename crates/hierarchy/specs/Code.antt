@@ -1,5 +1,5 @@
--- How the code lists: one question for both sides of a pair; and for Kahn's order the positions taken and then the queue
--- in one array, the waits in another. Assumes nothing.
+-- How the code lists: one question for both sides of a pair; and for Kahn's order the positions taken and then the
+-- queue in one array, the waits in another. Assumes nothing.
 use mathlib.Core.Bool.{Bool, cond, not}
 use mathlib.Core.List.{List, [], _∷_}
 use mathlib.Core.Path.{_≡_}
@@ -7,7 +7,7 @@ use Prim.Native.Nat.{ℕ, _+_, _≤_}
 use lib.Dec.{eqb}
 use lib.ListN.{length, take, drop}
 use Rattle.closure.specs.Limits.{CONTOURS}
-use Rattle.closure.specs.Pairs.{Pair}
+use Rattle.closure.specs.Pairs.{Pair, paired}
 use Rattle.hierarchy.specs.Fill.{Filled}
 use Rattle.hierarchy.specs.Sort.{Kahn}
 use Rattle.hierarchy.specs.Questions.{picked}
@@ -17,8 +17,8 @@ abbrev pub sideOf : Bool → Pair → ℕ
 sideOf second p = cond second (p .after) (p .before)
 
 -- the numbers on one side of the pairs that have the id on the other
-abbrev pub othersOf : Bool → ℕ → List Pair → List ℕ
-othersOf second id ps = picked (λ p. eqb (sideOf (not second) p) id) (sideOf second) ps
+abbrev pub othersOf : Bool → ℕ → List ℕ → List ℕ
+othersOf second id pairs = picked (λ p. eqb (sideOf (not second) p) id) (sideOf second) (paired pairs)
 
 -- so many of the positions are held back
 unfoldable pub heldCount : List ℕ → ℕ

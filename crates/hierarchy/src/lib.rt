@@ -150,7 +150,7 @@ fn side(b: u32, a: u32, second: bool) -> u32
 // The numbers on one side of the pairs that have the id on the other.
 fn list_others(pairs: &[u32], id: u32, second: bool) -> Ids
     requires { ⌜ length (now pairs) ≤ 2 * PAIRS ⌝ }
-    ensures { λ r. ⌜ r ≡ idsOf Check.Fine (othersOf second id (paired (now (pairs .entry)))) ⌝ }
+    ensures { λ r. ⌜ r ≡ idsOf Check.Fine (othersOf second id (now (pairs .entry))) ⌝ }
 {
     let mut ids = [0u32; PAIRS];
     let mut count = 0;
@@ -173,7 +173,7 @@ fn list_others(pairs: &[u32], id: u32, second: bool) -> Ids
 
 // The same where the pairs pass the check.
 fn others(contours: usize, pairs: &[u32], id: u32, second: bool) -> Ids
-    ensures { λ r. let ps = now (pairs .entry) in ⌜ r ≡ idsOf (pairsCheck contours ps) (othersOf second id (paired ps)) ⌝ }
+    ensures { λ r. let ps = now (pairs .entry) in ⌜ r ≡ idsOf (pairsCheck contours ps) (othersOf second id ps) ⌝ }
 {
     let check = check_pairs(contours, pairs);
     let Check::Fine = check else {
