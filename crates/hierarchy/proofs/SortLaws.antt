@@ -1,5 +1,5 @@
 -- The arrays of Kahn's order, step by step. Assumes nothing.
-use mathlib.Core.Bool.{Bool, true, false, cond, _&&_, and-false}
+use mathlib.Core.Bool.{Bool, true, false, cond, _&&_}
 use mathlib.Core.Path.{_≡_, refl, sym, ap, _∙_, subst}
 use mathlib.Core.Logic.{⊎-elim}
 use mathlib.Core.List.{List, [], _∷_, _++_, append-nil}
@@ -7,14 +7,15 @@ use Prim.Native.Nat.{ℕ, zero, suc, _+_, _-_, _≤_, _<_}
 use native.Mathlib.Numerals.{add-one}
 use native.Mathlib.Omega.{arith}
 use lib.Dec.{eqb, ltb}
-use borrow.Author.Tests.{eq-eqb, ne-eqb, lt-ltb, le-ltb}
+use borrow.Author.Tests.{eq-eqb, ne-eqb, lt-ltb, le-ltb, ltb-true}
 use lib.ListN.{length, getD, set, take, drop, replicate, length-set, length-append, length-replicate, length-drop}
 use lib.ListN.{take-append-drop}
 use lib.Seq.{getD-set-same, getD-set-other, take-suc, take-suc-set, take-at, take-all, drop-cons, getD-take}
 use lib.Seq.{take-append-le, drop-append-le}
 use Rattle.closure.specs.Limits.{CONTOURS}
 use Rattle.closure.specs.Pairs.{Pair, paired, both}
-use Rattle.closure.proofs.PairLaws.{same-or, lt-or, pairAt, paired-more, paired-end}
+use Rattle.closure.proofs.PairLaws.{same-or, pairAt, paired-more, paired-end}
+use Rattle.closure.proofs.PathLaws.{and-second}
 use Rattle.answer.specs.Room.{padded}
 use Rattle.answer.proofs.RoomLaws.{padded-length}
 use Rattle.hierarchy.specs.Fill.{Filled}
@@ -29,11 +30,15 @@ use Rattle.hierarchy.proofs.FillLaws.{filled-none, filled-more}
 pub both-yes : (n : ℕ) (p : Pair) → p .before < n → p .after < n → both n p ≡ true
 both-yes n p hb ha = rw (lt-ltb (p .before) n hb, lt-ltb (p .after) n ha)
 
-pub both-no : (n : ℕ) (p : Pair) → (p .before < n → p .after < n → ⊥) → both n p ≡ false
-both-no n p out = ⊎-elim
-    (λ (h : p .before < n). ⊎-elim (λ (l : p .after < n). absurd (out h l))
-    (λ (l : n ≤ p .after). rw (lt-ltb (p .before) n h, le-ltb (p .after) n l)) (lt-or (p .after) n))
-    (λ (h : n ≤ p .before). rw (le-ltb (p .before) n h)) (lt-or (p .before) n)
+pub both-low : (n : ℕ) (p : Pair) → both n p ≡ true → p .after < n
+both-low n p t = ltb-true (p .after) n (and-second (ltb (p .before) n) (ltb (p .after) n) t)
+
+module _ (b a n v : ℕ) (is : v ≡ b) where
+  pub both-told : (w : ℕ) → w ≡ a → v < n → ltb w n ≡ both n (record { before = b; after = a })
+  both-told w e h = rw (lt-ltb b n (omega arith), e)
+
+  pub both-high : n ≤ v → false ≡ both n (record { before = b; after = a })
+  both-high h = rw (le-ltb b n (omega arith))
 
 -- ---- the tally
 
@@ -73,21 +78,24 @@ module _ (n : ℕ) (pairs : List ℕ) (at : ℕ) (w : List ℕ) (more : at + 1 <
         (omega (arith, part .small a)))
         (λ (d : x ≡ a → ⊥). rw (getD-set-other w a x (getD w a 0 + 1) 0 d) (omega (arith, part .small x))) (same-or x a)
 
-    pub tally-hit : (b a : ℕ) → b ≡ getD pairs at 0 → a ≡ getD pairs (at + 1) 0 → b < n → a < n → n ≤ CONTOURS
+    pub tally-low : (a : ℕ) → a ≡ getD pairs (at + 1) 0 → both n (pairAt pairs at) ≡ true → n ≤ CONTOURS → a < CONTOURS
+    tally-low a q t low = omega (arith, both-low n (pairAt pairs at) t)
+
+    pub tally-hit : (a : ℕ) → a ≡ getD pairs (at + 1) 0 → both n (pairAt pairs at) ≡ true → n ≤ CONTOURS
         → TallyPart n pairs (at + 2) (set w a (getD w a 0 + 1))
-    tally-hit b a p q hb ha low = record {
+    tally-hit a q t low = record {
       size = length-set w a (getD w a 0 + 1) ∙ part .size;
       within = omega arith;
-      small = tally-small a (omega arith);
-      left = rw q (rw (both-yes n (pairAt pairs at) (rw p at hb) (rw q at ha)) at tally-walk);
+      small = tally-small a (tally-low a q t low);
+      left = rw q (rw t at tally-walk);
     }
 
-    pub tally-miss : (getD pairs at 0 < n → getD pairs (at + 1) 0 < n → ⊥) → TallyPart n pairs (at + 2) w
-    tally-miss out = record {
+    pub tally-miss : both n (pairAt pairs at) ≡ false → TallyPart n pairs (at + 2) w
+    tally-miss f = record {
       size = part .size;
       within = omega arith;
       small = λ a. omega (arith, part .small a);
-      left = rw (both-no n (pairAt pairs at) out) at tally-walk;
+      left = rw f at tally-walk;
     }
 
 pub tally-all : (n : ℕ) (pairs : List ℕ) (at : ℕ) (w : List ℕ) → length pairs ≤ at + 1 → TallyPart n pairs at w
@@ -158,11 +166,14 @@ module _ (w o : List ℕ) (k a : ℕ) (roomy : HasRoom w o k) (ha : a < CONTOURS
   in-waits : a < length w
   in-waits = omega (arith, roomy .size)
 
-  -- there is a place left for a position that one pair holds back
-  pub room-left : getD w a 0 ≡ 1 → k < CONTOURS
-  room-left e =
+  -- a position that one pair holds back has a place left in the order
+  room-next : getD w a 0 ≡ 1 → k + 1 + heldCount (set w a 0) ≤ CONTOURS
+  room-next e =
       let h : heldCount (set w a 0) + held (getD w a 0) ≡ heldCount w + held 0 = held-set w a 0 in-waits in
       omega (arith, held-yes (getD w a 0) (omega arith), held-no 0 refl, roomy .room)
+
+  pub room-left : getD w a 0 ≡ 1 → k < CONTOURS
+  room-left e = omega (arith, room-next e)
 
   pub loosen-last : getD w a 0 ≡ 1 → Stands (loosened (standing w o k) a) (set w a 0) (set o k a) (k + 1)
   unfolding loosened
@@ -170,9 +181,7 @@ module _ (w o : List ℕ) (k a : ℕ) (roomy : HasRoom w o k) (ha : a < CONTOURS
     roomy = record {
       size = length-set w a 0 ∙ roomy .size;
       filled = rw longer (filled-more CONTOURS o k (take k o) a (room-left e) (roomy .filled));
-      room =
-          let h : heldCount (set w a 0) + held (getD w a 0) ≡ heldCount w + held 0 = held-set w a 0 in-waits in
-          omega (arith, held-yes (getD w a 0) (omega arith), held-no 0 refl, roomy .room);
+      room = room-next e;
     };
     is = rw (longer, e);
   }
@@ -203,12 +212,9 @@ module _ (b a x n : ℕ) where
   pub counts-other : (b ≡ x → ⊥) → false ≡ (eqb b x && both n (record { before = b; after = a }))
   counts-other d = rw (ne-eqb b x d)
 
-  pub counts-low : (v w : ℕ) → b ≡ x → v ≡ b → w ≡ a → v < n
-      → ltb w n ≡ (eqb b x && both n (record { before = b; after = a }))
-  counts-low v w e p q h = rw (eq-eqb b x e, lt-ltb b n (omega arith), q)
-
-  pub counts-high : (v : ℕ) → b ≡ x → v ≡ b → n ≤ v → false ≡ (eqb b x && both n (record { before = b; after = a }))
-  counts-high v e p h = rw (eq-eqb b x e, le-ltb b n (omega arith))
+  pub counts-same : (r : Bool) → b ≡ x → r ≡ both n (record { before = b; after = a })
+      → r ≡ (eqb b x && both n (record { before = b; after = a }))
+  counts-same r e q = rw (eq-eqb b x e) q
 
 -- ---- all pairs of one position
 
@@ -242,13 +248,13 @@ module _ (n x : ℕ) (pairs : List ℕ) (at : ℕ) (s : Kahn) (w o : List ℕ) (
 
   -- a pair that counts has its second below the limit
   pub release-low : (a : ℕ) → a ≡ getD pairs (at + 1) 0 → n ≤ CONTOURS → r ≡ true → a < CONTOURS
-  release-low a p low t = ⊎-elim
-      (λ (h : a < n). omega arith)
-      (λ (h : n ≤ a). absurd (let z : _≡_ {A = ℕ} 0 1 = cc (sym t ∙ is ∙ none h) in omega arith)) (lt-or a n)
-    where
-      none : n ≤ a → (eqb (getD pairs at 0) x && both n (pairAt pairs at)) ≡ false
-      none h = rw (both-no n (pairAt pairs at) (λ _ l. omega (arith, rw (← p) at l)))
-          (and-false (eqb (getD pairs at 0) x))
+  release-low a p low t =
+      omega (
+        arith,
+        p,
+        both-low n (pairAt pairs at)
+            (and-second (eqb (getD pairs at 0) x) (both n (pairAt pairs at)) (sym is ∙ t)),
+      )
 
 pub release-all : (n x : ℕ) (pairs : List ℕ) (at : ℕ) (s : Kahn) (w o : List ℕ) (k : ℕ) → length pairs ≤ at + 1 →
     ReleasePart n x pairs at s w o k → Stands (released n x (paired pairs) s) w o k

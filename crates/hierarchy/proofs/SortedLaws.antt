@@ -27,7 +27,7 @@ use Rattle.hierarchy.specs.declared.Order.{Order}
 use Rattle.hierarchy.specs.Questions.{pairsCheck, orderOf, topologicalSort}
 use Rattle.keep.specs.Legal.{Legal}
 use Rattle.hierarchy.proofs.CheckLaws.{fine-small, sort-cycle, sort-told}
-use Rattle.hierarchy.proofs.SortLaws.{both-yes, zeros, tallied-length, queue-step, queue-end}
+use Rattle.hierarchy.proofs.SortLaws.{both-yes, both-low, zeros, tallied-length, queue-step, queue-end}
 use Rattle.closure.proofs.CountLaws.{anyBelow, met, met-is, met-at, Different, met-not, different-few, all-many, Least}
 use Rattle.closure.proofs.CountLaws.{least}
 use Rattle.keep.proofs.OrderLaws.{legal-acyclic}
@@ -259,8 +259,7 @@ module _ (n : ℕ) (small : n ≤ CONTOURS) (pairs : List ℕ) (done : ℕ → B
 
     low : into < n
     unfolding into
-    low = ltb-true (p .after) n (and-second (ltb (p .before) n) (ltb (p .after) n)
-        (and-second (eqb (p .before) x) (both n p) t))
+    low = both-low n p (and-second (eqb (p .before) x) (both n p) t)
 
     this-goes : goes n x into p ≡ true
     unfolding into
@@ -481,7 +480,7 @@ unfolding tallied pairCount
 tallied-counts n small none no' a h [] w size = omega arith
 tallied-counts n small none no' a h (p ∷ ps) w size = ⊎-elim
     (λ (t : both n p ≡ true). rw (t, no' (p .before)) (
-    let low : p .after < n = ltb-true (p .after) n (and-second (ltb (p .before) n) (ltb (p .after) n) t) in
+    let low : p .after < n = both-low n p t in
     let rec : getD (tallied n ps (heldBack w (p .after))) a 0
     ≡ getD (heldBack w (p .after)) a 0 + pairCount (holds n none a) ps =
     tallied-counts n small none no' a h ps (heldBack w (p .after))

@@ -256,6 +256,16 @@ fn wide32(x: u32) -> usize
     x as usize
 }
 
+// Whether both positions of a pair are below n.
+fn both_below(b: u32, a: u32, n: usize) -> bool
+    ensures { λ r. ⌜ r ≡ both n (record { before = b; after = a }) ⌝ }
+{
+    if wide32(b) < n {
+        return wide32(a) < n;
+    }
+    false
+}
+
 // How many pairs hold each position back.
 fn tally(pairs: &[u32], n: usize) -> [usize; CONTOURS]
     requires { ⌜ n ≤ CONTOURS ⌝ }
@@ -264,13 +274,12 @@ fn tally(pairs: &[u32], n: usize) -> [usize; CONTOURS]
     let mut waits = [0usize; CONTOURS];
     let mut at = 0;
     while at + 1 < pairs.len() {
-        let b = wide32(pairs[at]);
-        let a = wide32(pairs[at + 1]);
+        let b = pairs[at];
+        let a = pairs[at + 1];
         at += 2;
-        if b < n {
-            if a < n {
-                waits[a] += 1;
-            }
+        if both_below(b, a, n) {
+            let k = wide32(a);
+            waits[k] += 1;
         }
     }
     waits
@@ -332,10 +341,7 @@ fn counts(b: u32, a: u32, x: u32, n: usize) -> bool
     if b != x {
         return false;
     }
-    if wide32(b) < n {
-        return wide32(a) < n;
-    }
-    false
+    both_below(b, a, n)
 }
 
 // x's pairs hold nothing back any more.
