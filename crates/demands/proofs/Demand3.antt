@@ -1,12 +1,12 @@
 -- Demand 3 holds. Assumes nothing.
-use mathlib.Core.Path.{_≡_, sym, ap, _∙_, subst}
-use mathlib.Core.List.{List}
-use Prim.Native.Nat.{ℕ, _+_, _*_, _≤_}
+use mathlib.Core.Path.{_≡_, refl, sym, ap, _∙_, subst}
+use mathlib.Core.List.{List, [], _∷_}
+use Prim.Native.Nat.{ℕ, zero, suc, _+_, _*_, _≤_, _<_}
 use native.Mathlib.Nat.{mul-assoc, mul-le-mul-right}
 use native.Mathlib.Omega.{arith}
 use lib.Dec.{T, lit≤}
 use lib.Ieee.{le}
-use lib.ListN.{length, take, drop}
+use lib.ListN.{length, getD, take, drop}
 use lib.Seq.{take-at}
 use Rattle.answer.specs.declared.Check.the-variants.{Fine}
 use Rattle.closure.specs.Limits.{CONTOURS}
@@ -17,15 +17,18 @@ use Rattle.card_laws.proofs.Verdicts.{exactly}
 use Rattle.exact.specs.Length.{lowerEnd, upperEnd, step40}
 use Rattle.exact.specs.Bound.{Enough}
 use Rattle.exact.proofs.SumLaws.{enough-fewer, forty}
-use Rattle.improve.specs.Search.{lengthIn}
+use Rattle.improve.specs.Search.{contours, lengthIn}
 use Rattle.improve.proofs.LengthLaws.{never-longer}
 use Rattle.solve.specs.declared.Outcome.{Outcome}
 use Rattle.tour.specs.declared.Toured.the-variants.{Done}
-use Rattle.instance.specs.Search.{chartOn}
+use Rattle.instance.specs.Search.{countOn, ownersOn, chartOn}
+use Rattle.instance.proofs.OwnerLaws.{first-at, owner-at, seat-of}
 use Rattle.tour.specs.Search.{startOn, endOn, tourOn, outcomeOn}
 use Rattle.tour.specs.Tour.{Left, tourOf}
+use Rattle.tour_laws.specs.Visits.{Visits}
+use Rattle.tour_laws.proofs.BelowLaws.{below-at}
 use Rattle.tour_laws.proofs.TourLaws.{start-visits, tour-long, tour-legal, tour-visits}
-use Rattle.demands.specs.Demand3.{OnGrid, legsOn, nearness, excess, Good, Claim}
+use Rattle.demands.specs.Demand3.{OnGrid, legsOn, nearness, excess, OneOf, Good, Claim}
 use Rattle.demands.proofs.AskedLaws.{toured-if, done-fine, fine-nothing}
 use Rattle.demands.proofs.NearLaws.{home-fits, near-of, number-of, excess-of}
 
@@ -39,6 +42,40 @@ twice n = lit≤ tt
 -- twice the one bound is within the other, whatever the step
 more : (u w b e g : ℕ) → 2 * b ≤ e → u ≤ w + 2 * (b * g) → u ≤ w + e * g
 more u w b e g h l = let m : 2 * b * g ≤ e * g = mul-le-mul-right g h in let a = mul-assoc 2 b g in omega arith
+
+-- the contour at a position of a tour
+contour-at : (owner tour : List ℕ) (p : ℕ) → p < length tour
+    → getD (contours owner tour) p 0 ≡ getD owner (getD tour p 0) 0
+unfolding contours
+contour-at owner [] p h = absurd (omega arith)
+contour-at owner (a ∷ tour) zero h = refl
+contour-at owner (a ∷ tour) (suc p) h = contour-at owner tour p (omega arith)
+
+-- every candidate is one of its contour's
+own : (s : List ℕ) (a : ℕ) → a < countOn s → OneOf s (getD (ownersOn s) a 0) a
+own s a h =
+    let n = contoursOf s in
+    let seat = seat-of s n a h in
+    let k = seat .0 in
+    let below = seat .1 .below in
+    let from = seat .1 .from in
+    let to = seat .1 .to in
+    subst (λ (k : ℕ). OneOf s k a) (sym (owner-at s n k a below from to))
+    (record {
+      is-contour = below;
+      is-candidate = h;
+      from = rw (first-at s n k (omega arith)) from;
+      to = rw (first-at s n (suc k) below) to;
+    })
+
+-- so is each entry of a tour that visits the card's contours
+entry : (s tour : List ℕ) → Visits s tour → (p : ℕ) → p < contoursOf s
+    → OneOf s (getD (contours (ownersOn s) tour) p 0) (getD tour p 0)
+entry s tour v p h =
+    let long = v .long in
+    let inside : p < length tour = omega arith in
+    subst (λ (k : ℕ). OneOf s k (getD tour p 0)) (sym (contour-at (ownersOn s) tour p inside))
+    (own s (getD tour p 0) (below-at (countOn s) tour p (v .among) inside))
 
 module _ (s : List ℕ) (fine : checkOf s ≡ Fine) (grid : OnGrid s) where
   abbrev bound : (a : ℕ) × Enough (contoursOf s) a (nearness (contoursOf s))
@@ -60,6 +97,8 @@ module _ (s : List ℕ) (fine : checkOf s ≡ Fine) (grid : OnGrid s) where
 
   good : Good s (tourOn s) (outcomeOn s)
   good = record {
+    entries = tour-long s fine;
+    candidates = entry s (tourOn s) (tour-visits s fine);
     legal = tour-legal s fine;
     near = near-of s grid (bound .0) (nearness (contoursOf s)) (bound .1) (tourOn s) (tour-visits s fine);
     not-longer = not-longer;

@@ -1,12 +1,13 @@
--- Demand 3: where home and all candidates of a card lie on a grid, the tour that is handed out cuts each contour once
--- and of each pair the first before the second; the length reported is within 2^-28 mm of the exact one; and the tour
--- is at most 2^-27 mm longer than the start, exactly. tourOf is what `tour::tour` promises. Assumes nothing.
+-- Demand 3: where home and all candidates of a card lie on a grid, the tour that is handed out cuts each contour once,
+-- at one of the contour's own candidates, and of each pair the first before the second; the length reported is within
+-- 2^-28 mm of the exact one; and the tour is at most 2^-27 mm longer than the start, exactly. tourOf is what
+-- `tour::tour` promises. Assumes nothing.
 use mathlib.Core.Path.{_≡_}
 use mathlib.Core.List.{List, map}
-use Prim.Native.Nat.{ℕ, _+_, _*_, _^_, _≤_, _<_}
+use Prim.Native.Nat.{ℕ, suc, _+_, _*_, _^_, _≤_, _<_}
 use lib.Dec.{T}
 use lib.Ieee.{Float}
-use lib.ListN.{getD, take}
+use lib.ListN.{length, getD, take}
 use Rattle.answer.specs.declared.Point.{Point}
 use Rattle.table.specs.Distances.{absent, pierced}
 use Rattle.exact.specs.Grid.{gridPoint, squaredLength}
@@ -17,7 +18,7 @@ use Rattle.solve.specs.declared.Outcome.{Outcome}
 use Rattle.fields.specs.Layout.{contoursOf}
 use Rattle.card_laws.specs.Orders.{LegalOrder}
 use Rattle.tour.specs.declared.Toured.the-variants.{Done}
-use Rattle.instance.specs.Search.{homeOn, candidatesOn, countOn, ownersOn}
+use Rattle.instance.specs.Search.{homeOn, candidatesOn, countOn, ownersOn, firstsOn}
 use Rattle.tour.specs.Search.{startOn}
 use Rattle.tour.specs.Tour.{tourOf}
 
@@ -42,10 +43,20 @@ nearness n = 2 ^ 12
 abbrev pub excess : ℕ → ℕ
 excess n = 2 ^ 13
 
--- what is claimed of a tour and what is told of it: legal; its length a finite number, not below zero and near to both
--- ends of the interval that the exact length lies in; and its upper end no more than the excess above the start's lower
--- end. All lengths are whole numbers of steps of 2^-1074 mm
+-- number a is that of one of the card's candidates, and of one of contour k's: they are numbered contour after contour
+pub record OneOf (s : List ℕ) (k a : ℕ) : Type 0 where
+  pub is-contour : k < contoursOf s
+  pub is-candidate : a < countOn s
+  pub from : getD (firstsOn s) k 0 ≤ a
+  pub to : a < getD (firstsOn s) (suc k) 0
+
+-- what is claimed of a tour and what is told of it: an entry for each contour, the number of one of the candidates of
+-- the contour that is cut there; legal; its length a finite number, not below zero and near to both ends of the interval
+-- that the exact length lies in; and its upper end no more than the excess above the start's lower end. All lengths are
+-- whole numbers of steps of 2^-1074 mm
 pub record Good (s tour : List ℕ) (told : Outcome) : Type 0 where
+  pub entries : length tour ≡ contoursOf s
+  pub candidates : (p : ℕ) → p < contoursOf s → OneOf s (getD (contours (ownersOn s) tour) p 0) (getD tour p 0)
   pub legal : LegalOrder s (contours (ownersOn s) tour)
   pub near : NearEnds (nearness (contoursOf s)) (told .length) (legsOn s tour)
   pub not-longer : upperEnd (legsOn s tour) * step40

@@ -1,19 +1,21 @@
 -- The exports answer as the tour's question does. Assumes nothing.
-use mathlib.Core.Path.{_≡_, refl, sym, ap, _∙_}
+use mathlib.Core.Path.{_≡_, refl, sym, ap, _∙_, subst}
 use mathlib.Core.Bool.{Bool, true, false, true≢false}
 use mathlib.Core.List.{List, [], _∷_}
-use Prim.Native.Nat.{ℕ, _*_, _<_}
+use Prim.Native.Nat.{ℕ, _+_, _*_, _-_, _^_, _%_, _≤_, _<_, min}
 use native.Mathlib.Omega.{arith}
-use borrow.Author.Tests.{le-ltb}
+use borrow.Author.Tests.{le-ltb, le-leb, lt-leb}
 use lib.Dec.{ltb}
 use lib.Ieee.{Float}
 use lib.ListN.{length}
 use Rattle.answer.specs.declared.Check.{Check}
 use Rattle.answer.specs.declared.Check.the-variants.{Fine, Refused}
+use Rattle.answer.specs.declared.Refusal.{Refusal}
 use Rattle.answer.specs.Code.{codeOf}
 use Rattle.answer.specs.Stage.{firstRefusal}
 use Rattle.answer.proofs.CodeLaws.{code-number, code-place}
 use Rattle.answer.specs.Lowest.{refuseIf}
+use Rattle.fields.specs.Limits.{cardBytes}
 use Rattle.fields.specs.Layout.{contoursOf}
 use Rattle.card.specs.Verdict.{checkOf}
 use Rattle.card_laws.specs.Table.{Given, one, two, three, four, five, three-later, six, seven, eight, nine, ten, eleven}
@@ -22,9 +24,16 @@ use Rattle.card_laws.proofs.Verdicts.{exactly}
 use Rattle.table.proofs.PlaceLaws.{square-small}
 use Rattle.instance.proofs.FineLaws.{few-candidates}
 use Rattle.instance.specs.Search.{countOn}
+use Rattle.questions.specs.declared.Located.{Located}
+use Rattle.questions.specs.declared.Located.the-variants as located
+use Rattle.questions.specs.Index.{numberCheck, locatedOf}
+use Rattle.questions.proofs.IndexLaws.{place-refused}
+use Rattle.tour.specs.declared.Toured.{Toured}
+use Rattle.tour.specs.declared.Toured.the-variants as answer
 use Rattle.tour.specs.Tour.{Left, roomCheck, tourCheck, toured, touredUnless, tourOf}
-use Rattle.host.specs.Hosts.{Hosted, hostCheck, hostedUnless, hostTour}
-use Rattle.host.specs.Exports.{asTold, Coded, TourTold, Claim}
+use Rattle.host.specs.Hosts.{Hosted, hostCheck, hostedUnless, hostTour, hostPlace}
+use Rattle.host.specs.Exports.{asTold, Coded, TourTold, Holds, CardRead, NumberRead, Claim}
+use Rattle.host.proofs.BoundLaws.{check-near, tour-near}
 
 module _ (s room : List ℕ) (table : List Float) (moves bits : ℕ) where
   -- both by what the check says, and by whether each room is too small
@@ -80,11 +89,14 @@ zero-fine s (Refused r) e z =
     let n = code-number r in
     absurd (omega arith)
 
+place-cut : (r : Refusal) → codeOf (Refused r) % 2 ^ 32 ≡ min (r .place) (2 ^ 32 - 1)
+place-cut r = omega arith
+
 coded : Coded
 coded = record {
   good = λ s. (zero-fine s (checkOf s) refl, λ e. ap codeOf e);
   number = code-number;
-  place = code-place;
+  place = place-cut;
 }
 
 -- the exported tour is the tour of the question
@@ -97,5 +109,52 @@ toured-so s room table moves bits large =
     (λ fine. le-ltb (length table) (countOn s * countOn s)
     (let few = square-small (countOn s) (few-candidates s fine) in omega arith)))
 
+-- ---- read back
+
+-- a place that is not beyond the longest card's is held whole
+holds : (r : Refusal) → r .place ≤ cardBytes + 1 → Holds (codeOf (Refused r)) r
+holds r near = record { number = code-number r; place = code-place r (omega arith) }
+
+-- where the tour is refused, the host is told that refusal
+tour-code : (t : Toured) (room : List ℕ) (moves bits : ℕ) (r : Refusal) → t ≡ answer.Refused r
+    → asTold t room moves bits .answer ≡ codeOf (Refused r)
+tour-code t room moves bits r e = ap (λ (z : Toured). asTold z room moves bits .answer) e
+
+-- and so where a candidate's place is
+place-code : (l : Located) (contour within : ℕ) (r : Refusal) → located.Refused r ≡ l
+    → hostPlace l contour within .answer ≡ codeOf (Refused r)
+place-code l contour within r e = ap (λ (z : Located). hostPlace z contour within .answer) (sym e)
+
+module _ (s : List ℕ) where
+  card-read : CardRead s
+  card-read = record {
+    jl-check = λ r e. subst (λ (c : Check). Holds (codeOf c) r) (sym e) (holds r (check-near s r e));
+    tour = λ room table r h. holds r (tour-near s room table r h);
+    jl-tour = λ room table moves bits large r h.
+        subst (λ (n : ℕ). Holds n r)
+        (sym (ap (λ (l : Hosted). l .answer) (toured-so s room table moves bits large)
+        ∙ tour-code _ (tourOf s room table .room) moves bits r h))
+        (holds r (tour-near s room table r h));
+    jl-place = λ candidate contour within r e.
+        subst (λ (n : ℕ). Holds n r)
+        (sym (place-code (locatedOf s candidate) contour within r
+        (place-refused s (checkOf s) refl candidate r e)))
+        (holds r (check-near s r e));
+  }
+
+  module _ (fine : checkOf s ≡ Fine) (candidate contour within : ℕ) where
+    some-candidate : candidate < countOn s → hostPlace (locatedOf s candidate) contour within .answer ≡ 0
+    unfolding locatedOf numberCheck firstRefusal
+    some-candidate h = rw (fine, lt-leb (countOn s) candidate h)
+
+    no-candidate : countOn s ≤ candidate
+        → Holds (hostPlace (locatedOf s candidate) contour within .answer)
+        (record { number = 15; place = min candidate (2 ^ 32 - 1) })
+    unfolding locatedOf numberCheck firstRefusal
+    no-candidate h = rw (fine, le-leb (countOn s) candidate h) (record { number = omega arith; place = omega arith })
+
+    number-read : NumberRead s candidate contour within
+    number-read = record { good = some-candidate; none = no-candidate }
+
 pub claim : Claim
-claim = (coded, toured-so)
+claim = (coded, toured-so, card-read, number-read)

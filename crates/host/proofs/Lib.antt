@@ -1,3 +1,4 @@
+pub mod BoundLaws
 pub mod Exports
 pub mod HostLaws
 pub mod Unique
