@@ -5,6 +5,7 @@ use Rattle.card_laws.proofs.OrderRows.{twelve-exactly}
 use Rattle.card_laws.proofs.Verdicts.{exactly}
 use Rattle.demands.specs.Demand1.{Checked, Claim}
 use Rattle.demands.proofs.AskedLaws.{asked}
+use Rattle.demands.proofs.Doors.{doors}
 
 checked : (s : List ℕ) → Checked s
 checked s = record {
@@ -14,4 +15,4 @@ checked s = record {
 }
 
 pub claim : Claim
-claim = (checked, asked)
+claim = (checked, asked, doors)

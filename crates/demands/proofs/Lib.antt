@@ -1,4 +1,5 @@
 pub mod AskedLaws
+pub mod Doors
 pub mod Demand1
 pub mod ChosenLaws
 pub mod NextLaws

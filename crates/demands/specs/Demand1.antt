@@ -1,8 +1,9 @@
 -- Demand 1: a card is sent back exactly when the table of refusals says so, with the number and the place that it says,
--- and then nothing that was lent has changed; and a card without an earlier fault is sent back with 12 exactly when
--- there is no order in which it could be cut. s is the card, any bytes whatever; room and table are lent for the tour
--- and for the distances, of any size. checkOf is what `card::check` promises and tourOf what `tour::tour` does; the
--- rows of the table are in card_laws/specs/Table, the orders in card_laws/specs/Orders. Assumes nothing.
+-- by whatever door it came, and then nothing that was lent has changed; and a card without an earlier fault is sent
+-- back with 12 exactly when there is no order in which it could be cut. s is the card, any bytes whatever; room and
+-- table are lent for the tour and for the distances, of any size. checkOf is what `card::check` promises and tourOf what
+-- `tour::tour` does; the rows of the table are in card_laws/specs/Table, the orders in card_laws/specs/Orders, the other
+-- doors in Doors. Assumes nothing.
 use mathlib.Core.Path.{_≡_}
 use mathlib.Core.Logic.{_↔_}
 use mathlib.Core.List.{List}
@@ -19,6 +20,7 @@ use Rattle.tour.specs.declared.Toured.the-variants as answer
 use Rattle.instance.specs.Search.{countOn}
 use Rattle.tour.specs.Search.{outcomeOn}
 use Rattle.tour.specs.Tour.{tourOf}
+use Rattle.demands.specs.Doors.{Doors}
 
 -- ---- 13
 
@@ -56,5 +58,8 @@ pub record Asked (s room : List ℕ) (table : List Float) : Type 0 where
   pub room-kept : (r : Refusal) → tourOf s room table .answer ≡ answer.Refused r → tourOf s room table .room ≡ room
   pub table-kept : (r : Refusal) → tourOf s room table .answer ≡ answer.Refused r → tourOf s room table .table ≡ table
 
+-- and at every other door, the card's own refusals are passed on and no door adds to them
 abbrev pub Claim : Type 0
-Claim = ((s : List ℕ) → Checked s) × ((s room : List ℕ) (table : List Float) → Asked s room table)
+Claim =
+    ((s : List ℕ) → Checked s) × ((s room : List ℕ) (table : List Float) → Asked s room table)
+    × ((s : List ℕ) → Doors s)
