@@ -1,39 +1,125 @@
 -- The starred table holds: each row is computed. Assumes nothing.
-use mathlib.Core.Path.{refl}
+use mathlib.Core.Path.{_≡_, refl, _∙_}
+use mathlib.Core.List.{List, []}
+use Prim.Native.Nat.{ℕ, _*_, _≤_}
+use Prim.Native.String.{String}
+use lib.Ieee.{Float, ofBits, ofFields, odd, size, span, climb, round, units}
+use lib.Count.{trailingZeros}
+use lib.ListN.{length, getD}
+use Rattle.answer.specs.declared.Refusal.{Refusal}
+use Rattle.answer.specs.declared.Check.the-variants as check
+use Rattle.answer.specs.declared.CutDirection.{CutDirection}
+use Rattle.answer.specs.Stage.{firstRefusal}
+use Rattle.answer.specs.Lowest.{lowest, lowestFrom}
+use Rattle.root.specs.Whole.{digits, wholeRoot, halves}
+use Rattle.root.specs.Root.{rootFinite, rootOf}
 use Rattle.root.proofs.Starred.{starred-roots}
+use Rattle.points.specs.Points.{points}
+use Rattle.points.specs.Bad.{badNumber, badPoint, badAt, firstBad}
+use Rattle.points.specs.Square.{square}
 use Rattle.cost.proofs.Starred.{closest-of-square}
+use Rattle.candidates.specs.Direction.{directionOf}
+use Rattle.candidates.specs.Generate.{blank, candidatesOf, filled}
+use Rattle.candidates.specs.Question.{oneContour, offeredOf}
 use Rattle.candidates.proofs.Starred.{two-of-square, second-of-four}
+use Rattle.fields.specs.Layout.{contoursOf}
+use Rattle.card.specs.Verdict.{checkOf}
+use Rattle.card_laws.specs.Card.{Card}
+use Rattle.card_laws.specs.Write.{written}
+use Rattle.card_laws.specs.Examples.{asJob41, job41, selfPair, waiting}
 use Rattle.card_laws.proofs.Starred.{examples}
+use Rattle.card_laws.proofs.Verdicts.{exactly}
+use Rattle.instance.specs.Search.{countOn}
+use Rattle.tour.specs.Tour.{toured, tourOf}
 use Rattle.tour_laws.proofs.Computes.{tour-computes}
-use Rattle.demands.specs.Starred.{lineOf, OfRoots, OfSquare, OfNothing, OfCycles, OfJob41, Claim}
+use Rattle.text.specs.Text.{bytes, decimalIn, decimalOf, hexOf}
+use Rattle.list.specs.Lines.{headLine, wayWord, nameWords, placeLine, stopLine, stopLines, outcomeLines, tourLines}
+use Rattle.list.specs.Lines.{listOf}
+use Rattle.demands.specs.Doors.{refusedLine}
+use Rattle.demands.specs.Demand1.{Nothing}
+use Rattle.demands.specs.Starred.{OfRoots, OfSquare, GoesBack, OfNothing, OfCycles, OfJob41, Claim}
+use Rattle.demands.proofs.AskedLaws.{asked, toured-if, done-fine}
+use Rattle.demands.proofs.Doors.{doors}
 
--- what a line of the list is computed through
-line-computes : Unit {0}
-unfolding tour-computes lineOf
-line-computes = tt
+-- what the list of a card is computed through
+list-computes : Unit {0}
+unfolding tour-computes listOf tourLines headLine stopLines stopLine placeLine nameWords wayWord outcomeLines decimalOf
+    decimalIn hexOf
+list-computes = tt
+
+-- ---- roots and the square
 
 of-roots : OfRoots
+unfolding rootOf rootFinite wholeRoot digits halves ofBits ofFields odd size span climb round units trailingZeros
 of-roots = record {
-  root-four = starred-roots .0;
-  root-quarter = starred-roots .1;
-  root-above-one = starred-roots .2;
-  root-below-one = starred-roots .3;
-  root-smallest = starred-roots .4;
+  root-four = record { asked = refl; within = starred-roots .0 };
+  root-quarter = record { asked = refl; within = starred-roots .1 };
+  root-above-one = record { asked = refl; within = starred-roots .2 };
+  root-below-one = record { asked = refl; within = starred-roots .3 };
+  root-smallest = record { asked = refl; within = starred-roots .4 };
 }
 
+-- nothing is wrong with the square, two or four candidates wanted
+square-fine : (oneContour square 2 ≡ check.Fine) × (oneContour square 4 ≡ check.Fine)
+unfolding oneContour firstRefusal firstBad lowest lowestFrom badAt badPoint badNumber points
+    ofBits ofFields odd size span climb round units trailingZeros
+square-fine = (refl, refl)
+
+-- four candidates, the second as it is in the room that they are handed out in
+four-of-square : (way : CutDirection) → let all = candidatesOf way (points square) 4 in
+    (length all ≡ 4) × (getD (filled all .items) 1 blank ≡ getD all 1 blank)
+unfolding tour-computes points filled
+four-of-square way = (refl, refl)
+
 of-square : OfSquare
-of-square = record { two-candidates = two-of-square; second-of-four = second-of-four; closest = closest-of-square }
+unfolding offeredOf filled
+of-square = record {
+  two-candidates = λ kind exterior interior. rw (square-fine .0, two-of-square _);
+  second-of-four = λ kind exterior interior.
+      let way = directionOf kind exterior interior in
+      rw (square-fine .1)
+      (refl, four-of-square way .0, four-of-square way .1 ∙ second-of-four way);
+  closest = closest-of-square;
+}
+
+-- ---- cards
+
+-- where a card is fine and the rooms are large enough, they hold what the tour's definition says
+in-rooms : (s room : List ℕ) (table : List Float) → checkOf s ≡ check.Fine → contoursOf s ≤ length room
+    → countOn s * countOn s ≤ length table → tourOf s room table ≡ toured s room table
+in-rooms s room table fine seats entries =
+    let nothing : Nothing s room table = record { sound = exactly s .fine-only fine; room-enough = seats; table-enough = entries } in
+    done-fine s room table (toured-if s room table _ (asked s room table .done .1 nothing))
+
+-- what goes back goes back from every door
+back : (c : Card) (r : Refusal) (list : String) → checkOf (written c) ≡ check.Refused r
+    → refusedLine r ≡ bytes list → GoesBack c r list
+back c r list e line =
+    let on = doors (written c) .passed-on r (exactly (written c) .refused-only r e) in
+    record { checked = e; toured = on .tour; printed = on .write-list ∙ line }
 
 of-nothing : OfNothing
-unfolding line-computes
-of-nothing = record { empty-fine = examples .empty; empty-list = refl; empty-told = refl }
+unfolding list-computes
+of-nothing = record {
+  checked = examples .empty;
+  toured = λ room table seats entries. in-rooms (written (asJob41 [] [])) room table (examples .empty) seats entries;
+  printed = refl;
+}
 
 of-cycles : OfCycles
-of-cycles = record { self-pair = examples .on-itself; waiting-only = examples .on-a-cycle }
+unfolding decimalOf decimalIn
+of-cycles = record {
+  self-pair = back selfPair _ _ (examples .on-itself) refl;
+  waiting-only = back waiting _ _ (examples .on-a-cycle) refl;
+}
 
 of-job41 : OfJob41
-unfolding line-computes
-of-job41 = record { job-fine = examples .job41-fine; job = refl; list = refl; told = refl }
+unfolding list-computes
+of-job41 = record {
+  checked = examples .job41-fine;
+  toured = λ room table seats entries. in-rooms (written job41) room table (examples .job41-fine) seats entries;
+  printed = refl;
+}
 
 pub claim : Claim
 claim = record {
