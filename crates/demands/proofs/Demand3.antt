@@ -1,7 +1,7 @@
 -- Demand 3 holds. Assumes nothing.
-use mathlib.Core.Path.{_≡_, refl, sym, ap, _∙_, subst}
-use mathlib.Core.List.{List, [], _∷_}
-use Prim.Native.Nat.{ℕ, zero, suc, _+_, _*_, _≤_, _<_}
+use mathlib.Core.Path.{_≡_, sym, ap, _∙_, subst}
+use mathlib.Core.List.{List}
+use Prim.Native.Nat.{ℕ, suc, _+_, _*_, _≤_, _<_}
 use native.Mathlib.Nat.{mul-assoc, mul-le-mul-right}
 use native.Mathlib.Omega.{arith}
 use lib.Dec.{T, lit≤}
@@ -27,7 +27,7 @@ use Rattle.tour.specs.Search.{startOn, endOn, tourOn, outcomeOn}
 use Rattle.tour.specs.Tour.{Left, tourOf}
 use Rattle.tour_laws.specs.Visits.{Visits}
 use Rattle.tour_laws.proofs.BelowLaws.{below-at}
-use Rattle.tour_laws.proofs.TourLaws.{start-visits, tour-long, tour-legal, tour-visits}
+use Rattle.tour_laws.proofs.TourLaws.{contour-at, start-visits, tour-long, tour-legal, tour-visits}
 use Rattle.demands.specs.Demand3.{OnGrid, legsOn, nearness, excess, OneOf, Good, Claim}
 use Rattle.demands.proofs.AskedLaws.{toured-if, done-fine, fine-nothing}
 use Rattle.demands.proofs.NearLaws.{home-fits, near-of, number-of, excess-of}
@@ -42,14 +42,6 @@ twice n = lit≤ tt
 -- twice the one bound is within the other, whatever the step
 more : (u w b e g : ℕ) → 2 * b ≤ e → u ≤ w + 2 * (b * g) → u ≤ w + e * g
 more u w b e g h l = let m : 2 * b * g ≤ e * g = mul-le-mul-right g h in let a = mul-assoc 2 b g in omega arith
-
--- the contour at a position of a tour
-contour-at : (owner tour : List ℕ) (p : ℕ) → p < length tour
-    → getD (contours owner tour) p 0 ≡ getD owner (getD tour p 0) 0
-unfolding contours
-contour-at owner [] p h = absurd (omega arith)
-contour-at owner (a ∷ tour) zero h = refl
-contour-at owner (a ∷ tour) (suc p) h = contour-at owner tour p (omega arith)
 
 -- every candidate is one of its contour's
 own : (s : List ℕ) (a : ℕ) → a < countOn s → OneOf s (getD (ownersOn s) a 0) a

@@ -64,7 +64,8 @@ module _ (s : List ℕ) (r : Refusal) (e : checkOf s ≡ Refused r) where
   place-told candidate contour within =
       rw (← place-refused s (checkOf s) refl candidate r e, code-is)
 
-  passed-on : PassedOn s r
+  -- every door answers so
+  pub passed-on : PassedOn s r
   passed-on = record {
     tour = λ room table. sym (tour-refused s room table (checkOf s) refl r e);
     evaluate = λ order. sym (order-refused s order (checkOf s) refl r e);

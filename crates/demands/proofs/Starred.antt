@@ -1,5 +1,5 @@
 -- The starred table holds: each row is computed. Assumes nothing.
-use mathlib.Core.Path.{_≡_, refl, _∙_}
+use mathlib.Core.Path.{_≡_, refl, sym, ap, _∙_}
 use mathlib.Core.List.{List, []}
 use Prim.Native.Nat.{ℕ, _*_, _≤_}
 use Prim.Native.String.{String}
@@ -7,6 +7,7 @@ use lib.Ieee.{Float, ofBits, ofFields, odd, size, span, climb, round, units}
 use lib.Count.{trailingZeros}
 use lib.ListN.{length, getD}
 use Rattle.answer.specs.declared.Refusal.{Refusal}
+use Rattle.answer.specs.declared.Check.{Check}
 use Rattle.answer.specs.declared.Check.the-variants as check
 use Rattle.answer.specs.declared.CutDirection.{CutDirection}
 use Rattle.answer.specs.Stage.{firstRefusal}
@@ -28,18 +29,16 @@ use Rattle.card_laws.specs.Card.{Card}
 use Rattle.card_laws.specs.Write.{written}
 use Rattle.card_laws.specs.Examples.{asJob41, job41, selfPair, waiting}
 use Rattle.card_laws.proofs.Starred.{examples}
-use Rattle.card_laws.proofs.Verdicts.{exactly}
 use Rattle.instance.specs.Search.{countOn}
-use Rattle.tour.specs.Tour.{toured, tourOf}
+use Rattle.tour.specs.Tour.{toured, touredUnless, tourOf}
+use Rattle.tour.proofs.DoorLaws.{rooms-fine, tour-fine}
 use Rattle.tour_laws.proofs.Computes.{tour-computes}
 use Rattle.text.specs.Text.{bytes, decimalIn, decimalOf, hexOf}
 use Rattle.list.specs.Lines.{headLine, wayWord, nameWords, placeLine, stopLine, stopLines, outcomeLines, tourLines}
 use Rattle.list.specs.Lines.{listOf}
 use Rattle.demands.specs.Doors.{refusedLine}
-use Rattle.demands.specs.Demand1.{Nothing}
 use Rattle.demands.specs.Starred.{OfRoots, OfSquare, GoesBack, OfNothing, OfCycles, OfJob41, Claim}
-use Rattle.demands.proofs.AskedLaws.{asked, toured-if, done-fine}
-use Rattle.demands.proofs.Doors.{doors}
+use Rattle.demands.proofs.Doors.{passed-on}
 
 -- what the list of a card is computed through
 list-computes : Unit {0}
@@ -88,14 +87,15 @@ of-square = record {
 in-rooms : (s room : List ℕ) (table : List Float) → checkOf s ≡ check.Fine → contoursOf s ≤ length room
     → countOn s * countOn s ≤ length table → tourOf s room table ≡ toured s room table
 in-rooms s room table fine seats entries =
-    let nothing : Nothing s room table = record { sound = exactly s .fine-only fine; room-enough = seats; table-enough = entries } in
-    done-fine s room table (toured-if s room table _ (asked s room table .done .1 nothing))
+    sym (tour-fine s room table (checkOf s) refl (toured s room table) fine
+    (ap (λ (c : Check). touredUnless c (toured s room table) room table)
+    (rooms-fine s (length room) (length table) (contoursOf s) (countOn s) refl refl seats entries)))
 
 -- what goes back goes back from every door
 back : (c : Card) (r : Refusal) (list : String) → checkOf (written c) ≡ check.Refused r
     → refusedLine r ≡ bytes list → GoesBack c r list
 back c r list e line =
-    let on = doors (written c) .passed-on r (exactly (written c) .refused-only r e) in
+    let on = passed-on (written c) r e in
     record { checked = e; toured = on .tour; printed = on .write-list ∙ line }
 
 of-nothing : OfNothing

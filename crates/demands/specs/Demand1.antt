@@ -1,9 +1,9 @@
 -- Demand 1: a card is sent back exactly when the table of refusals says so, with the number and the place that it says,
 -- by whatever door it came, and then nothing that was lent has changed; and a card without an earlier fault is sent
 -- back with 12 exactly when there is no order in which it could be cut. s is the card, any bytes whatever; room and
--- table are lent for the tour and for the distances, of any size. checkOf is what `card::check` promises and tourOf what
--- `tour::tour` does; the rows of the table are in card_laws/specs/Table, the orders in card_laws/specs/Orders, the other
--- doors in Doors. Assumes nothing.
+-- table are lent for the tour and for the distances, of any size. checkOf is what `card::check` promises and tourOf
+-- what `tour::tour` does; the rows of the table are in card_laws/specs/Table, the orders in card_laws/specs/Orders, the
+-- other doors in Doors. Assumes nothing.
 use mathlib.Core.Path.{_≡_}
 use mathlib.Core.Logic.{_↔_}
 use mathlib.Core.List.{List}

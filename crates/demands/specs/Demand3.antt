@@ -43,7 +43,8 @@ nearness n = 2 ^ 12
 abbrev pub excess : ℕ → ℕ
 excess n = 2 ^ 13
 
--- number a is that of one of the card's candidates, and of one of contour k's: they are numbered contour after contour
+-- number a is that of one of the card's candidates, and of one of contour k's; they are numbered contour after contour,
+-- as Demand2 says in Numbered
 pub record OneOf (s : List ℕ) (k a : ℕ) : Type 0 where
   pub is-contour : k < contoursOf s
   pub is-candidate : a < countOn s
@@ -51,9 +52,9 @@ pub record OneOf (s : List ℕ) (k a : ℕ) : Type 0 where
   pub to : a < getD (firstsOn s) (suc k) 0
 
 -- what is claimed of a tour and what is told of it: an entry for each contour, the number of one of the candidates of
--- the contour that is cut there; legal; its length a finite number, not below zero and near to both ends of the interval
--- that the exact length lies in; and its upper end no more than the excess above the start's lower end. All lengths are
--- whole numbers of steps of 2^-1074 mm
+-- the contour that is cut there; legal; its length a finite number, not below zero and near to both ends of the
+-- interval that the exact length lies in; and its upper end no more than the excess above the start's lower end. All
+-- lengths are whole numbers of steps of 2^-1074 mm
 pub record Good (s tour : List ℕ) (told : Outcome) : Type 0 where
   pub entries : length tour ≡ contoursOf s
   pub candidates : (p : ℕ) → p < contoursOf s → OneOf s (getD (contours (ownersOn s) tour) p 0) (getD tour p 0)

@@ -37,7 +37,7 @@ use Rattle.tour_laws.proofs.RouteLaws.{stopOf, Rides, leg-is}
 use Rattle.tour_laws.proofs.ShuffleLaws.{shuffled-once}
 
 -- the contour at a place of a tour
-contour-at : (owner tour : List ℕ) (p : ℕ) → p < length tour
+pub contour-at : (owner tour : List ℕ) (p : ℕ) → p < length tour
     → getD (contours owner tour) p 0 ≡ getD owner (getD tour p 0) 0
 unfolding contours
 contour-at owner [] p h = absurd (omega arith)
