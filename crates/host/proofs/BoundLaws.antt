@@ -16,7 +16,7 @@ use Rattle.answer.specs.declared.Refusal.{Refusal}
 use Rattle.answer.specs.Stage.{firstRefusal}
 use Rattle.answer.specs.Lowest.{refuseIf}
 use Rattle.fields.specs.Limits.{cardBytes}
-use Rattle.fields.specs.Layout.{blocksOf, contoursOf, pairsOf}
+use Rattle.fields.specs.Layout.{contoursOf, pairsOf}
 use Rattle.card.specs.Verdict.{checkOf}
 use Rattle.card_laws.specs.Table.{Given, one, two, three, four, five, three-later, six, seven, eight, nine, ten, eleven}
 use Rattle.card_laws.specs.Table.{twelve, No, Row4, Past1, contours, pairs}
@@ -66,19 +66,20 @@ module _ (s : List ℕ) where
   pub check-near : (r : Refusal) → checkOf s ≡ Refused r → r .place ≤ cardBytes + 1
   check-near r e = given-near (exactly s .refused-only r e)
 
-  -- and 13
   module _ (room : List ℕ) (table : List Float) where
-    whole : Check → Bool → Bool → Left
+    -- the tour's answer by what the card's check says, and by whether each room is too small
+    unfoldable pub whole : Check → Bool → Bool → Left
     whole c a b =
         touredUnless (firstRefusal (c
         ∷ firstRefusal (refuseIf a 13 (contoursOf s) ∷ refuseIf b 13 (countOn s * countOn s) ∷ []) ∷ []))
         (toured s room table) room table
 
-    is-whole : tourOf s room table ≡ whole (checkOf s) (ltb (length room) (contoursOf s))
+    pub is-whole : tourOf s room table ≡ whole (checkOf s) (ltb (length room) (contoursOf s))
         (ltb (length table) (countOn s * countOn s))
     unfolding whole tourOf tourCheck roomCheck
     is-whole = refl
 
+    -- and 13
     near : (c : Check) (a b : Bool) → checkOf s ≡ c → (r : Refusal) → whole c a b .answer ≡ answer.Refused r
         → r .place ≤ cardBytes + 1
     unfolding whole firstRefusal

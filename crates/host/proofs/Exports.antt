@@ -30,24 +30,18 @@ use Rattle.questions.specs.Index.{numberCheck, locatedOf}
 use Rattle.questions.proofs.IndexLaws.{place-refused}
 use Rattle.tour.specs.declared.Toured.{Toured}
 use Rattle.tour.specs.declared.Toured.the-variants as answer
-use Rattle.tour.specs.Tour.{Left, roomCheck, tourCheck, toured, touredUnless, tourOf}
+use Rattle.tour.specs.Tour.{tourOf}
 use Rattle.host.specs.Hosts.{Hosted, hostCheck, hostedUnless, hostTour, hostPlace}
 use Rattle.host.specs.Exports.{asTold, Coded, TourTold, Holds, CardRead, NumberRead, Claim}
-use Rattle.host.proofs.BoundLaws.{check-near, tour-near}
+use Rattle.host.proofs.BoundLaws.{check-near, whole, is-whole, tour-near}
 
 module _ (s room : List ℕ) (table : List Float) (moves bits : ℕ) where
-  -- both by what the check says, and by whether each room is too small
+  -- the host's answer by what the check says, and by whether the tour's room is too small
   host : Check → Bool → Hosted
   host c a = hostedUnless (firstRefusal (c ∷ refuseIf a 13 (contoursOf s) ∷ [])) s room moves bits
 
-  whole : Check → Bool → Bool → Left
-  whole c a b =
-      touredUnless (firstRefusal (c
-      ∷ firstRefusal (refuseIf a 13 (contoursOf s) ∷ refuseIf b 13 (countOn s * countOn s) ∷ []) ∷ []))
-      (toured s room table) room table
-
   same : (c : Check) (a b : Bool) → (c ≡ Fine → b ≡ false)
-      → host c a ≡ asTold (whole c a b .answer) (whole c a b .room) moves bits
+      → host c a ≡ asTold (whole s room table c a b .answer) (whole s room table c a b .room) moves bits
   unfolding host whole firstRefusal
   same (Refused q) a b h = refl
   same Fine true b h = refl
@@ -57,11 +51,6 @@ module _ (s room : List ℕ) (table : List Float) (moves bits : ℕ) where
   host-is : hostTour s room moves bits ≡ host (checkOf s) (ltb (length room) (contoursOf s))
   unfolding host hostTour hostCheck
   host-is = refl
-
-  tour-is : tourOf s room table ≡ whole (checkOf s) (ltb (length room) (contoursOf s))
-      (ltb (length table) (countOn s * countOn s))
-  unfolding whole tourOf tourCheck roomCheck
-  tour-is = refl
 
 -- ---- the one number
 
@@ -102,7 +91,7 @@ coded = record {
 -- the exported tour is the tour of the question
 pub toured-so : (s : List ℕ) → TourTold s
 toured-so s room table moves bits large =
-    rw (tour-is s room table moves bits)
+    rw (is-whole s room table)
     (host-is s room table moves bits
     ∙ same s room table moves bits (checkOf s) (ltb (length room) (contoursOf s))
     (ltb (length table) (countOn s * countOn s))
