@@ -3,3 +3,4 @@ pub mod LowestLaws
 pub mod CodeLaws
 pub mod UniqueLaws
 pub mod RoomLaws
+pub mod Truth

@@ -1,28 +1,27 @@
 -- What the definition of the root comes to for each kind of bit pattern. Assumes nothing.
 use mathlib.Core.Path.{_≡_, refl, sym, ap, _∙_, subst}
-use mathlib.Core.Bool.{Bool, true, false, not, cond, _&&_, true≢false}
+use mathlib.Core.Bool.{Bool, true, false, not, cond, true≢false}
 use Prim.Native.Nat.{ℕ, zero, suc, _+_, _-_, _*_, _/_, _%_, _^_, _≤_, _<_}
 use native.Mathlib.Nat.{mul-assoc, mul-one, mul-pos, mul-div-cancel, mod-eq-of-lt, eq-zero-or-pos, eq-or-lt-of-le}
 use native.Mathlib.Nat.{zero-mul}
 use native.Mathlib.Omega.{arith}
 use mathlib.Core.Logic.{_⊎_, inl, inr}
-use lib.IntN.{ℤ}
-use lib.Dec.{T, leb, ltb, eqb, lt→ltb, leb→le, nleb→lt}
+use lib.IntN.{pos}
+use lib.Dec.{T, leb, ltb, eqb, lt→ltb, leb→le, nleb→lt, not-T}
 use lib.Arith.{le→nltb}
 use lib.Pow.{pow-add, pow-pos}
-use lib.Ieee.{Float, nan, inf, fin, binary64, up, down, odd, units, round, ofBits, ofFields, size, span, climb, ne}
-use lib.Ieee.{isNan, nanBits, div}
+use lib.Ieee.{Float, nan, inf, fin, binary64, up, down, odd, round, ofBits, ofFields, ne, isNan, nanBits, fits, div}
 use lib.Ieee.Exact.{HasValue, odd-sign}
-use lib.Ieee.Fits.{down-pos, round-is}
-use lib.Ieee.Bits.{is-true, nanBits-above}
-use lib.Ieee.Nearest.{closest}
+use lib.Ieee.Fits.{down-pos}
+use lib.Ieee.Bits.{is-true, ofBits-fits, nanBits-above}
 use lib.Ieee.Compare.{differs-from-itself}
-use lib.Count.{trailingZeros}
 use borrow.Author.Tests.{ne-eqb}
-use Rattle.root.specs.Whole.{wholeRoot, digits, halves}
+use Rattle.root.specs.Whole.{halves}
 use Rattle.root.specs.Root.{steps, rootFinite, sqrtOf, rootOf, noRoot}
+use Rattle.root.specs.Steps.{hasRoot}
 use Rattle.root.specs.declared.Rooted.the-variants.{Is, Refused}
 use Rattle.root.proofs.Patterns.{of-normal, of-small}
+use Rattle.root.proofs.RootLaws.{plus-real, root-real, root-zero, root-given, root-refused}
 
 -- ---- a number by its value in steps
 
@@ -36,7 +35,7 @@ of-value (fin false m e) a v =
     let s : steps m e ≡ a = ap (λ (n : ℕ). n / down e) (v .1) ∙ mul-div-cancel a (down-pos e) in
     ap (λ (n : ℕ). round binary64 false (halves (n * 2 ^ 1074)) (2 ^ 1075)) s
 
-below-zero : (x : Float) (a c : ℕ) → 0 < a → HasValue x true a c → sqrtOf x ≡ nan
+pub below-zero : (x : Float) (a c : ℕ) → 0 < a → HasValue x true a c → sqrtOf x ≡ nan
 unfolding sqrtOf
 below-zero nan a c p v = absurd v
 below-zero (inf s) a c p v = absurd v
@@ -85,12 +84,12 @@ sqrt-small g b =
 -- ---- the zeros and infinity are their own roots
 
 pub sqrt-zero : sqrtOf (ofBits binary64 0) ≡ ofBits binary64 0
-unfolding sqrtOf rootFinite wholeRoot digits halves ofBits ofFields odd size span climb round units trailingZeros
-sqrt-zero = refl
+unfolding ofBits ofFields odd
+sqrt-zero = root-zero false
 
 pub sqrt-minus-zero : sqrtOf (ofBits binary64 (2 ^ 63)) ≡ ofBits binary64 (2 ^ 63)
-unfolding sqrtOf rootFinite wholeRoot digits halves ofBits ofFields odd size span climb round units trailingZeros
-sqrt-minus-zero = refl
+unfolding ofBits ofFields odd
+sqrt-minus-zero = root-zero true
 
 pub sqrt-infinity : sqrtOf (ofBits binary64 (2047 * 2 ^ 52)) ≡ ofBits binary64 (2047 * 2 ^ 52)
 unfolding sqrtOf ofBits ofFields
@@ -164,65 +163,33 @@ finite-pattern b h = rw (nanBits-above binary64 b) (le→nltb (2047 * 2 ^ 52) (b
 
 -- ---- the root for whoever asks
 
-nan-refused : rootOf nan ≡ Refused noRoot
-unfolding rootOf
-nan-refused = refl
-
 pub nan-told : (x : Float) → ne x x ≡ true → Refused noRoot ≡ rootOf x
-nan-told x t = rw (differs-from-itself x (subst T (sym t) tt)) (sym nan-refused)
+nan-told x t = rw (differs-from-itself x (subst T (sym t) tt)) (sym (root-refused nan tt))
 
 pub minus-zero-told : rootOf (ofBits binary64 (2 ^ 63)) ≡ Is (ofBits binary64 (2 ^ 63))
-unfolding rootOf rootFinite wholeRoot digits halves ofBits ofFields odd size span climb round units trailingZeros
-minus-zero-told = refl
+unfolding ofBits ofFields odd
+minus-zero-told = root-given (fin true 0 (pos 0)) tt ∙ ap Is (root-zero true)
 
 infinity-told : rootOf (ofBits binary64 (2047 * 2 ^ 52)) ≡ Refused noRoot
-unfolding rootOf ofBits ofFields
-infinity-told = refl
+unfolding ofBits ofFields
+infinity-told = root-refused (inf false) tt
 
--- a root that is rounded is a number
-units-number : (s : Bool) (q k : ℕ) → units binary64 s q k ≡ nan → ⊥
-unfolding units odd
-units-number s q k = go (ltb (q * 2 ^ k) (2 ^ 2098)) q
-  where
-    go : (b : Bool) (q : ℕ) → cond b (odd 54 s q k 1074) (inf s) ≡ nan → ⊥
-    go true zero e = let z : _≡_ {A = ℕ} 0 1 = cc in omega arith
-    go true (suc q) e = let z : _≡_ {A = ℕ} 0 1 = cc in omega arith
-    go false q e = let z : _≡_ {A = ℕ} 0 1 = cc in omega arith
-
-rounded-number : (s : Bool) (a d : ℕ) → round binary64 s a d ≡ nan → ⊥
-rounded-number s a d q =
-    let n = a * 2 ^ 1074 in
-    let k = size (n / d) - 53 in
-    units-number s (closest n (d * 2 ^ k)) k (sym (round-is binary64 s a d) ∙ q)
-
-root-number : (s : Bool) (m : ℕ) (e : ℤ) → rootFinite s m e ≡ nan → ⊥
-unfolding rootFinite
-root-number s m e q = rounded-number s (halves (steps m e * 2 ^ 1074)) (2 ^ 1075) q
-
-no-root : (x : Float) → sqrtOf x ≡ nan → rootOf x ≡ Refused noRoot
-unfolding sqrtOf rootOf
-no-root nan q = refl
-no-root (inf s) q = refl
-no-root (fin s m e) q = go (s && ltb 0 m) q
-  where
-    go : (b : Bool) → cond b nan (rootFinite s m e) ≡ nan
-        → cond b (Refused noRoot) (Is (rootFinite s m e)) ≡ Refused noRoot
-    go true q = refl
-    go false q = absurd (root-number s m e q)
+-- a root that is given is a number
+no-root : (x : Float) → T (fits binary64 x) → sqrtOf x ≡ nan → rootOf x ≡ Refused noRoot
+no-root x t q =
+    root-refused x (not-T (hasRoot x) (λ h. subst (λ (z : Float). T (hasRoot z)) q (root-real x t h)))
 
 pub none-told : (b : ℕ) → 2047 * 2 ^ 52 ≤ b → b < 2 ^ 64 → (b ≡ 2 ^ 63 → ⊥)
     → rootOf (ofBits binary64 b) ≡ Refused noRoot
 none-told b h k n = elim (eq-or-lt-of-le h) [
   | inl e ↦ subst (λ (z : ℕ). rootOf (ofBits binary64 z) ≡ Refused noRoot) e infinity-told
-  | inr l ↦ no-root (ofBits binary64 b) (sqrt-none b l k n)
+  | inr l ↦ no-root (ofBits binary64 b) (ofBits-fits binary64 b) (sqrt-none b l k n)
 ]
 
-value-told : (x : Float) (a c : ℕ) → HasValue x false a c → rootOf x ≡ Is (sqrtOf x)
-unfolding sqrtOf rootOf
-value-told nan a c v = absurd v
-value-told (inf s) a c v = absurd v
-value-told (fin true m e) a c v = absurd (true≢false (v .0))
-value-told (fin false m e) a c v = refl
+value-told : (d q k : ℕ) → rootOf (odd d false q k 1074) ≡ Is (sqrtOf (odd d false q k 1074))
+value-told d q k =
+    let x = odd d false q k 1074 in
+    root-given x (plus-real x (q * 2 ^ k) (2 ^ 1074) (odd-sign d false q k 1074))
 
 pub root-told : (b : ℕ) → b < 2047 * 2 ^ 52 → rootOf (ofBits binary64 b) ≡ Is (sqrtOf (ofBits binary64 b))
 root-told b h = go (b / 2 ^ 52) refl
@@ -230,9 +197,8 @@ root-told b h = go (b / 2 ^ 52) refl
     go : (e : ℕ) → b / 2 ^ 52 ≡ e → rootOf (ofBits binary64 b) ≡ Is (sqrtOf (ofBits binary64 b))
     go zero q =
         let s : b < 2 ^ 52 = omega arith in
-        rw (of-small b s) (value-told (odd 53 false b 0 1074) _ _ (odd-sign 53 false b 0 1074))
+        rw (of-small b s) (value-told 53 b 0)
     go (suc e) q =
         let g = b % 2 ^ 52 in
         let i : suc e * 2 ^ 52 + g ≡ b = omega arith in
-        rw (← i, of-normal e g (omega arith) (omega arith))
-        (value-told (odd 53 false (2 ^ 52 + g) e 1074) _ _ (odd-sign 53 false (2 ^ 52 + g) e 1074))
+        rw (← i, of-normal e g (omega arith) (omega arith)) (value-told 53 (2 ^ 52 + g) e)

@@ -3,11 +3,14 @@ pub mod Squares
 pub mod HalfUp
 pub mod Patterns
 pub mod Cases
+pub mod AtMost
 pub mod StepLaws
 pub mod Rounding
+pub mod Negation
 pub mod Middle
 pub mod RootSteps
 pub mod RootLaws
 pub mod Nearest
 pub mod GridRoot
 pub mod Starred
+pub mod IeeeLaws

@@ -1,32 +1,17 @@
 -- The root is the nearest value of the format, strictly: nothing else in binary64 is as near to the exact root. And
 -- whatever is so is the root. Assumes nothing.
 use mathlib.Core.Path.{_≡_, sym, _∙_, subst}
-use Prim.Native.Nat.{ℕ, _+_, _*_, _^_, _≤_, _<_}
+use Prim.Native.Nat.{ℕ, _+_, _*_, _≤_, _<_}
 use native.Mathlib.Nat.{lt-irrefl, lt-trans, le-antisymm, le-of-suc-le-suc, lt-of-not-le, add-comm}
 use lib.Dec.{T, lit≤}
 use lib.Ieee.{Float, binary64, fits}
 use Rattle.root.specs.Root.{sqrtOf}
-use Rattle.root.specs.Steps.{stepsOf, signOf, hasRoot}
+use Rattle.root.specs.Steps.{stepsOf, hasRoot}
+use Rattle.root.specs.Ieee.{NearestRoot, rootSquared}
 use Rattle.root.proofs.StepLaws.{steps-held, steps-unique, real-finite}
 use Rattle.root.proofs.Middle.{Short}
 use Rattle.root.proofs.RootSteps.{root-near-above, root-near-below}
 use Rattle.root.proofs.RootLaws.{root-steps, root-fits, root-sign, root-real}
-
--- the square of the exact root of x, which is counted in steps of 2^-1074
-abbrev pub rootSquared : Float → ℕ
-rootSquared x = stepsOf x * 2 ^ 1074
-
--- of the finite numbers of binary64 that are not below zero, r is the one nearest to the exact root of x: against any
--- other number y, that root lies strictly on r's side of the middle (r + y) / 2. With both sides squared and times
--- four, all of this is said in whole numbers.
-pub record NearestRoot (x r : Float) : Type 0 where
-  pub held : T (fits binary64 r)
-  pub real : T (hasRoot r)
-  pub sign : signOf r ≡ signOf x
-  pub above : (y : Float) → T (fits binary64 y) → T (hasRoot y) → stepsOf r < stepsOf y
-      → 4 * rootSquared x < (stepsOf r + stepsOf y) * (stepsOf r + stepsOf y)
-  pub below : (y : Float) → T (fits binary64 y) → T (hasRoot y) → stepsOf y < stepsOf r
-      → (stepsOf r + stepsOf y) * (stepsOf r + stepsOf y) < 4 * rootSquared x
 
 -- ---- it is the nearest
 

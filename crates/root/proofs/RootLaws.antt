@@ -1,7 +1,7 @@
 -- What the root of binary64 always is: a finite number of the format with its argument's sign, in the order of its
 -- arguments. Assumes nothing.
 use mathlib.Core.Path.{_≡_, refl, sym, ap, _∙_, subst}
-use mathlib.Core.Bool.{Bool, true, false, not, cond, false≢true}
+use mathlib.Core.Bool.{Bool, true, false, not, cond, false≢true, true≢false}
 use Prim.Native.Nat.{ℕ, zero, suc, _*_, _/_, _^_, _≤_, _<_}
 use native.Mathlib.Nat.{le-refl, le-of-eq, lt-of-lt-of-le, lt-of-le-of-lt, not-le-of-lt, zero-lt-suc, zero-mul}
 use native.Mathlib.Nat.{zero-div, mul-pos, mul-le-mul-right, mul-lt-mul-of-pos-right}
@@ -42,6 +42,13 @@ value-real nan s a c p z h = h
 value-real (inf t) s a c p z h = h
 value-real (fin false m e) s a c p z h = tt
 value-real (fin true m e) s a c p z h = le→nltb 0 m (no-size m (up e) c (down e) a (up-pos e) p (z (sym (h .0))) (h .1))
+
+-- a value without a minus sign has a root
+pub plus-real : (x : Float) (a c : ℕ) → HasValue x false a c → T (hasRoot x)
+plus-real nan a c h = h
+plus-real (inf t) a c h = h
+plus-real (fin true m e) a c h = absurd (true≢false (h .0))
+plus-real (fin false m e) a c h = tt
 
 minus-steps : (x : Float) → T (hasRoot x) → signOf x ≡ true → stepsOf x ≡ 0
 minus-steps nan h q = absurd h
@@ -113,12 +120,10 @@ steps-mono X Z p q h =
     let w = round binary64 false b (2 ^ 1075) in
     let v = round-root false X p in
     let u = round-root false Z q in
-    let real : (x : Float) (n : ℕ) → HasValue x false n (2 ^ 1074) → T (hasRoot x) =
-    λ x n k. value-real x false n (2 ^ 1074) (lit< tt) (λ g. absurd (false≢true g)) k in
     subst (λ (z : ℕ). z ≤ rootSteps 52 1074 Z) (steps-of binary64 r false (rootSteps 52 1074 X) v)
     (subst (λ (z : ℕ). stepsOf r ≤ z) (steps-of binary64 w false (rootSteps 52 1074 Z) u)
-    (le→steps binary64 r w (round-fits binary64 false a (2 ^ 1075)) (real r (rootSteps 52 1074 X) v)
-    (round-fits binary64 false b (2 ^ 1075)) (real w (rootSteps 52 1074 Z) u)
+    (le→steps binary64 r w (round-fits binary64 false a (2 ^ 1075)) (plus-real r _ _ v)
+    (round-fits binary64 false b (2 ^ 1075)) (plus-real w _ _ u)
     (round-mono binary64 a (2 ^ 1075) b (2 ^ 1075) (lit< tt) (lit< tt)
     (mul-le-mul-right (2 ^ 1075) (halves-mono (X * 2 ^ 1074) (Z * 2 ^ 1074) (mul-le-mul-right (2 ^ 1074) h))))))
 

@@ -1,23 +1,24 @@
 -- A format's finite values counted in steps of its smallest one (2^-1074 for binary64): which numbers of steps are
 -- values, and that sign and steps settle a value. Assumes nothing.
 use mathlib.Core.Path.{_≡_, refl, sym, ap, _∙_, subst}
-use mathlib.Core.Bool.{Bool, true, false, not, _&&_, _||_}
+use mathlib.Core.Bool.{Bool, true, false, not, _&&_}
 use Prim.Native.Nat.{ℕ, zero, suc, _+_, _-_, _*_, _/_, _%_, _^_, _≤_, _<_}
-use native.Mathlib.Nat.{mul-left-comm, mul-lt-mul-of-pos-right, le-trans, le-of-eq, le-of-lt, lt-of-not-le}
+use native.Mathlib.Nat.{mul-left-comm, mul-lt-mul-of-pos-right, le-trans, le-of-eq, lt-of-not-le}
 use native.Mathlib.Nat.{not-le-of-lt, mul-one, one-mul, mul-comm, mul-assoc, mul-div-cancel, mul-pos, mul-le-mul-right}
 use native.Mathlib.Nat.{lt-of-mul-lt-mul-right, le-of-mul-le-mul-right, sub-add-cancel, zero-mul}
 use native.Mathlib.Omega.{arith}
 use lib.IntN.{ℤ, pos, negsuc}
-use lib.Dec.{T, leb, ltb, eqb, leb→le, ltb→lt, lt→ltb, nltb→le, eqb→eq, eqb-refl}
+use lib.Dec.{T, leb, ltb, eqb, leb→le, ltb→lt, nltb→le, eqb→eq}
 use lib.Pow.{pow-add, pow-pos, pow-lt}
 use lib.Ieee.{Float, nan, inf, fin, Format, prec, emax, low, up, down, fits, toBits, ofBits, le}
-use lib.Ieee.Fits.{up-pos, down-pos, and-i, and-l, and-r}
+use lib.Ieee.Fits.{up-pos, down-pos, and-l, and-r}
 use lib.Ieee.Bits.{ofBits-toBits}
 use lib.Ieee.Exact.{HasValue}
-use lib.Ieee.Order.{le-of-values, transfer}
+use lib.Ieee.Order.{transfer}
 use lib.Ieee.Scale.{finite, overflow}
 use Rattle.root.specs.Root.{negative}
 use Rattle.root.specs.Steps.{stepsIn, signOf, hasRoot}
+use Rattle.root.proofs.AtMost.{at-most, tested}
 
 -- ---- what `fits` says of a finite value
 
@@ -158,23 +159,14 @@ minus-zero m t = omega (arith, nltb→le 0 m t)
 product-zero : (m u d : ℕ) → m ≡ 0 → m * u * d ≡ 0
 product-zero m u d e = ap (λ (z : ℕ). z * u * d) e ∙ ap (λ (z : ℕ). z * d) (zero-mul u) ∙ zero-mul d
 
-either : (p q : Bool) (P : Type 0) → (T p → P) → (T q → P) → T (p || q) → P
-either true q P h k t = h tt
-either false q P h k t = k t
-
-same-side : (a b : ℕ) (c : Bool) → T (ltb a b || (eqb a b && c)) → a ≤ b
-same-side a b c t =
-    either (ltb a b) (eqb a b && c) (a ≤ b) (λ k. le-of-lt (ltb→lt a b k))
-    (λ k. le-of-eq (eqb→eq a b (and-l (eqb a b) c k))) t
-
 le→cross : (s : Bool) (m : ℕ) (e : ℤ) (t : Bool) (n : ℕ) (d : ℤ) → T (not (negative s m))
     → T (le (fin s m e) (fin t n d)) → m * up e * down d ≤ n * up d * down e
 unfolding le
 le→cross true m e t n d h k = le-trans (le-of-eq (product-zero m (up e) (down d) (minus-zero m h))) (omega arith)
 le→cross false m e true n d h k =
-    le-of-eq (eqb→eq (m * up e * down d) (n * up d * down e)
-    (and-l (eqb (m * up e * down d) (n * up d * down e)) (eqb (m * up e * down d) 0) k))
-le→cross false m e false n d h k = same-side (m * up e * down d) (n * up d * down e) true k
+    let z = at-most false (m * up e * down d) true (n * up d * down e) k in
+    le-of-eq (z .0 ∙ sym (z .1))
+le→cross false m e false n d h k = at-most false (m * up e * down d) false (n * up d * down e) k
 
 pub le→steps : (f : Format) (x y : Float) → T (fits f x) → T (hasRoot x) → T (fits f y) → T (hasRoot y) → T (le x y)
     → stepsIn f x ≤ stepsIn f y
@@ -189,48 +181,17 @@ le→steps f (fin s m e) (fin r n d) t h u k l =
     (sym (steps-value f (fin s m e) t tt .1)) (sym (steps-value f (fin r n d) u tt .1)) (le→cross s m e r n d h l))
     (pow-pos (low f))
 
-or-right : (p q : Bool) → T q → T (p || q)
-or-right true q t = tt
-or-right false q t = t
-
-zero-eqb : (a : ℕ) → a ≡ 0 → T (eqb a 0)
-zero-eqb a e = subst (λ (z : ℕ). T (eqb z 0)) (sym e) tt
-
-same-eqb : (a b : ℕ) → a ≡ b → T (eqb a b)
-same-eqb a b e = subst (λ (z : ℕ). T (eqb a z)) e (eqb-refl a)
-
-zero-first : (a b : ℕ) → a ≡ 0 → T (ltb 0 (a + b) || (eqb a b && eqb a 0))
-zero-first a b e = go b refl
-  where
-    go : (c : ℕ) → b ≡ c → T (ltb 0 (a + b) || (eqb a b && eqb a 0))
-    go zero q =
-        or-right (ltb 0 (a + b)) (eqb a b && eqb a 0)
-        (and-i (eqb a b) (eqb a 0) (same-eqb a b (e ∙ sym q)) (zero-eqb a e))
-    go (suc c) q = or-left (ltb 0 (a + b)) (eqb a b && eqb a 0) (lt→ltb 0 (a + b) (omega arith))
-      where
-        or-left : (p r : Bool) → T p → T (p || r)
-        or-left true r t = tt
-        or-left false r t = absurd t
-
 cross→le : (s : Bool) (m : ℕ) (e : ℤ) (t : Bool) (n : ℕ) (d : ℤ) → T (not (negative s m)) → T (not (negative t n))
     → m * up e * down d ≤ n * up d * down e → T (le (fin s m e) (fin t n d))
 unfolding le
-cross→le false m e false n d h k l =
-    unfold le in le-of-values (fin false m e) (fin false n d) (m * up e) (down e) (n * up d) (down d) (down-pos e)
-    (down-pos d) (refl, refl) (refl, refl) l
-cross→le true m e false n d h k l =
-    zero-first (m * up e * down d) (n * up d * down e) (product-zero m (up e) (down d) (minus-zero m h))
+cross→le false m e false n d h k l = tested false (m * up e * down d) false (n * up d * down e) l
+cross→le true m e false n d h k l = tested true (m * up e * down d) false (n * up d * down e) tt
 cross→le false m e true n d h k l =
     let b : n * up d * down e ≡ 0 = product-zero n (up d) (down e) (minus-zero n k) in
-    let a : m * up e * down d ≡ 0 = omega arith in
-    and-i (eqb (m * up e * down d) (n * up d * down e)) (eqb (m * up e * down d) 0)
-    (same-eqb (m * up e * down d) (n * up d * down e) (a ∙ sym b)) (zero-eqb (m * up e * down d) a)
+    tested false (m * up e * down d) true (n * up d * down e) (omega arith, b)
 cross→le true m e true n d h k l =
-    let a : m * up e * down d ≡ 0 = product-zero m (up e) (down d) (minus-zero m h) in
     let b : n * up d * down e ≡ 0 = product-zero n (up d) (down e) (minus-zero n k) in
-    or-right (ltb (n * up d * down e) (m * up e * down d)) (eqb (m * up e * down d) (n * up d * down e) && true)
-    (and-i (eqb (m * up e * down d) (n * up d * down e)) true
-    (same-eqb (m * up e * down d) (n * up d * down e) (a ∙ sym b)) tt)
+    tested true (m * up e * down d) true (n * up d * down e) (omega arith)
 
 pub steps→le : (f : Format) (x y : Float) → T (fits f x) → T (hasRoot x) → T (fits f y) → T (hasRoot y)
     → stepsIn f x ≤ stepsIn f y → T (le x y)

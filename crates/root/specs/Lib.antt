@@ -1,3 +1,4 @@
 pub mod Whole
 pub mod Root
 pub mod Steps
+pub mod Ieee
