@@ -1,56 +1,20 @@
 -- A distance is the same both ways, to the bit. Assumes nothing.
 use mathlib.Core.Path.{_≡_, refl, sym, ap, ap₂, _∙_}
-use mathlib.Core.Bool.{Bool, true, false, not, _&&_, cond}
+use mathlib.Core.Bool.{Bool, true, false, not, _&&_, and-true, cond}
 use mathlib.Core.Logic.{_⊎_, inl, inr}
-use Prim.Native.Nat.{ℕ, zero, suc, _+_, _-_, _*_, _/_, _%_, _^_, compare}
+use Prim.Native.Nat.{ℕ, _+_, _-_, _*_}
 use native.Mathlib.Nat.{add-comm, mul-comm}
 use native.Mathlib.Omega.{arith}
 use borrow.Author.Tests.{ltb-true, ltb-false}
 use lib.Dec.{ltb}
-use lib.Ieee.{Float, nan, inf, fin, Format, binary64, prec, emax, low, up, down, size, nearest, odd, units, round, neg}
+use lib.Ieee.{Float, nan, inf, fin, Format, binary64, up, down, round, neg}
 use lib.Ieee.{sum, add, sub, mul}
 use Rattle.answer.specs.declared.Point.{Point}
 use Rattle.root.specs.Root.{sqrtOf}
+use Rattle.root.proofs.Negation.{round-neg, neg-neg}
 use Rattle.points.specs.Distance.{squares, distanceSqOf, distanceOf}
 
--- ---- the other sign in, the other sign out
-
-odd-neg : (d : ℕ) (s : Bool) (q k l : ℕ) → odd d (not s) q k l ≡ neg (odd d s q k l)
-unfolding odd neg
-odd-neg d s zero k l = refl
-odd-neg d s (suc q) k l = refl
-
-units-neg : (f : Format) (s : Bool) (q k : ℕ) → units f (not s) q k ≡ neg (units f s q k)
-unfolding units neg
-units-neg f s q k = go (ltb (q * 2 ^ k) (2 ^ (low f + suc (emax f))))
-  where
-    go : (b : Bool)
-        → cond b (odd (suc (prec f)) (not s) q k (low f)) (inf (not s))
-        ≡ neg (cond b (odd (suc (prec f)) s q k (low f)) (inf s))
-    go true = odd-neg (suc (prec f)) s q k (low f)
-    go false = refl
-
-pub round-neg : (f : Format) (s : Bool) (num den : ℕ) → round f (not s) num den ≡ neg (round f s num den)
-unfolding round
-round-neg f s num den =
-    let n = num * 2 ^ low f in
-    let k = size (n / den) - prec f in
-    let u = den * 2 ^ k in
-    units-neg f s (nearest (n / u) (compare (n % u * 2) u)) k
-
-neg-neg : (x : Float) → neg (neg x) ≡ x
-unfolding neg
-neg-neg nan = refl
-neg-neg (inf true) = refl
-neg-neg (inf false) = refl
-neg-neg (fin true m e) = refl
-neg-neg (fin false m e) = refl
-
 -- ---- a difference the other way round: the same, or the same but for its sign
-
-and-true : (s : Bool) → (s && true) ≡ s
-and-true true = refl
-and-true false = refl
 
 turned : {x y : Float} → y ≡ neg x → x ≡ neg y
 turned {x} e = sym (neg-neg x) ∙ ap neg (sym e)

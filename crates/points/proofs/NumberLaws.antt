@@ -1,32 +1,13 @@
 -- What comparisons tell of a number: whether it can be a coordinate. Assumes nothing.
-use mathlib.Core.Path.{_≡_, refl, sym}
-use mathlib.Core.Bool.{Bool, true, false, _&&_, _||_, false≢true, true≢false}
-use Prim.Native.Nat.{ℕ, _+_, _*_, _≤_, _<_}
-use native.Mathlib.Nat.{mul-one}
-use native.Mathlib.Omega.{arith}
-use borrow.Author.Tests.{lt-ltb, le-ltb, ltb-true, ltb-false, eqb-true, eqb-false}
-use lib.Dec.{ltb, eqb}
+use mathlib.Core.Path.{_≡_, refl, sym, subst}
+use mathlib.Core.Bool.{true, false, false≢true}
+use Prim.Native.Nat.{_*_, _≤_, _<_}
+use native.Mathlib.Nat.{mul-one, lt-of-not-le}
+use borrow.Author.Tests.{lt-ltb, le-ltb}
+use lib.Dec.{T}
 use lib.Ieee.{Float, nan, inf, fin, binary64, up, down, lt, eq, le, neg, ofBits}
-use lib.Ieee.Fits.{down-pos}
+use Rattle.root.proofs.AtMost.{at-most, tested}
 use Rattle.points.specs.Bad.{largest, badNumber}
-
--- ---- `a ≤ b` as a comparison of floats has it: below, or level
-
-level-true : (a b : ℕ) (p q : Bool) → ltb a b ≡ p → (q ≡ true → a ≡ b) → (p || (q && true)) ≡ true → a ≤ b
-level-true a b true q e f h = omega (arith, ltb-true a b e)
-level-true a b false true e f h = omega (arith, f refl)
-level-true a b false false e f h = absurd (false≢true h)
-
-level-false : (a b : ℕ) (p q : Bool) → ltb a b ≡ p → (q ≡ false → a ≡ b → ⊥) → (p || (q && true)) ≡ false → b < a
-level-false a b true q e f h = absurd (true≢false h)
-level-false a b false true e f h = absurd (true≢false h)
-level-false a b false false e f h = let d = f refl in omega (arith, ltb-false a b e)
-
-either-true : (p q : Bool) → p ≡ true → (p || q) ≡ false → ⊥
-either-true true q e h = true≢false h
-either-true false q e h = false≢true e
-
--- ---- coordinates
 
 -- the limit as the code has it
 abbrev pub limit64 : Float
@@ -40,27 +21,23 @@ within-is (inf false) p q = absurd (false≢true p)
 within-is (fin true m e) p q =
     let a = m * up e * 1 in
     let b = largest * down e in
-    let h : a ≤ b = level-true a b (ltb a b) (eqb b a) refl (λ t. sym (eqb-true b a t)) q in
+    let h : a ≤ b = at-most true b true a (subst T (sym q) tt) in
     le-ltb b (m * up e) (rw mul-one at h)
 within-is (fin false m e) p q =
     let a = m * up e * 1 in
     let b = largest * down e in
-    let h : a ≤ b = level-true a b (ltb a b) (eqb a b) refl (eqb-true a b) p in
+    let h : a ≤ b = at-most false a false b (subst T (sym p) tt) in
     le-ltb b (m * up e) (rw mul-one at h)
 
 pub above-is : (x : Float) → le x limit64 ≡ false → badNumber x ≡ true
 unfolding badNumber le lt eq ofBits
 above-is nan p = refl
 above-is (inf s) p = refl
-above-is (fin true m e) p =
-    let a = m * up e * 1 in
-    let b = largest * down e in
-    let pos = down-pos e in
-    absurd (either-true (ltb 0 (a + b)) _ (lt-ltb 0 (a + b) (omega arith)) p)
+above-is (fin true m e) p = absurd (subst T p (tested true (m * up e * 1) false (largest * down e) tt))
 above-is (fin false m e) p =
     let a = m * up e * 1 in
     let b = largest * down e in
-    let h : b < a = level-false a b (ltb a b) (eqb a b) refl (eqb-false a b) p in
+    let h : b < a = lt-of-not-le (λ l. subst T p (tested false a false b l)) in
     lt-ltb b (m * up e) (rw mul-one at h)
 
 pub under-is : (x : Float) → le (neg limit64) x ≡ false → badNumber x ≡ true
@@ -70,10 +47,6 @@ under-is (inf s) p = refl
 under-is (fin true m e) p =
     let a = m * up e * 1 in
     let b = largest * down e in
-    let h : b < a = level-false a b (ltb a b) (eqb b a) refl (λ t u. eqb-false b a t (sym u)) p in
+    let h : b < a = lt-of-not-le (λ l. subst T p (tested true b true a l)) in
     lt-ltb b (m * up e) (rw mul-one at h)
-under-is (fin false m e) p =
-    let a = m * up e * 1 in
-    let b = largest * down e in
-    let pos = down-pos e in
-    absurd (either-true (ltb 0 (b + a)) _ (lt-ltb 0 (b + a) (omega arith)) p)
+under-is (fin false m e) p = absurd (subst T p (tested true (largest * down e) false (m * up e * 1) tt))

@@ -10,24 +10,43 @@ use lib.Ieee.{Float, nan}
 use Rattle.answer.specs.declared.Point.{Point}
 use Rattle.points.specs.Points.{point, ends, nowhere, noEnds, points, closing, edges, legs}
 
--- ---- points
+-- ---- a list taken two by two: numbers as points, points as legs
+
+module _ {A B : Type 0} (pair : A → A → B) (twos : List A → List B) (none : twos [] ≡ [])
+    (one : (x : A) → twos (x ∷ []) ≡ [])
+    (two : (x y : A) (more : List A) → twos (x ∷ y ∷ more) ≡ pair x y ∷ twos more) where
+  twos-length : (l : List A) → length (twos l) ≡ length l / 2
+  twos-length [] = ap length none
+  twos-length (x ∷ []) = ap length (one x)
+  twos-length (x ∷ y ∷ more) = let h = twos-length more in rw two (omega arith)
+
+  twos-at : (a : A) (b : B) (l : List A) (k : ℕ) → k < length l / 2
+      → getD (twos l) k b ≡ pair (getD l (2 * k) a) (getD l (2 * k + 1) a)
+  twos-at a b [] k h = absurd (not-suc-le-zero h)
+  twos-at a b (x ∷ []) k h = absurd (not-suc-le-zero h)
+  twos-at a b (x ∷ y ∷ more) zero h = rw two
+  twos-at a b (x ∷ y ∷ more) (suc k) h =
+      let e : 2 * suc k ≡ suc (suc (2 * k)) = omega arith in
+      let f : 2 * suc k + 1 ≡ suc (suc (2 * k + 1)) = omega arith in
+      rw (two, f, e) (twos-at a b more k (omega arith))
 
 pub points-length : (d : List Float) → length (points d) ≡ length d / 2
 unfolding points
-points-length [] = refl
-points-length (x ∷ []) = refl
-points-length (x ∷ y ∷ more) = let h = points-length more in omega arith
+points-length = twos-length point points refl (λ x. refl) (λ x y more. refl)
 
 pub points-at : (d : List Float) (k : ℕ) → k < length d / 2
     → getD (points d) k nowhere ≡ point (getD d (2 * k) nan) (getD d (2 * k + 1) nan)
 unfolding points
-points-at [] k h = absurd (not-suc-le-zero h)
-points-at (x ∷ []) k h = absurd (not-suc-le-zero h)
-points-at (x ∷ y ∷ more) zero h = refl
-points-at (x ∷ y ∷ more) (suc k) h =
-    let a : 2 * suc k ≡ suc (suc (2 * k)) = omega arith in
-    let b : 2 * suc k + 1 ≡ suc (suc (2 * k + 1)) = omega arith in
-    rw (b, a) (points-at more k (omega arith))
+points-at = twos-at point points refl (λ x. refl) (λ x y more. refl) nan nowhere
+
+pub legs-length : (ps : List Point) → length (legs ps) ≡ length ps / 2
+unfolding legs
+legs-length = twos-length ends legs refl (λ p. refl) (λ p q more. refl)
+
+pub legs-at : (ps : List Point) (k : ℕ) → k < length ps / 2
+    → getD (legs ps) k noEnds ≡ ends (getD ps (2 * k) nowhere) (getD ps (2 * k + 1) nowhere)
+unfolding legs
+legs-at = twos-at ends legs refl (λ p. refl) (λ p q more. refl) nowhere noEnds
 
 -- ---- edges
 
@@ -69,25 +88,6 @@ pub edge-last : (ps : List Point) (i : ℕ) → i + 1 ≡ length ps
 unfolding edges
 edge-last [] i h = absurd (omega arith)
 edge-last (p ∷ more) i h = closing-last p p more i (omega arith)
-
--- ---- legs
-
-pub legs-length : (ps : List Point) → length (legs ps) ≡ length ps / 2
-unfolding legs
-legs-length [] = refl
-legs-length (a ∷ []) = refl
-legs-length (a ∷ b ∷ more) = let h = legs-length more in omega arith
-
-pub legs-at : (ps : List Point) (k : ℕ) → k < length ps / 2
-    → getD (legs ps) k noEnds ≡ ends (getD ps (2 * k) nowhere) (getD ps (2 * k + 1) nowhere)
-unfolding legs
-legs-at [] k h = absurd (not-suc-le-zero h)
-legs-at (a ∷ []) k h = absurd (not-suc-le-zero h)
-legs-at (a ∷ b ∷ more) zero h = refl
-legs-at (a ∷ b ∷ more) (suc k) h =
-    let e : 2 * suc k ≡ suc (suc (2 * k)) = omega arith in
-    let f : 2 * suc k + 1 ≡ suc (suc (2 * k + 1)) = omega arith in
-    rw (f, e) (legs-at more k (omega arith))
 
 -- ---- the same, asked of the list of numbers
 
