@@ -1,5 +1,6 @@
 -- When and what `firstRefusal` tells: the refusal of the first stage that refuses, exactly. Assumes nothing.
 use mathlib.Core.Path.{_≡_, refl}
+use mathlib.Core.Bool.{Bool, true, false}
 use mathlib.Core.List.{List, [], _∷_}
 use Prim.Native.Nat.{ℕ, zero, suc, _<_}
 use native.Mathlib.Nat.{zero-lt-suc, not-suc-le-zero, le-of-suc-le-suc}
@@ -10,6 +11,7 @@ use Rattle.answer.specs.declared.Refusal.{Refusal}
 use Rattle.answer.specs.declared.Check.{Check}
 use Rattle.answer.specs.declared.Check.the-variants.{Fine, Refused}
 use Rattle.answer.specs.Stage.{firstRefusal}
+use Rattle.answer.specs.Lowest.{refuseIf}
 
 -- stage k refuses with r, and no earlier stage refuses
 pub record FirstAt (stages : List Check) (k : ℕ) (r : Refusal) : Type 0 where
@@ -60,3 +62,19 @@ is-fine [] e j h = absurd (not-suc-le-zero h)
 is-fine (Refused q ∷ more) e j h = let z : _≡_ {A = ℕ} 0 1 = cc in absurd (omega arith)
 is-fine (Fine ∷ more) e zero h = refl
 is-fine (Fine ∷ more) e (suc j) h = is-fine more e j (le-of-suc-le-suc h)
+
+-- ---- a stage as code takes it, with t for the definition's test b: it answers r there, or goes on
+
+module _ (number place : ℕ) {t b : Bool} (is : t ≡ b) (more : List Check) where
+  pub told-here : {r : Check} → t ≡ true → r ≡ Refused (record { number = number; place = place })
+      → r ≡ firstRefusal (refuseIf b number place ∷ more)
+  unfolding firstRefusal
+  told-here e f = rw (← is, e) f
+
+  pub told-later : {r : Check} → t ≡ false → r ≡ firstRefusal more → r ≡ firstRefusal (refuseIf b number place ∷ more)
+  unfolding firstRefusal
+  told-later e f = rw (← is, e) f
+
+pub none-told : Fine ≡ firstRefusal []
+unfolding firstRefusal
+none-told = refl

@@ -2,3 +2,4 @@ pub mod AmountLaws
 pub mod ClosestLaws
 pub mod RapidLaws
 pub mod Starred
+pub mod Answers
