@@ -3,7 +3,7 @@
 -- equations in mathlib.Core.Bool (and-true, or-true, or-false, or-assoc), of T and `&&` in lib.Ieee.Fits (and-i, and-l,
 -- and-r, eq→eqb). Assumes nothing.
 use mathlib.Core.Path.{_≡_, refl, sym, _∙_}
-use mathlib.Core.Bool.{Bool, true, false, _||_, true≢false}
+use mathlib.Core.Bool.{Bool, true, false, not, _||_, true≢false}
 use mathlib.Core.Logic.{_⊎_, inl, inr}
 use lib.Dec.{T}
 
@@ -17,16 +17,13 @@ pub or-cases : (a b : Bool) → (a || b) ≡ true → (a ≡ true) ⊎ (b ≡ tr
 or-cases true b h = inl refl
 or-cases false b h = inr h
 
--- ---- either, as a test
-
-pub or-l : (a b : Bool) → T a → T (a || b)
-or-l true b t = tt
-or-l false b t = absurd t
-
-pub or-r : (a b : Bool) → T b → T (a || b)
-or-r true b t = tt
-or-r false b t = t
+-- ---- either, as a test: what follows from it, and what shows it
 
 pub or-e : (a b : Bool) (P : Type 0) → (T a → P) → (T b → P) → T (a || b) → P
 or-e true b P h k t = h tt
 or-e false b P h k t = k t
+
+-- the second where the first fails
+pub or-i : (a b : Bool) → (T (not a) → T b) → T (a || b)
+or-i true b h = tt
+or-i false b h = h tt

@@ -1,80 +1,24 @@
 -- The order of floats: it is transitive, and taking the margin off a length does not make it longer. Assumes nothing.
-use mathlib.Core.Bool.{Bool, true, false, not, cond, _&&_, _||_}
+use mathlib.Core.Bool.{Bool, true, false, not, cond}
 use mathlib.Core.Path.{_≡_, refl, sym, ap, subst, _∙_}
 use Prim.Native.Nat.{ℕ, zero, suc, _+_, _-_, _*_, _^_, _≤_, _<_}
-use native.Mathlib.Nat.{le-trans, le-of-eq, le-of-lt, mul-comm, mul-assoc, mul-left-comm, mul-pos, mul-le-mul-right}
+use native.Mathlib.Nat.{le-trans, le-of-eq, mul-comm, mul-assoc, mul-left-comm, mul-pos, mul-le-mul-right}
 use native.Mathlib.Nat.{le-of-mul-le-mul-right, zero-mul}
 use native.Mathlib.Omega.{arith}
-use lib.Dec.{T, ltb, eqb, ltb→lt, nltb→le, eqb→eq, eqb-refl}
-use lib.Ieee.{Float, nan, inf, fin, Format, binary64, prec, emax, low, up, down, below, level, odd, units, round, neg}
+use lib.Dec.{T, ltb}
+use lib.Ieee.{Float, nan, inf, fin, Format, binary64, prec, emax, low, up, down, odd, units, round, neg}
 use lib.Ieee.{sum, add, sub, lt, le, fits}
 use lib.Ieee.Exact.{HasValue, round-exact}
-use lib.Ieee.Fits.{down-pos, and-i, and-l, and-r, round-is}
+use lib.Ieee.Fits.{down-pos, round-is}
 use lib.Ieee.Order.{le-of-values, round-mono}
 use lib.Ieee.Positive.{through}
 use lib.IntN.{ℤ}
+use Rattle.root.proofs.AtMost.{AtMost, at-most, tested}
+use Rattle.root.proofs.Negation.{round-neg}
 use Rattle.root.proofs.StepLaws.{Held, steps-held, steps-value}
 use Rattle.root.specs.Steps.{stepsIn}
 
 -- ---- two finite values
-
--- ±a at most ±b, said without a test
-abbrev AtMost : Bool → ℕ → Bool → ℕ → Type 0
-AtMost false a false b = a ≤ b
-AtMost false a true b = (a ≡ 0) × (b ≡ 0)
-AtMost true a false b = Unit {0}
-AtMost true a true b = b ≤ a
-
-or-l : (p q : Bool) → T p → T (p || q)
-or-l true q t = tt
-or-l false q t = absurd t
-
-either : (p q : Bool) (P : Type 0) → (T p → P) → (T q → P) → T (p || q) → P
-either true q P h k t = h tt
-either false q P h k t = k t
-
-eqb-of : (a b : ℕ) → a ≡ b → T (eqb a b)
-eqb-of a b e = subst (λ (z : ℕ). T (eqb a z)) e (eqb-refl a)
-
-at-most : (s : Bool) (a : ℕ) (t : Bool) (b : ℕ) → T (below s a t b || level s a t b) → AtMost s a t b
-at-most false a false b h =
-    either (ltb a b) (eqb a b && true) (a ≤ b) (λ k. le-of-lt (ltb→lt a b k))
-    (λ k. le-of-eq (eqb→eq a b (and-l (eqb a b) true k))) h
-at-most false a true b h =
-    let e : a ≡ b = eqb→eq a b (and-l (eqb a b) (eqb a 0) h) in
-    let z : a ≡ 0 = eqb→eq a 0 (and-r (eqb a b) (eqb a 0) h) in
-    (z, sym e ∙ z)
-at-most true a false b h = tt
-at-most true a true b h =
-    either (ltb b a) (eqb a b && true) (b ≤ a) (λ k. le-of-lt (ltb→lt b a k))
-    (λ k. le-of-eq (sym (eqb→eq a b (and-l (eqb a b) true k)))) h
-
-ordered : (a b : ℕ) → a ≤ b → T (ltb a b || (eqb a b && true))
-ordered a b h = go (ltb a b) refl
-  where
-    go : (c : Bool) → ltb a b ≡ c → T (c || (eqb a b && true))
-    go true e = tt
-    go false e =
-        let g : b ≤ a = nltb→le a b (subst (λ (z : Bool). T (not z)) (sym e) tt) in
-        and-i (eqb a b) true (eqb-of a b (omega arith)) tt
-
-tested : (s : Bool) (a : ℕ) (t : Bool) (b : ℕ) → AtMost s a t b → T (below s a t b || level s a t b)
-tested false a false b h = ordered a b h
-tested false a true b h = and-i (eqb a b) (eqb a 0) (eqb-of a b (h .0 ∙ sym (h .1))) (eqb-of a 0 (h .0))
-tested true a false b h = go (ltb 0 (a + b)) refl
-  where
-    go : (c : Bool) → ltb 0 (a + b) ≡ c → T (c || (eqb a b && eqb a 0))
-    go true e = tt
-    go false e =
-        let g : a + b ≤ 0 = nltb→le 0 (a + b) (subst (λ (z : Bool). T (not z)) (sym e) tt) in
-        and-i (eqb a b) (eqb a 0) (eqb-of a b (omega arith)) (eqb-of a 0 (omega arith))
-tested true a true b h = go (ltb b a) refl
-  where
-    go : (c : Bool) → ltb b a ≡ c → T (c || (eqb a b && true))
-    go true e = tt
-    go false e =
-        let g : a ≤ b = nltb→le b a (subst (λ (z : Bool). T (not z)) (sym e) tt) in
-        and-i (eqb a b) true (eqb-of a b (omega arith)) tt
 
 -- a product with something above 0 is 0 only if the other is
 none-left : (a q : ℕ) → 0 < q → a * q ≤ 0 → a ≡ 0
@@ -151,7 +95,7 @@ le-trans-float (fin s a p) (fin t b q) (fin u c r) h k =
 
 pub lt→le : (x y : Float) → lt x y ≡ true → T (le x y)
 unfolding le
-lt→le x y e = or-l (lt x y) _ (subst (λ (b : Bool). T b) (sym e) tt)
+lt→le x y e = rw e tt
 
 -- ---- with the margin taken off
 
@@ -181,26 +125,7 @@ round-below : (f : Format) (a c m : ℕ) (e : ℤ) → T (le (round f true a c) 
 round-below f a c m e =
     subst (λ (z : Float). T (le z (fin false m e))) (sym (round-is f true a c)) (units-below f _ _ m e)
 
--- a minus goes to the front of a rounding
-odd-neg : (d q k l : ℕ) → odd d true q k l ≡ neg (odd d false q k l)
-unfolding odd neg
-odd-neg d zero k l = refl
-odd-neg d (suc q) k l = refl
-
-units-neg : (f : Format) (q k : ℕ) → units f true q k ≡ neg (units f false q k)
-unfolding units neg
-units-neg f q k = go (ltb (q * 2 ^ k) (2 ^ (low f + suc (emax f))))
-  where
-    go : (b : Bool)
-        → cond b (odd (suc (prec f)) true q k (low f)) (inf true)
-        ≡ neg (cond b (odd (suc (prec f)) false q k (low f)) (inf false))
-    go true = odd-neg (suc (prec f)) q k (low f)
-    go false = refl
-
-round-neg : (f : Format) (a c : ℕ) → round f true a c ≡ neg (round f false a c)
-round-neg f a c = round-is f true a c ∙ units-neg f _ _ ∙ ap neg (sym (round-is f false a c))
-
--- and turns an order round
+-- a minus turns an order round
 flip-most : (s : Bool) (a : ℕ) (t : Bool) (b : ℕ) → AtMost s a t b → AtMost (not t) b (not s) a
 flip-most false a false b h = h
 flip-most false a true b h = (h .1, h .0)
@@ -290,7 +215,7 @@ less-off (fin true m e) M E t n =
     let turned : T (le (neg (round binary64 false (m * up e * down E + M * up E * down e) (down e * down E)))
     (fin true m e)) = le-neg (fin false m e) _ all in
     subst (λ (z : Float). T (le z (fin true m e)))
-    (sym (round-neg binary64 (m * up e * down E + M * up E * down e) (down e * down E))) turned
+    (sym (round-neg binary64 false (m * up e * down E + M * up E * down e) (down e * down E))) turned
 
 -- whatever stands in an order is a number, and level with itself
 pub le-self : (x y : Float) → T (le x y) → T (le x x)

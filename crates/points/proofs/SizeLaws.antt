@@ -1,7 +1,8 @@
 -- Numbers of bounded size give sums, products, quotients, roots and distances of bounded size: none overflows and none
 -- is a NaN. Assumes nothing.
-use mathlib.Core.Path.{_≡_, refl, sym, ap, subst}
-use mathlib.Core.Bool.{Bool, true, false, _&&_, _||_, Bool·beq, cond, true≢false}
+use mathlib.Core.Path.{_≡_, sym, ap, subst}
+use mathlib.Core.Bool.{Bool, true, false, _&&_, Bool·beq, cond, true≢false}
+use mathlib.Mathlib.Data.Bool.Basic.{or-eq-false-eq-eq-false-and-eq-false}
 use Prim.Native.Nat.{ℕ, zero, suc, _+_, _-_, _*_, _/_, _%_, _^_, _≤_, _<_}
 use native.Mathlib.Nat.{le-trans, le-of-eq, lt-of-le-of-lt, mul-comm, mul-assoc, mul-left-comm, mul-one, mul-pos}
 use native.Mathlib.Nat.{mul-le-mul, mul-le-mul-right, le-of-mul-le-mul-right, mul-lt-mul-of-pos-right}
@@ -280,12 +281,9 @@ good-under (fin s m e) h = ltb-false (largest * down e) (m * up e) h
 
 pub good-near : (p : Point) → badPoint p ≡ false → Near 20 p
 unfolding badPoint
-good-near p h = go (badNumber (p .x)) (badNumber (p .y)) refl refl h
-  where
-    go : (a b : Bool) → badNumber (p .x) ≡ a → badNumber (p .y) ≡ b → (a || b) ≡ false → Near 20 p
-    go true b d e g = absurd (true≢false g)
-    go false true d e g = absurd (true≢false g)
-    go false false d e g = record { x-under = good-under (p .x) d; y-under = good-under (p .y) e }
+good-near p h =
+    let both = or-eq-false-eq-eq-false-and-eq-false (badNumber (p .x)) (badNumber (p .y)) .0 h in
+    record { x-under = good-under (p .x) (both .0); y-under = good-under (p .y) (both .1) }
 
 strictly : (x d k H : ℕ) → x ≤ 2 ^ k * d → 2 ^ k < H → 0 < d → x * 1 < H * d
 strictly x d k H h g D = rw mul-one (lt-of-le-of-lt h (mul-lt-mul-of-pos-right g D))

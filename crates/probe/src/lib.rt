@@ -36,6 +36,7 @@ use closure::CONTOURS;
 use closure::PAIRS;
 use cost::Closest;
 use cost::Measured;
+use hierarchy::Ids;
 use hierarchy::Verdict;
 use root::Rooted;
 
@@ -251,6 +252,24 @@ pub extern "C" fn probe_precedences(
     }
 }
 
+// Tells ids, and how many.
+fn tell_ids(a: Ids, ids: &mut [u32; PAIRS], count: &mut usize) -> u64
+    ensures { λ r. ⌜ r ≡ codeOf (a .check) ⌝ }
+    ensures { λ _. ⌜ now (ids .exit) ≡ fineOr (a .check) (a .ids) (now (ids .entry)) ⌝ }
+    ensures { λ _. ⌜ now (count .exit) ≡ fineOr (a .check) (a .count) (now (count .entry)) ⌝ }
+{
+    let check = a.check;
+    match check {
+        Check::Fine => {
+            let list = a.ids;
+            *ids = list;
+            *count = a.count;
+            0
+        }
+        Check::Refused(_) => answer::code(check),
+    }
+}
+
 #[no_mangle]
 pub extern "C" fn probe_predecessors(
     contours: usize,
@@ -263,17 +282,7 @@ pub extern "C" fn probe_predecessors(
     ensures { λ _. ⌜ now (ids .exit) ≡ fineOr (predecessorsOf contours (now (pairs .entry)) id .check) (predecessorsOf contours (now (pairs .entry)) id .ids) (now (ids .entry)) ⌝ }
     ensures { λ _. ⌜ now (count .exit) ≡ fineOr (predecessorsOf contours (now (pairs .entry)) id .check) (predecessorsOf contours (now (pairs .entry)) id .count) (now (count .entry)) ⌝ }
 {
-    let a = hierarchy::predecessors(contours, pairs, id);
-    let check = a.check;
-    match check {
-        Check::Fine => {
-            let list = a.ids;
-            *ids = list;
-            *count = a.count;
-            0
-        }
-        Check::Refused(_) => answer::code(check),
-    }
+    tell_ids(hierarchy::predecessors(contours, pairs, id), ids, count)
 }
 
 #[no_mangle]
@@ -288,17 +297,7 @@ pub extern "C" fn probe_successors(
     ensures { λ _. ⌜ now (ids .exit) ≡ fineOr (successorsOf contours (now (pairs .entry)) id .check) (successorsOf contours (now (pairs .entry)) id .ids) (now (ids .entry)) ⌝ }
     ensures { λ _. ⌜ now (count .exit) ≡ fineOr (successorsOf contours (now (pairs .entry)) id .check) (successorsOf contours (now (pairs .entry)) id .count) (now (count .entry)) ⌝ }
 {
-    let a = hierarchy::successors(contours, pairs, id);
-    let check = a.check;
-    match check {
-        Check::Fine => {
-            let list = a.ids;
-            *ids = list;
-            *count = a.count;
-            0
-        }
-        Check::Refused(_) => answer::code(check),
-    }
+    tell_ids(hierarchy::successors(contours, pairs, id), ids, count)
 }
 
 // The type of a contour by its number on a card.

@@ -16,7 +16,7 @@ use Rattle.root.specs.Steps.{stepsOf, signOf, hasRoot}
 abbrev pub zeroOf : Bool → Float
 zeroOf s = fin s 0 (pos 0)
 
--- the square of the exact root of x, where the root is counted in steps of 2^-1074: x is stepsOf x of them
+-- the exact root of x, counted in steps of 2^-1074 and then squared: x times 2^2148, and x is stepsOf x * 2^-1074
 abbrev pub rootSquared : Float → ℕ
 rootSquared x = stepsOf x * 2 ^ 1074
 
@@ -24,9 +24,9 @@ rootSquared x = stepsOf x * 2 ^ 1074
 abbrev pub twiceMiddle : Float → Float → ℕ
 twiceMiddle r y = stepsOf r + stepsOf y
 
--- r is the finite number of binary64 that is nearest to the exact root of x, of those not below zero (one below zero is
--- farther than 0 is): against any other y, the root lies strictly on r's side of the middle between r and y. Both sides
--- are taken twice and squared, so that whole numbers say it
+-- r is the finite number of binary64 that is strictly nearest to the exact root of x, among those not below zero (any
+-- below zero is farther than 0 is): against every other y, the root lies on r's side of the middle between r and y.
+-- Root and middle are taken twice and squared, so that whole numbers say it
 pub record NearestRoot (x r : Float) : Type 0 where
   pub held : T (fits binary64 r)
   pub real : T (hasRoot r)
