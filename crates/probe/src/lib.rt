@@ -253,17 +253,17 @@ pub extern "C" fn probe_precedences(
 }
 
 // Tells ids, and how many.
-fn tell_ids(a: Ids, ids: &mut [u32; PAIRS], count: &mut usize) -> u64
-    ensures { λ r. ⌜ r ≡ codeOf (a .check) ⌝ }
-    ensures { λ _. ⌜ now (ids .exit) ≡ fineOr (a .check) (a .ids) (now (ids .entry)) ⌝ }
-    ensures { λ _. ⌜ now (count .exit) ≡ fineOr (a .check) (a .count) (now (count .entry)) ⌝ }
+fn tell_ids(found: Ids, ids: &mut [u32; PAIRS], count: &mut usize) -> u64
+    ensures { λ r. ⌜ r ≡ codeOf (found .check) ⌝ }
+    ensures { λ _. ⌜ now (ids .exit) ≡ fineOr (found .check) (found .ids) (now (ids .entry)) ⌝ }
+    ensures { λ _. ⌜ now (count .exit) ≡ fineOr (found .check) (found .count) (now (count .entry)) ⌝ }
 {
-    let check = a.check;
+    let check = found.check;
     match check {
         Check::Fine => {
-            let list = a.ids;
+            let list = found.ids;
             *ids = list;
-            *count = a.count;
+            *count = found.count;
             0
         }
         Check::Refused(_) => answer::code(check),
