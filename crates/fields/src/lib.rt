@@ -4,7 +4,7 @@ ghost use mathlib.Core.Path.{_≡_};
 ghost use Prim.Native.Nat.{_+_, _<_, min};
 ghost use lib.ListN.{length};
 ghost use Rattle.block.specs.Field.{byteAt, u32At};
-ghost use Rattle.fields.specs.Layout.{payload, jobOf, contoursOf, pairsOf, perContourOf, passesOf, moveLimitOf, homeOffset, exteriorOf, interiorOf, idOf, tagOf, vertexCountOf, typeOf, vertexOffset, pairOffset, beforeIdOf, beforeTagOf, afterIdOf, afterTagOf};
+ghost use Rattle.fields.specs.Layout.{payload, jobOf, contoursOf, pairsOf, perContourOf, passesOf, moveLimitOf, homeOffset, exteriorOf, interiorOf, pairBytes, idOf, tagOf, vertexCountOf, typeOf, vertexOffset, pairOffset, beforeIdOf, beforeTagOf, afterIdOf, afterTagOf};
 ghost use Rattle.fields.specs.Values.{asType, asPreference, pointAt};
 use answer::ContourType;
 use answer::CutDirectionPreference;
@@ -31,48 +31,100 @@ pub const PAIRS_A_BLOCK: usize = 31;
 // Where a block's payload begins in it.
 pub const PAYLOAD_AT: usize = 8;
 
+// ---- where each field stands, and how many bytes the fields take
+
+// The head's fields, from the card's beginning.
+pub const JOB_AT: usize = PAYLOAD_AT;
+
+pub const CONTOURS_AT: usize = PAYLOAD_AT + 4;
+
+pub const PAIRS_AT: usize = PAYLOAD_AT + 6;
+
+pub const PER_CONTOUR_AT: usize = PAYLOAD_AT + 8;
+
+pub const PASSES_AT: usize = PAYLOAD_AT + 10;
+
+pub const MOVE_LIMIT_AT: usize = PAYLOAD_AT + 12;
+
+pub const HOME_AT: usize = PAYLOAD_AT + 16;
+
+pub const EXTERIOR_AT: usize = PAYLOAD_AT + 32;
+
+pub const INTERIOR_AT: usize = PAYLOAD_AT + 33;
+
+pub const HEAD_BYTES: usize = 34;
+
+// A contour's, from the beginning of its block's payload; its vertices come after them.
+pub const ID_AT: usize = 0;
+
+pub const TAG_AT: usize = 4;
+
+pub const VERTEX_COUNT_AT: usize = 8;
+
+pub const TYPE_AT: usize = 10;
+
+pub const FILLER_AT: usize = 11;
+
+pub const CONTOUR_BYTES: usize = 12;
+
+// A vertex's y, from its x; likewise home's.
+pub const Y_AT: usize = 8;
+
+pub const VERTEX_BYTES: usize = 16;
+
+// A pair's, from its own beginning.
+pub const BEFORE_ID_AT: usize = 0;
+
+pub const BEFORE_TAG_AT: usize = 4;
+
+pub const AFTER_ID_AT: usize = 8;
+
+pub const AFTER_TAG_AT: usize = 12;
+
+pub const PAIR_BYTES: usize = 16;
+
 // ---- the head
 
 // The job's number.
 pub fn job(card: &[u8]) -> u32
     ensures { λ r. ⌜ r ≡ jobOf (now (card .entry)) ⌝ }
 {
-    block::u32_at(card, 8)
+    block::u32_at(card, JOB_AT)
 }
 
 // How many contours the card has.
 pub fn contours(card: &[u8]) -> usize
     ensures { λ r. ⌜ r ≡ contoursOf (now (card .entry)) ⌝ }
 {
-    block::u16_at(card, 12) as usize
+    block::u16_at(card, CONTOURS_AT) as usize
 }
 
 // How many pairs it has.
 pub fn pairs(card: &[u8]) -> usize
     ensures { λ r. ⌜ r ≡ pairsOf (now (card .entry)) ⌝ }
 {
-    block::u16_at(card, 14) as usize
+    block::u16_at(card, PAIRS_AT) as usize
 }
 
 // How many candidates each contour is to have.
 pub fn per_contour(card: &[u8]) -> usize
     ensures { λ r. ⌜ r ≡ perContourOf (now (card .entry)) ⌝ }
 {
-    block::u16_at(card, 16) as usize
+    block::u16_at(card, PER_CONTOUR_AT) as usize
 }
 
 // How many passes the search may take.
 pub fn passes(card: &[u8]) -> usize
     ensures { λ r. ⌜ r ≡ passesOf (now (card .entry)) ⌝ }
 {
-    block::u16_at(card, 18) as usize
+    block::u16_at(card, PASSES_AT) as usize
 }
 
 // How many moves the search may try; 0 is no limit.
 pub fn move_limit(card: &[u8]) -> u32
     ensures { λ r. ⌜ r ≡ moveLimitOf (now (card .entry)) ⌝ }
 {
-    block::u32_at(card, 20)
+    block::u32_at(card, MOVE_LIMIT_AT)
 }
 
 // Where the tour starts.
@@ -80,8 +132,8 @@ pub fn home(card: &[u8]) -> Point
     ensures { λ r. ⌜ r ≡ pointAt (now (card .entry)) homeOffset ⌝ }
 {
     Point {
-        x: block::f64_at(card, 24),
-        y: block::f64_at(card, 32),
+        x: block::f64_at(card, HOME_AT),
+        y: block::f64_at(card, HOME_AT + Y_AT),
     }
 }
 
@@ -102,13 +154,13 @@ fn preference(b: u8) -> CutDirectionPreference
 pub fn exterior(card: &[u8]) -> CutDirectionPreference
     ensures { λ r. ⌜ r ≡ asPreference (exteriorOf (now (card .entry))) ⌝ }
 {
-    preference(block::byte_at(card, 40))
+    preference(block::byte_at(card, EXTERIOR_AT))
 }
 
 pub fn interior(card: &[u8]) -> CutDirectionPreference
     ensures { λ r. ⌜ r ≡ asPreference (interiorOf (now (card .entry))) ⌝ }
 {
-    preference(block::byte_at(card, 41))
+    preference(block::byte_at(card, INTERIOR_AT))
 }
 
 // ---- offsets
@@ -147,19 +199,19 @@ fn vertex_offset(card: &[u8], k: usize, j: usize) -> usize
     ensures { λ r. ⌜ r ≡ min (vertexOffset k j) (length (now (card .entry))) ⌝ }
 {
     let end = card.len();
-    let start = contour_offset(card, k, 12);
-    if (end - start) / 16 < j {
+    let start = contour_offset(card, k, CONTOUR_BYTES);
+    if (end - start) / VERTEX_BYTES < j {
         return end;
     }
-    start + 16 * j
+    start + VERTEX_BYTES * j
 }
 
 // Where pair q stands, cut off likewise.
 fn pair_offset(card: &[u8], q: usize) -> usize
     ensures { λ r. ⌜ r ≡ min (pairOffset (now (card .entry)) q) (length (now (card .entry))) ⌝ }
 {
-    let first = (block::u16_at(card, 12) as usize) + 1;
-    payload_offset(card, first + q / PAIRS_A_BLOCK, 16 * (q % PAIRS_A_BLOCK))
+    let first = (block::u16_at(card, CONTOURS_AT) as usize) + 1;
+    payload_offset(card, first + q / PAIRS_A_BLOCK, PAIR_BYTES * (q % PAIRS_A_BLOCK))
 }
 
 // ---- a contour
@@ -181,28 +233,28 @@ fn contour_u32(card: &[u8], k: usize, offset: usize) -> u32
 pub fn id(card: &[u8], k: usize) -> u32
     ensures { λ r. ⌜ r ≡ idOf (now (card .entry)) k ⌝ }
 {
-    contour_u32(card, k, 0)
+    contour_u32(card, k, ID_AT)
 }
 
 // Contour k's tag.
 pub fn tag(card: &[u8], k: usize) -> u32
     ensures { λ r. ⌜ r ≡ tagOf (now (card .entry)) k ⌝ }
 {
-    contour_u32(card, k, 4)
+    contour_u32(card, k, TAG_AT)
 }
 
 // How many vertices contour k has.
 pub fn vertices(card: &[u8], k: usize) -> usize
     ensures { λ r. ⌜ r ≡ vertexCountOf (now (card .entry)) k ⌝ }
 {
-    block::u16_at(card, contour_offset(card, k, 8)) as usize
+    block::u16_at(card, contour_offset(card, k, VERTEX_COUNT_AT)) as usize
 }
 
 // Whether contour k is the outline of a part or a hole in one. On a card that was not checked, any byte but 0 is a hole.
 pub fn contour_type(card: &[u8], k: usize) -> ContourType
     ensures { λ r. ⌜ r ≡ asType (typeOf (now (card .entry)) k) ⌝ }
 {
-    let b = contour_byte(card, k, 10);
+    let b = contour_byte(card, k, TYPE_AT);
     if b == 0 {
         return ContourType::Exterior;
     }
@@ -216,7 +268,7 @@ pub fn vertex(card: &[u8], k: usize, j: usize) -> Point
     let at = vertex_offset(card, k, j);
     Point {
         x: block::f64_at(card, at),
-        y: block::f64_at(card, at + 8),
+        y: block::f64_at(card, at + Y_AT),
     }
 }
 
@@ -224,7 +276,7 @@ pub fn vertex(card: &[u8], k: usize, j: usize) -> Point
 
 // A field of pair q.
 fn pair_u32(card: &[u8], q: usize, offset: usize) -> u32
-    requires { ⌜ offset < 16 ⌝ }
+    requires { ⌜ offset < pairBytes ⌝ }
     ensures { λ r. ⌜ r ≡ u32At (now (card .entry)) (pairOffset (now (card .entry)) q + offset) ⌝ }
 {
     block::u32_at(card, pair_offset(card, q) + offset)
@@ -234,23 +286,23 @@ fn pair_u32(card: &[u8], q: usize, offset: usize) -> u32
 pub fn before_id(card: &[u8], q: usize) -> u32
     ensures { λ r. ⌜ r ≡ beforeIdOf (now (card .entry)) q ⌝ }
 {
-    pair_u32(card, q, 0)
+    pair_u32(card, q, BEFORE_ID_AT)
 }
 
 pub fn before_tag(card: &[u8], q: usize) -> u32
     ensures { λ r. ⌜ r ≡ beforeTagOf (now (card .entry)) q ⌝ }
 {
-    pair_u32(card, q, 4)
+    pair_u32(card, q, BEFORE_TAG_AT)
 }
 
 pub fn after_id(card: &[u8], q: usize) -> u32
     ensures { λ r. ⌜ r ≡ afterIdOf (now (card .entry)) q ⌝ }
 {
-    pair_u32(card, q, 8)
+    pair_u32(card, q, AFTER_ID_AT)
 }
 
 pub fn after_tag(card: &[u8], q: usize) -> u32
     ensures { λ r. ⌜ r ≡ afterTagOf (now (card .entry)) q ⌝ }
 {
-    pair_u32(card, q, 12)
+    pair_u32(card, q, AFTER_TAG_AT)
 }

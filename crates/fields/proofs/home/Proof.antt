@@ -9,4 +9,4 @@ unfolding pointAt
 returns c = rw (c .before .f64-at .ensures, c .f64-at2 .ensures)
 
 pub home-spec : {M : Type 1} → statement M
-home-spec = tie.close (tie.spec (λ c κs. search needs) (λ c κs. search needs) returns)
+home-spec = tie.close (tie.spec (λ c κs. search needs) (λ c. search needs) (λ c κs. search needs) returns)
