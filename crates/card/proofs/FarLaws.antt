@@ -1,29 +1,27 @@
 -- Places of coordinates: home, then each contour one place further on; a vertex read at a place cut off at the card's
 -- end. Assumes nothing.
-use mathlib.Core.Path.{_≡_, sym}
-use mathlib.Core.Bool.{Bool, true, false}
+use mathlib.Core.Path.{_≡_, refl, sym, ap, _∙_}
+use mathlib.Core.Bool.{Bool}
 use mathlib.Core.List.{List}
-use Prim.Native.Nat.{ℕ, _+_, min}
-use native.Mathlib.Numerals.{add-one}
+use Prim.Native.Nat.{ℕ, zero, suc, _+_, _-_, min}
 use native.Mathlib.Nat.{add-assoc}
+use native.Mathlib.Omega.{arith}
 use lib.ListN.{length}
 use Rattle.answer.specs.declared.Found.{Found}
-use Rattle.answer.specs.declared.Found.the-variants.{At, Absent}
-use Rattle.answer.proofs.LowestLaws.{Nowhere}
 use Rattle.block.specs.Field.{u64At}
 use Rattle.block.proofs.Readings.{cut-u64}
 use Rattle.fields.specs.Layout.{homeOffset}
-use Rattle.card.specs.Stages.{farPoint, farVertex, farPlace}
-use Rattle.card.proofs.LoopLaws.{none-yet, one-more}
+use Rattle.card.specs.Stages.{isAt, farPoint, farVertex, farPlace}
 
-pub home-near : (s : List ℕ) → farPoint s homeOffset ≡ false → Nowhere (farPlace s) (0 + 1)
-home-near s e = one-more (farPlace s) 0 (none-yet (farPlace s)) e
+pub at-home : (s : List ℕ) (place : ℕ) (r : Bool) → place ≡ 0 → r ≡ farPoint s homeOffset → r ≡ farPlace s place
+at-home s place r z e = e ∙ ap (farPlace s) (sym z)
 
-pub contour-near : (s : List ℕ) (k : ℕ) (f : Found) → f ≡ farVertex s k → f ≡ Absent → farPlace s (k + 1) ≡ false
-contour-near s k f e a = rw (add-one, ← e, a)
-
-pub contour-far : (s : List ℕ) (k j : ℕ) (f : Found) → f ≡ farVertex s k → f ≡ At j → farPlace s (k + 1) ≡ true
-contour-far s k j f e a = rw (add-one, ← e, a)
+pub at-contour : (s : List ℕ) (place : ℕ) (f : Found) → (place ≡ 0 → ⊥) → f ≡ farVertex s (place - 1)
+    → isAt f ≡ farPlace s place
+at-contour s zero f later e = absurd (later refl)
+at-contour s (suc k) f later e =
+    let n : suc k - 1 ≡ k = omega arith in
+    ap isAt (e ∙ ap (farVertex s) n)
 
 -- the point that was looked at is the vertex
 pub vertex-looked-at : (s : List ℕ) (a at i : ℕ) (r : Bool) → at ≡ min a (length s) → r ≡ farPoint s (at + i)

@@ -3,10 +3,11 @@
 use mathlib.Core.Path.{_≡_, refl, sym, ap, _∙_}
 use mathlib.Core.Bool.{false}
 use mathlib.Core.List.{List, [], _∷_, _++_}
-use Prim.Native.Nat.{ℕ, _*_, _≤_}
+use Prim.Native.Nat.{ℕ, zero, suc, _+_, _*_, _≤_, _<_}
 use native.Mathlib.Omega.{arith}
 use lib.Dec.{lit<}
-use lib.ListN.{length, take, getD, length-take}
+use lib.ListN.{length, take, getD, length-take, List·getD-eq-default}
+use borrow.Author.Count.{below-none, below-more}
 use borrow.Author.Tests.{ltb-false}
 use Rattle.answer.specs.declared.Refusal.{Refusal}
 use Rattle.answer.specs.declared.Found.{Found}
@@ -17,21 +18,21 @@ use Rattle.answer.specs.Stage.{orElse, firstRefusal}
 use Rattle.answer.specs.Lowest.{refuseAt}
 use Rattle.answer.proofs.LowestLaws.{is-absent}
 use Rattle.answer.proofs.RoomLaws.{padded-front}
-use Rattle.answer.proofs.StageLaws.{is-fine}
+use Rattle.answer.proofs.StageLaws.{refused-is, fine-is, is-fine}
 use Rattle.closure.specs.Limits.{CONTOURS, PAIRS}
 use Rattle.closure.specs.Cycle.{firstOnCycle}
 use Rattle.card.specs.declared.Named.{Named}
 use Rattle.fields.specs.Layout.{contoursOf, pairsOf}
 use Rattle.card.specs.Stages.{headFaults, headFault, nameFault}
 use Rattle.card.specs.Names.{pairsOn, namedPairs}
-use Rattle.card.specs.Verdict.{cycleFault, headStages, blockStages, contourStages, pairStages, checkOf}
+use Rattle.card.specs.Verdict.{cycleFault, cardStages, pairStages, checkOf}
 
 module _ (x a : Check) (more : List Check) (is : a ≡ x) where
-  pub stopped : (r : Refusal) → a ≡ Refused r → a ≡ firstRefusal (x ∷ more)
+  stopped : (r : Refusal) → a ≡ Refused r → a ≡ firstRefusal (x ∷ more)
   unfolding firstRefusal
   stopped r e = rw (← is, e)
 
-  pub passed : (b : Check) → a ≡ Fine → b ≡ firstRefusal more → b ≡ firstRefusal (x ∷ more)
+  passed : (b : Check) → a ≡ Fine → b ≡ firstRefusal more → b ≡ firstRefusal (x ∷ more)
   unfolding firstRefusal
   passed b e f = rw (← is, e) f
 
@@ -43,7 +44,7 @@ last-stage (Refused r) a e = e
 -- a stage as the code takes it, with the number it refuses with and what its search found: it stops there, lets the
 -- next ones go on, or is the last
 module _ (number : ℕ) {f g : Found} {a : Check} (made : a ≡ refuseAt number f) (found : f ≡ g) where
-  stage-is : a ≡ refuseAt number g
+  pub stage-is : a ≡ refuseAt number g
   stage-is = made ∙ ap (refuseAt number) found
 
   pub stops-at : (more : List Check) {r : Refusal} → a ≡ Refused r → a ≡ firstRefusal (refuseAt number g ∷ more)
@@ -78,41 +79,41 @@ fine-absent number (At k) e = let z : _≡_ {A = ℕ} 0 1 = cc in absurd (omega 
 fine-absent number Absent e = refl
 
 module _ (s : List ℕ) (r : Named) (is : r ≡ namedPairs s) where
-  pub named-stage : r .check ≡ refuseAt 10 (nameFault s)
+  pub named-stopped : r .stopped ≡ nameFault s
   unfolding namedPairs
-  named-stage = rw is
+  named-stopped = rw is
 
-  -- where every id is known, the places that are used hold all pairs
-  module _ (e : r .check ≡ Fine) where
+  -- where every id is known, the positions that are used are all pairs'
+  module _ {a : Check} (made : a ≡ refuseAt 10 (r .stopped)) (e : a ≡ Fine) where
     named-known : nameFault s ≡ Absent
-    named-known = fine-absent 10 (nameFault s) (sym named-stage ∙ e)
+    named-known = sym named-stopped ∙ fine-absent 10 (r .stopped) (sym made ∙ e)
 
-    pub named-seats : take (r .count) (r .places) ≡ pairsOn s
+    pub named-seats : take (r .count) (r .positions) ≡ pairsOn s
     unfolding namedPairs
     named-seats = rw (is, named-known) (padded-front (2 * PAIRS) 0 (pairsOn s) (length (pairsOn s)) refl)
 
-    pub named-whole : r .count ≡ length (take (r .count) (r .places))
+    pub named-whole : r .count ≡ length (take (r .count) (r .positions))
     unfolding namedPairs
     named-whole =
         let count : r .count ≡ length (pairsOn s) = rw (is, named-known) in
         count ∙ sym (ap length named-seats)
 
-    pub named-within : r .count ≤ length (r .places)
-    named-within = omega (arith, length-take (r .count) (r .places), named-whole)
+    pub named-within : r .count ≤ length (r .positions)
+    named-within = omega (arith, length-take (r .count) (r .positions), named-whole)
 
 -- ---- the counts that the first stages let pass
 
-pub few-contours : (s : List ℕ) → firstRefusal (headStages s) ≡ Fine → contoursOf s ≤ CONTOURS
+pub few-contours : (s : List ℕ) → firstRefusal (cardStages s) ≡ Fine → contoursOf s ≤ CONTOURS
 unfolding headFault
 few-contours s e =
     ltb-false _ _ (is-absent (λ f. getD (headFaults s) f false) 8
-    (fine-absent 4 (headFault s) (is-fine (headStages s) e 3 (lit< tt))) 1 (lit< tt))
+    (fine-absent 4 (headFault s) (is-fine (cardStages s) e 3 (lit< tt))) 1 (lit< tt))
 
-pub few-pairs : (s : List ℕ) → firstRefusal (headStages s) ≡ Fine → pairsOf s ≤ PAIRS
+pub few-pairs : (s : List ℕ) → firstRefusal (cardStages s) ≡ Fine → pairsOf s ≤ PAIRS
 unfolding headFault
 few-pairs s e =
     ltb-false _ _ (is-absent (λ f. getD (headFaults s) f false) 8
-    (fine-absent 4 (headFault s) (is-fine (headStages s) e 3 (lit< tt))) 2 (lit< tt))
+    (fine-absent 4 (headFault s) (is-fine (cardStages s) e 3 (lit< tt))) 2 (lit< tt))
 
 -- the cycle's stage, from the positions handed in
 pub cycle-is : (s p : List ℕ) (n : ℕ) (f : Found) → n ≡ contoursOf s → p ≡ pairsOn s → f ≡ firstOnCycle n p
@@ -120,32 +121,52 @@ pub cycle-is : (s p : List ℕ) (n : ℕ) (f : Found) → n ≡ contoursOf s →
 unfolding cycleFault
 cycle-is s p n f e h g = g ∙ ap (λ (x : ℕ). firstOnCycle x p) e ∙ ap (firstOnCycle (contoursOf s)) h
 
--- ---- the verdict, from the four groups
+-- ---- the stages before the pairs', one rank after the other
 
-module _ (s : List ℕ) where
-  pub head-stops : (a : Check) (r : Refusal) → a ≡ firstRefusal (headStages s) → a ≡ Refused r → a ≡ checkOf s
+-- the stage of a rank
+pub at-rank : (s : List ℕ) (k : ℕ) {rank : ℕ} {a : Check} → rank ≡ k → a ≡ getD (cardStages s) k Fine
+    → a ≡ getD (cardStages s) rank Fine
+at-rank s k e is = is ∙ ap (λ (j : ℕ). getD (cardStages s) j Fine) (sym e)
+
+-- x is none of the numbers below k
+abbrev NoneBelow : ℕ → ℕ → Type 0
+NoneBelow zero x = Unit
+NoneBelow (suc k) x = NoneBelow k x × (x ≡ k → ⊥)
+
+not-below : (k x : ℕ) → NoneBelow k x → k ≤ x
+not-below zero x none = omega arith
+not-below (suc k) x (none, other) = let h = not-below k x none in omega arith
+
+-- there are ten ranks
+pub past-stages : (s : List ℕ) (k : ℕ) → NoneBelow 10 k → Fine ≡ getD (cardStages s) k Fine
+past-stages s k none = sym (List·getD-eq-default (cardStages s) Fine (not-below 10 k none))
+
+-- no stage below rank k refuses
+abbrev pub Passed : List Check → ℕ → Type 0
+Passed stages k = (j : ℕ) → j < k → getD stages j Fine ≡ Fine
+
+module _ (stages : List Check) where
+  pub none-passed : Passed stages 0
+  none-passed = below-none (λ j. getD stages j Fine ≡ Fine)
+
+  pub one-passed : (k : ℕ) {a : Check} → Passed stages k → a ≡ getD stages k Fine → a ≡ Fine → Passed stages (k + 1)
+  one-passed k past is e = below-more (λ j. getD stages j Fine ≡ Fine) k past (sym is ∙ e)
+
+  pub stopped-at : (k : ℕ) {a : Check} {r : Refusal} → Passed stages k → k < length stages → a ≡ getD stages k Fine
+      → a ≡ Refused r → a ≡ firstRefusal stages
+  stopped-at k past h is e =
+      e ∙ sym (refused-is stages k _ (record { within = h; refuses = sym is ∙ e; before = past }))
+
+  pub all-passed : (k : ℕ) → Passed stages k → length stages ≤ k → Fine ≡ firstRefusal stages
+  all-passed k past h = sym (fine-is stages (λ j g. past j (omega arith)))
+
+-- ---- the verdict: what comes before the pairs, then the pairs
+
+module _ (s : List ℕ) (a : Check) (first : a ≡ firstRefusal (cardStages s)) where
+  pub stages-stop : (r : Refusal) → a ≡ Refused r → a ≡ checkOf s
   unfolding checkOf
-  head-stops a r e f = group-stopped (headStages s) (blockStages s ++ contourStages s ++ pairStages s) a e r f
+  stages-stop r f = group-stopped (cardStages s) (pairStages s) a first r f
 
-  module _ (a : Check) (first : a ≡ firstRefusal (headStages s)) (fine : a ≡ Fine) where
-    pub blocks-stop : (b : Check) (r : Refusal) → b ≡ firstRefusal (blockStages s) → b ≡ Refused r → b ≡ checkOf s
-    unfolding checkOf
-    blocks-stop b r e f =
-        group-passed (headStages s) (blockStages s ++ contourStages s ++ pairStages s) a first b fine
-        (group-stopped (blockStages s) (contourStages s ++ pairStages s) b e r f)
-
-    module _ (b : Check) (second : b ≡ firstRefusal (blockStages s)) (fine′ : b ≡ Fine) where
-      pub contours-stop : (c : Check) (r : Refusal) → c ≡ firstRefusal (contourStages s) → c ≡ Refused r → c ≡ checkOf s
-      unfolding checkOf
-      contours-stop c r e f =
-          group-passed (headStages s) (blockStages s ++ contourStages s ++ pairStages s) a first c fine
-          (group-passed (blockStages s) (contourStages s ++ pairStages s) b second c fine′
-          (group-stopped (contourStages s) (pairStages s) c e r f))
-
-      pub pairs-say : (c d : Check) → c ≡ firstRefusal (contourStages s) → c ≡ Fine → d ≡ firstRefusal (pairStages s)
-          → d ≡ checkOf s
-      unfolding checkOf
-      pairs-say c d third e f =
-          group-passed (headStages s) (blockStages s ++ contourStages s ++ pairStages s) a first d fine
-          (group-passed (blockStages s) (contourStages s ++ pairStages s) b second d fine′
-          (group-passed (contourStages s) (pairStages s) c third d e f))
+  pub pairs-say : (b : Check) → a ≡ Fine → b ≡ firstRefusal (pairStages s) → b ≡ checkOf s
+  unfolding checkOf
+  pairs-say b e f = group-passed (cardStages s) (pairStages s) a first b e f

@@ -1,4 +1,4 @@
--- What a lookup of an id tells of repeats and of pairs, and the pairs' positions one pair at a time. Assumes nothing.
+-- What a lookup of an id tells of pairs, and the pairs' positions one pair at a time. Assumes nothing.
 use mathlib.Core.Path.{_≡_, refl, sym, ap, _∙_}
 use mathlib.Core.Logic.{⊎-elim}
 use mathlib.Core.Bool.{Bool, true, false, not, _||_}
@@ -7,32 +7,21 @@ use Prim.Native.Nat.{ℕ, zero, suc, _+_, _*_, _≤_, _<_}
 use native.Mathlib.Nat.{eq-or-lt-of-le, not-suc-le-zero, le-of-suc-le-suc}
 use native.Mathlib.Numerals.{add-one}
 use native.Mathlib.Omega.{arith}
-use lib.Dec.{eqb}
-use borrow.Author.Tests.{lt-ltb, le-ltb}
+use lib.Dec.{eqb, ltb}
+use borrow.Author.Tests.{ltb-false}
 use lib.ListN.{length, getD, set, replicate, length-append, List·getD-append}
 use lib.Seq.{getD-at, getD-append-add}
 use Rattle.answer.specs.declared.Found.{Found}
 use Rattle.answer.specs.declared.Found.the-variants.{At, Absent}
-use Rattle.answer.specs.declared.Check.{Check}
-use Rattle.answer.specs.declared.Check.the-variants.{Fine, Refused}
 use Rattle.answer.specs.Room.{padded}
 use Rattle.answer.proofs.LowestLaws.{Nowhere, is-at}
 use Rattle.answer.proofs.RoomLaws.{padded-two}
 use Rattle.card.specs.declared.Named.{Named}
 use Rattle.closure.specs.Limits.{CONTOURS, PAIRS}
-use Rattle.fields.specs.Layout.{idOf, tagOf, contoursOf, pairsOf, beforeIdOf, beforeTagOf, afterIdOf, afterTagOf}
-use Rattle.card.specs.Stages.{isAt, seekOf, repeats, positionOf, unnamed, nameFault, beforeOf, afterOf, otherTag}
+use Rattle.fields.specs.Layout.{tagOf, contoursOf, pairsOf, beforeIdOf, beforeTagOf, afterIdOf, afterTagOf}
+use Rattle.card.specs.Stages.{isAt, seekOf, positionOf, unnamed, nameFault, beforeOf, afterOf, otherTag}
 use Rattle.card.specs.Names.{seatsOf, namedPairs, namedOf}
 use Rattle.card.proofs.LoopLaws.{found-here, none-found}
-
--- ---- repeats
-
-module _ (s : List ℕ) (k id : ℕ) (f : Found) (own : id ≡ idOf s k) (sought : f ≡ seekOf s k id) where
-  pub id-repeats : (j : ℕ) → f ≡ At j → repeats s k ≡ true
-  id-repeats j e = rw (← own, ← sought, e)
-
-  pub id-is-new : f ≡ Absent → repeats s k ≡ false
-  id-is-new e = rw (← own, ← sought, e)
 
 -- ---- the two contours of a pair
 
@@ -44,6 +33,10 @@ position-below s id k f e h = is-at _ (contoursOf s) k (sym e ∙ h) .within
 or-true : (a : Bool) → a || true ≡ true
 or-true true = refl
 or-true false = refl
+
+neither : (a b : Bool) → a || b ≡ false → (a ≡ false) × (b ≡ false)
+neither true b e = let z : _≡_ {A = ℕ} 0 1 = cc in absurd (omega arith)
+neither false b e = (refl, e)
 
 module _ (s : List ℕ) (q : ℕ) where
   pub first-unknown : (id : ℕ) (f : Found) → id ≡ beforeIdOf s q → f ≡ positionOf s id → f ≡ Absent → unnamed s q ≡ true
@@ -91,24 +84,23 @@ places-more s p q b a h e f g =
 
 -- ---- what the loop hands out
 
-module _ (s p : List ℕ) (q : ℕ) (check : Check) (before : Nowhere (unnamed s) q)
-    (filled : p ≡ padded (2 * PAIRS) 0 (seatsOf s q)) where
-  -- so many places are used
-  counted : _≡_ {A = Named} (record { check = check; places = p; count = 2 * q })
-      (record { check = check; places = padded (2 * PAIRS) 0 (seatsOf s q); count = length (seatsOf s q) })
-  counted = rw (filled, seats-length s q)
+module _ (s p : List ℕ) (q : ℕ) (before : Nowhere (unnamed s) q) (filled : p ≡ padded (2 * PAIRS) 0 (seatsOf s q)) where
+  -- so many positions are used
+  counted : (stop : Found) → _≡_ {A = Named} (record { stopped = stop; positions = p; count = 2 * q })
+      (record { stopped = stop; positions = padded (2 * PAIRS) 0 (seatsOf s q); count = length (seatsOf s q) })
+  counted stop = rw (filled, seats-length s q)
 
-  pub named-until : q < pairsOf s → unnamed s q ≡ true → check ≡ Refused (record { number = 10; place = q })
-      → _≡_ {A = Named} (record { check = check; places = p; count = 2 * q }) (namedPairs s)
+  pub named-until : q < pairsOf s → unnamed s q ≡ true
+      → _≡_ {A = Named} (record { stopped = At q; positions = p; count = 2 * q }) (namedPairs s)
   unfolding namedPairs nameFault
-  named-until h e f = counted ∙ rw (← found-here (unnamed s) (pairsOf s) q h before e, f)
+  named-until h e = counted (At q) ∙ rw (← found-here (unnamed s) (pairsOf s) q h before e)
 
-  pub named-all : pairsOf s ≤ q → q ≤ pairsOf s → check ≡ Fine
-      → _≡_ {A = Named} (record { check = check; places = p; count = 2 * q }) (namedPairs s)
+  pub named-all : pairsOf s ≤ q → q ≤ pairsOf s
+      → _≡_ {A = Named} (record { stopped = Absent; positions = p; count = 2 * q }) (namedPairs s)
   unfolding namedPairs nameFault
-  named-all h g f =
+  named-all h g =
       let e : pairsOf s ≡ q = omega arith in
-      counted ∙ rw (← none-found (unnamed s) (pairsOf s) q h before, f, e)
+      counted Absent ∙ rw (← none-found (unnamed s) (pairsOf s) q h before, e)
 
 -- ---- a pair's two places
 
@@ -154,18 +146,21 @@ seats-handed s p m e = ap length e ∙ seats-length s m
 
 -- ---- more contours or pairs than a card takes
 
-pub too-many-contours : (s : List ℕ) (check : Check) → CONTOURS < contoursOf s
-    → check ≡ Refused (record { number = 4; place = 1 })
-    → _≡_ {A = Named} (record { check = check; places = replicate (2 * PAIRS) 0; count = 0 }) (namedOf s)
-unfolding namedOf
-too-many-contours s check h e = rw (lt-ltb CONTOURS (contoursOf s) h, e)
+module _ (s : List ℕ) (n m : ℕ) (count : n ≡ contoursOf s) (pairs : m ≡ pairsOf s) where
+  asked : (ltb CONTOURS (contoursOf s) || ltb PAIRS (pairsOf s)) ≡ (ltb CONTOURS n || ltb PAIRS m)
+  asked = rw (count, pairs)
 
-module _ (s : List ℕ) (few : contoursOf s ≤ CONTOURS) where
-  pub too-many-pairs : (check : Check) → PAIRS < pairsOf s → check ≡ Refused (record { number = 4; place = 2 })
-      → _≡_ {A = Named} (record { check = check; places = replicate (2 * PAIRS) 0; count = 0 }) (namedOf s)
-  unfolding namedOf
-  too-many-pairs check h e = rw (le-ltb CONTOURS (contoursOf s) few, lt-ltb PAIRS (pairsOf s) h, e)
+  pub too-many : (ltb CONTOURS n || ltb PAIRS m) ≡ true
+      → _≡_ {A = Named} (record { stopped = At 0; positions = replicate (2 * PAIRS) 0; count = 0 }) (namedOf s)
+  unfolding namedOf seatsOf
+  too-many h = rw (asked, h)
 
-  pub few-enough : (r : Named) → pairsOf s ≤ PAIRS → r ≡ namedPairs s → r ≡ namedOf s
-  unfolding namedOf
-  few-enough r h e = rw (le-ltb CONTOURS (contoursOf s) few, le-ltb PAIRS (pairsOf s) h) e
+  module _ (few : (ltb CONTOURS n || ltb PAIRS m) ≡ false) where
+    pub few-enough : (contoursOf s ≤ CONTOURS) × (pairsOf s ≤ PAIRS)
+    few-enough =
+        let both = neither (ltb CONTOURS (contoursOf s)) (ltb PAIRS (pairsOf s)) (asked ∙ few) in
+        (ltb-false _ _ (both .0), ltb-false _ _ (both .1))
+
+    pub few-named : (r : Named) → r ≡ namedPairs s → r ≡ namedOf s
+    unfolding namedOf
+    few-named r e = rw (asked, few) e

@@ -1,13 +1,11 @@
 -- A card's pairs as positions of contours, as far as the ids are known. Assumes nothing.
-use mathlib.Core.Bool.{cond}
+use mathlib.Core.Bool.{cond, _||_}
 use mathlib.Core.List.{List, [], _∷_, _++_}
 use Prim.Native.Nat.{ℕ, zero, suc, _*_}
 use lib.Dec.{ltb}
-use lib.ListN.{length, replicate}
+use lib.ListN.{length}
 use Rattle.answer.specs.declared.Found.{Found}
 use Rattle.answer.specs.declared.Found.the-variants.{At, Absent}
-use Rattle.answer.specs.declared.Check.the-variants.{Refused}
-use Rattle.answer.specs.Lowest.{refuseAt}
 use Rattle.answer.specs.Room.{padded}
 use Rattle.card.specs.declared.Named.{Named}
 use Rattle.closure.specs.Limits.{CONTOURS, PAIRS}
@@ -28,20 +26,18 @@ abbrev pub upTo : ℕ → Found → ℕ
 upTo count (At q) = q
 upTo count Absent = count
 
--- no pair's positions
-abbrev pub nothingNamed : ℕ → Named
-nothingNamed field =
-    record { check = Refused (record { number = 4; place = field }); places = replicate (2 * PAIRS) 0; count = 0 }
+-- the pairs before the one at which the work stopped, or all of them; two positions a pair, those without a pair zero
+abbrev pub namedBefore : List ℕ → Found → Named
+namedBefore s stop =
+    let known = seatsOf s (upTo (pairsOf s) stop) in
+    record { stopped = stop; positions = padded (2 * PAIRS) 0 known; count = length known }
 
--- the pairs up to the first that names an unknown id, which is refused; two places a pair, those without a pair zero
+-- the work stops at the first pair that names an unknown id
 unfoldable pub namedPairs : List ℕ → Named
 unfolding seatsOf nameFault
-namedPairs s =
-    let known = seatsOf s (upTo (pairsOf s) (nameFault s)) in
-    record { check = refuseAt 10 (nameFault s); places = padded (2 * PAIRS) 0 known; count = length known }
+namedPairs s = namedBefore s (nameFault s)
 
--- more contours or pairs than a card takes are refused first
+-- and before the first pair, where there are more contours or pairs than a card takes
 unfoldable pub namedOf : List ℕ → Named
 unfolding namedPairs
-namedOf s =
-    cond (ltb CONTOURS (contoursOf s)) (nothingNamed 1) (cond (ltb PAIRS (pairsOf s)) (nothingNamed 2) (namedPairs s))
+namedOf s = cond (ltb CONTOURS (contoursOf s) || ltb PAIRS (pairsOf s)) (namedBefore s (At 0)) (namedPairs s)

@@ -13,9 +13,11 @@ use Rattle.block.specs.Block.{blockBytes, payloadBytes, checked, starts, zerosA
 use Rattle.closure.specs.Limits.{CONTOURS, PAIRS}
 use Rattle.fields.specs.Limits.{cardBytes, perContourLimit, candidateLimit, passLimit, vertexLimit, pairsABlock}
 use Rattle.fields.specs.Limits.{farthest}
+use Rattle.card.specs.declared.Asked.{Asked}
+use Rattle.card.specs.declared.Asked.the-variants.{Checks, Starts, Spares, Contours, Ids, Points}
 use Rattle.fields.specs.Layout.{blocksOf, payload, contoursOf, pairsOf, perContourOf, passesOf, homeOffset, exteriorOf}
 use Rattle.fields.specs.Layout.{interiorOf, idOf, tagOf, vertexCountOf, typeOf, fillerOf, vertexOffset, beforeIdOf}
-use Rattle.fields.specs.Layout.{beforeTagOf, afterIdOf, afterTagOf}
+use Rattle.fields.specs.Layout.{beforeTagOf, afterIdOf, afterTagOf, headBytes, contourBytes, vertexBytes, pairBytes}
 
 -- this place, if the test holds
 abbrev pub foundIf : Bool → ℕ → Found
@@ -103,7 +105,9 @@ pairsIn s b = min pairsABlock (pairsOf s - pairsABlock * (b - (contoursOf s + 1)
 
 -- how many bytes of block b's payload are fields
 abbrev pub usedIn : List ℕ → ℕ → ℕ
-usedIn s b = cond (eqb b 0) 34 (cond (leb b (contoursOf s)) (12 + 16 * vertexCountOf s (b - 1)) (16 * pairsIn s b))
+usedIn s b =
+    let contour = contourBytes + vertexBytes * vertexCountOf s (b - 1) in
+    cond (eqb b 0) headBytes (cond (leb b (contoursOf s)) contour (pairBytes * pairsIn s b))
 
 abbrev pub badSpare : List ℕ → ℕ → Bool
 badSpare s b = not (zerosAt s (payload b + usedIn s b) (payloadBytes - usedIn s b))
@@ -180,3 +184,13 @@ otherTag s q =
 unfoldable pub tagFault : List ℕ → Found
 unfolding lowest
 tagFault s = lowest (otherTag s) (pairsOf s)
+
+-- ---- 2, 3, 6, 7, 8 and 9 by what they look at
+
+abbrev pub faultAt : Asked → List ℕ → ℕ → Bool
+faultAt Checks = badCheck
+faultAt Starts = badStart
+faultAt Spares = badSpare
+faultAt Contours = badContour
+faultAt Ids = repeats
+faultAt Points = farPlace

@@ -17,27 +17,20 @@ unfoldable pub cycleFault : List ℕ → Found
 unfolding seatsOf
 cycleFault s = firstOnCycle (contoursOf s) (pairsOn s)
 
--- the file and its head
-abbrev pub headStages : List ℕ → List Check
-headStages s =
+-- what comes before the pairs: the file, its head, the blocks, the contours
+abbrev pub cardStages : List ℕ → List Check
+cardStages s =
     refuseAt 1 (lengthFault s)
     ∷ refuseAt 2 (checkFault s)
     ∷ refuseAt 3 (startFault s 1)
     ∷ refuseAt 4 (headFault s)
-    ∷ []
-
--- the blocks
-abbrev pub blockStages : List ℕ → List Check
-blockStages s =
-    refuseAt 5 (countFault s)
+    ∷ refuseAt 5 (countFault s)
     ∷ refuseAt 3 (startFault s (blocksOf s))
     ∷ refuseAt 6 (contourFault s)
     ∷ refuseAt 7 (spareFault s)
+    ∷ refuseAt 8 (farFault s)
+    ∷ refuseAt 9 (repeatFault s)
     ∷ []
-
--- the contours
-abbrev pub contourStages : List ℕ → List Check
-contourStages s = refuseAt 8 (farFault s) ∷ refuseAt 9 (repeatFault s) ∷ []
 
 -- the pairs, once their positions are known
 abbrev pub seatStages : List ℕ → List Check
@@ -49,7 +42,7 @@ pairStages s = refuseAt 10 (nameFault s) ∷ seatStages s
 
 -- all of them
 abbrev pub stagesOf : List ℕ → List Check
-stagesOf s = headStages s ++ blockStages s ++ contourStages s ++ pairStages s
+stagesOf s = cardStages s ++ pairStages s
 
 unfoldable pub checkOf : List ℕ → Check
 unfolding firstRefusal lengthFault checkFault startFault headFault countFault contourFault spareFault farFault

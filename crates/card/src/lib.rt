@@ -2,14 +2,16 @@
 // stands in the crate `fields`.
 ghost use mathlib.Core.Path.{_≡_};
 ghost use mathlib.Core.Bool.{false};
+ghost use lib.ListN.{getD};
 ghost use Prim.Native.Nat.{_+_, _*_, _<_, _≤_};
-ghost use Rattle.answer.specs.Lowest.{refuseAt};
+ghost use Rattle.answer.specs.declared.Check.the-variants.{Fine};
+ghost use Rattle.answer.specs.Lowest.{refuseAt, lowest};
 ghost use Rattle.answer.specs.Stage.{firstRefusal};
 ghost use Rattle.closure.specs.Limits.{CONTOURS, PAIRS};
-ghost use Rattle.fields.specs.Layout.{blocksOf, contoursOf, pairsOf};
-ghost use Rattle.card.specs.Stages.{lengthFault, checkFault, kindDue, startFault, headFaults, headFault, countFault, badContour, contourFault, usedIn, badSpare, spareFault, tooFar, farPoint, farVertex, farFault, seekOf, repeatFault, positionOf, tagFault};
+ghost use Rattle.fields.specs.Layout.{contoursOf, pairsOf};
+ghost use Rattle.card.specs.Stages.{lengthFault, kindDue, badStart, headFaults, headFault, countFault, badContour, usedIn, badSpare, tooFar, farPoint, farVertex, farPlace, isAt, seekOf, repeats, positionOf, tagFault, faultAt};
 ghost use Rattle.card.specs.Names.{pairsOn, namedPairs, namedOf};
-ghost use Rattle.card.specs.Verdict.{headStages, blockStages, contourStages, seatStages, pairStages, checkOf};
+ghost use Rattle.card.specs.Verdict.{cardStages, seatStages, pairStages, checkOf};
 use answer::Check;
 use answer::Found;
 use block::BLOCK;
@@ -17,11 +19,25 @@ use closure::CONTOURS;
 use closure::PAIRS;
 use fields::CANDIDATES;
 use fields::CARD_BYTES;
+use fields::CONTOUR_BYTES;
+use fields::CONTOURS_AT;
+use fields::EXTERIOR_AT;
+use fields::FILLER_AT;
+use fields::HEAD_BYTES;
+use fields::HOME_AT;
+use fields::INTERIOR_AT;
+use fields::PAIR_BYTES;
 use fields::PAIRS_A_BLOCK;
+use fields::PAIRS_AT;
 use fields::PASSES;
 use fields::PAYLOAD_AT;
 use fields::PER_CONTOUR;
+use fields::PER_CONTOUR_AT;
+use fields::TYPE_AT;
+use fields::VERTEX_BYTES;
+use fields::VERTEX_COUNT_AT;
 use fields::VERTICES;
+use fields::Y_AT;
 
 // The bytes of a block's payload.
 const PAYLOAD: usize = 500;
@@ -32,15 +48,29 @@ const VERSION: u8 = 1;
 // The bits of 1,048,576.
 const FARTHEST: u64 = 0x4130_0000_0000_0000;
 
-// The places of all pairs that a card can have.
-const PLACES: usize = 2 * PAIRS;
+// The positions of all pairs that a card can have, two a pair.
+pub const SEATS: usize = 2 * PAIRS;
 
-// A card's pairs as positions of contours, before and after in turn, up to the first pair that names an id no contour has: the
-// first count of the places, the rest 0.
+// The rows of the table that come before the pairs', one of them twice.
+const STAGES: usize = 10;
+
+// A card's pairs as positions of contours, before and after in turn: the first count of the positions, the rest 0. They are all of
+// its pairs, or those before the one at which the work stopped.
 pub struct Named {
-    pub check: Check,
-    pub places: [u8; PLACES],
+    pub stopped: Found,
+    pub positions: [u8; SEATS],
     pub count: usize,
+}
+
+// What a row of the table looks at, one after the other: each block's check, start or spare bytes, each contour's numbers or id, or
+// the points of home and of each contour.
+enum Asked {
+    Checks,
+    Starts,
+    Spares,
+    Contours,
+    Ids,
+    Points,
 }
 
 // ---- what makes a card go back, each with the lowest place at which it does
@@ -69,21 +99,6 @@ fn length_fault(card: &[u8]) -> Found
     Found::Absent
 }
 
-// 2: the first block whose check differs.
-fn check_fault(card: &[u8]) -> Found
-    ensures { λ r. ⌜ r ≡ checkFault (now (card .entry)) ⌝ }
-{
-    let blocks = card.len() / BLOCK;
-    let mut b: usize = 0;
-    while b < blocks {
-        if !block::is_checked(card, BLOCK * b) {
-            return Found::At(b);
-        }
-        b += 1;
-    }
-    Found::Absent
-}
-
 // The kind that block b must be of.
 fn kind_due(card: &[u8], b: usize) -> u8
     ensures { λ r. ⌜ r ≡ kindDue (now (card .entry)) b ⌝ }
@@ -97,36 +112,28 @@ fn kind_due(card: &[u8], b: usize) -> u8
     3
 }
 
-// 3: the first of so many blocks that does not start as is due.
-fn start_fault(card: &[u8], count: usize) -> Found
-    requires { ⌜ 512 * count < 18446744073709551616 ⌝ }
-    ensures { λ r. ⌜ r ≡ startFault (now (card .entry)) count ⌝ }
+// 3: whether block b does not start as is due.
+fn bad_start(card: &[u8], b: usize) -> bool
+    requires { ⌜ 512 * b < 18446744073709551616 ⌝ }
+    ensures { λ r. ⌜ r ≡ badStart (now (card .entry)) b ⌝ }
 {
-    let mut b: usize = 0;
-    while b < count {
-        let kind = kind_due(card, b);
-        if !block::starts_as(card, BLOCK * b, kind, VERSION, b) {
-            return Found::At(b);
-        }
-        b += 1;
-    }
-    Found::Absent
+    !block::starts_as(card, BLOCK * b, kind_due(card, b), VERSION, b)
 }
 
 // Whether each of the head's fields is bad, by its number; there is no field 0.
 fn head_faults(card: &[u8]) -> [bool; 8]
     ensures { λ r. ⌜ r ≡ headFaults (now (card .entry)) ⌝ }
 {
-    let n = block::u16_at(card, 12) as usize;
-    let c = block::u16_at(card, 16) as usize;
+    let n = block::u16_at(card, CONTOURS_AT) as usize;
+    let c = block::u16_at(card, PER_CONTOUR_AT) as usize;
     [
         false,
         CONTOURS < n,
         PAIRS < fields::pairs(card),
         (c < 1) | (PER_CONTOUR < c),
         PASSES < fields::passes(card),
-        2 < block::byte_at(card, 40),
-        2 < block::byte_at(card, 41),
+        2 < block::byte_at(card, EXTERIOR_AT),
+        2 < block::byte_at(card, INTERIOR_AT),
         CANDIDATES < n * c,
     ]
 }
@@ -151,49 +158,36 @@ fn count_fault(card: &[u8]) -> Found
     ensures { λ r. ⌜ r ≡ countFault (now (card .entry)) ⌝ }
 {
     let blocks = card.len() / BLOCK;
-    let n = block::u16_at(card, 12) as usize;
-    let m = block::u16_at(card, 14) as usize;
+    let n = block::u16_at(card, CONTOURS_AT) as usize;
+    let m = block::u16_at(card, PAIRS_AT) as usize;
     if blocks != 1 + n + (m + (PAIRS_A_BLOCK - 1)) / PAIRS_A_BLOCK {
         return Found::At(blocks);
     }
     Found::Absent
 }
 
-// Whether contour k has too few or too many vertices, no type, or a byte that ought to be 0.
+// 6: whether contour k has too few or too many vertices, no type, or a byte that ought to be 0.
 fn bad_contour(card: &[u8], k: usize) -> bool
     ensures { λ r. ⌜ r ≡ badContour (now (card .entry)) k ⌝ }
 {
     let v = fields::vertices(card, k);
     ((v < 1) | (VERTICES < v))
-        | ((1 < fields::contour_byte(card, k, 10)) | (fields::contour_byte(card, k, 11) != 0))
-}
-
-// 6: the first such contour.
-fn contour_fault(card: &[u8]) -> Found
-    ensures { λ r. ⌜ r ≡ contourFault (now (card .entry)) ⌝ }
-{
-    let n = fields::contours(card);
-    let mut k: usize = 0;
-    while k < n {
-        if bad_contour(card, k) {
-            return Found::At(k);
-        }
-        k += 1;
-    }
-    Found::Absent
+        | ((1 < fields::contour_byte(card, k, TYPE_AT))
+            | (fields::contour_byte(card, k, FILLER_AT) != 0))
 }
 
 // How many bytes of block b's payload are fields.
 fn used(card: &[u8], b: usize) -> usize
-    requires { ⌜ b ≤ blocksOf (now card) ⌝ }
+    requires { ⌜ 512 * b < 18446744073709551616 ⌝ }
     ensures { λ r. ⌜ r ≡ usedIn (now (card .entry)) b ⌝ }
 {
     if b == 0 {
-        return 34;
+        return HEAD_BYTES;
     }
-    let n = block::u16_at(card, 12) as usize;
+    let n = block::u16_at(card, CONTOURS_AT) as usize;
     if b <= n {
-        return 12 + 16 * (block::u16_at(card, fields::contour_offset(card, b - 1, 8)) as usize);
+        let v = block::u16_at(card, fields::contour_offset(card, b - 1, VERTEX_COUNT_AT)) as usize;
+        return CONTOUR_BYTES + VERTEX_BYTES * v;
     }
     let m = fields::pairs(card);
     let before = PAIRS_A_BLOCK * (b - (n + 1));
@@ -201,14 +195,14 @@ fn used(card: &[u8], b: usize) -> usize
         return 0;
     }
     if PAIRS_A_BLOCK < m - before {
-        return 16 * PAIRS_A_BLOCK;
+        return PAIR_BYTES * PAIRS_A_BLOCK;
     }
-    16 * (m - before)
+    PAIR_BYTES * (m - before)
 }
 
-// Whether block b's payload has a spare byte that is not 0.
+// 7: whether block b's payload has a spare byte that is not 0.
 fn bad_spare(card: &[u8], b: usize) -> bool
-    requires { ⌜ b < blocksOf (now card) ⌝ }
+    requires { ⌜ 512 * b < 18446744073709551616 ⌝ }
     ensures { λ r. ⌜ r ≡ badSpare (now (card .entry)) b ⌝ }
 {
     let u = used(card, b);
@@ -218,21 +212,6 @@ fn bad_spare(card: &[u8], b: usize) -> bool
     !block::zeros_at(card, BLOCK * b + PAYLOAD_AT + u, PAYLOAD - u)
 }
 
-// 7: the first such block.
-fn spare_fault(card: &[u8]) -> Found
-    ensures { λ r. ⌜ r ≡ spareFault (now (card .entry)) ⌝ }
-{
-    let blocks = card.len() / BLOCK;
-    let mut b: usize = 0;
-    while b < blocks {
-        if bad_spare(card, b) {
-            return Found::At(b);
-        }
-        b += 1;
-    }
-    Found::Absent
-}
-
 // Whether a coordinate is not finite or too large in size: its bits without the sign are above those of 1,048,576.
 fn too_far(bits: u64) -> bool
     ensures { λ r. ⌜ r ≡ tooFar bits ⌝ }
@@ -240,23 +219,23 @@ fn too_far(bits: u64) -> bool
     FARTHEST < bits % 0x8000_0000_0000_0000
 }
 
-// Whether one of the two coordinates at a place is.
+// Whether one of the two coordinates at an offset is.
 fn far_point(card: &[u8], at: usize) -> bool
     requires { ⌜ at + 8 < 18446744073709551616 ⌝ }
     ensures { λ r. ⌜ r ≡ farPoint (now (card .entry)) at ⌝ }
 {
-    too_far(block::u64_at(card, at)) | too_far(block::u64_at(card, at + 8))
+    too_far(block::u64_at(card, at)) | too_far(block::u64_at(card, at + Y_AT))
 }
 
 // The first vertex of contour k with such a coordinate.
 fn far_vertex(card: &[u8], k: usize) -> Found
     ensures { λ r. ⌜ r ≡ farVertex (now (card .entry)) k ⌝ }
 {
-    let start = fields::contour_offset(card, k, 12);
-    let v = block::u16_at(card, fields::contour_offset(card, k, 8)) as usize;
+    let start = fields::contour_offset(card, k, CONTOUR_BYTES);
+    let v = block::u16_at(card, fields::contour_offset(card, k, VERTEX_COUNT_AT)) as usize;
     let mut j: usize = 0;
     while j < v {
-        if far_point(card, start + 16 * j) {
+        if far_point(card, start + VERTEX_BYTES * j) {
             return Found::At(j);
         }
         j += 1;
@@ -264,22 +243,24 @@ fn far_vertex(card: &[u8], k: usize) -> Found
     Found::Absent
 }
 
-// 8: home first, then the contours.
-fn far_fault(card: &[u8]) -> Found
-    ensures { λ r. ⌜ r ≡ farFault (now (card .entry)) ⌝ }
+// Whether a place was found.
+fn is_at(f: Found) -> bool
+    ensures { λ r. ⌜ r ≡ isAt f ⌝ }
 {
-    if far_point(card, 24) {
-        return Found::At(0);
+    match f {
+        Found::At(_) => true,
+        Found::Absent => false,
     }
-    let n = fields::contours(card);
-    let mut k: usize = 0;
-    while k < n {
-        let Found::Absent = far_vertex(card, k) else {
-            return Found::At(k + 1);
-        };
-        k += 1;
+}
+
+// 8: whether home, at place 0, or the contour before this place has such a coordinate.
+fn far_place(card: &[u8], place: usize) -> bool
+    ensures { λ r. ⌜ r ≡ farPlace (now (card .entry)) place ⌝ }
+{
+    if place == 0 {
+        return far_point(card, HOME_AT);
     }
-    Found::Absent
+    is_at(far_vertex(card, place - 1))
 }
 
 // Where an id stands among the first count contours.
@@ -303,17 +284,39 @@ pub fn position_of(card: &[u8], wanted: u32) -> Found
     seek(card, fields::contours(card), wanted)
 }
 
-// 9: the first contour whose id an earlier one has.
-fn repeat_fault(card: &[u8]) -> Found
-    ensures { λ r. ⌜ r ≡ repeatFault (now (card .entry)) ⌝ }
+// 9: whether an earlier contour has contour k's id.
+fn repeats(card: &[u8], k: usize) -> bool
+    ensures { λ r. ⌜ r ≡ repeats (now (card .entry)) k ⌝ }
 {
-    let n = fields::contours(card);
-    let mut k: usize = 0;
-    while k < n {
-        let Found::Absent = seek(card, k, fields::id(card, k)) else {
-            return Found::At(k);
-        };
-        k += 1;
+    is_at(seek(card, k, fields::id(card, k)))
+}
+
+// Whether what is asked is wrong at a place.
+fn bad_at(card: &[u8], asked: Asked, place: usize) -> bool
+    requires { ⌜ 512 * place < 18446744073709551616 ⌝ }
+    ensures { λ r. ⌜ r ≡ faultAt asked (now (card .entry)) place ⌝ }
+{
+    match asked {
+        Asked::Checks => !block::is_checked(card, BLOCK * place),
+        Asked::Starts => bad_start(card, place),
+        Asked::Spares => bad_spare(card, place),
+        Asked::Contours => bad_contour(card, place),
+        Asked::Ids => repeats(card, place),
+        Asked::Points => far_place(card, place),
+    }
+}
+
+// The first of so many places at which it is.
+fn first_bad(card: &[u8], asked: Asked, count: usize) -> Found
+    requires { ⌜ 512 * count < 18446744073709551616 ⌝ }
+    ensures { λ r. ⌜ r ≡ lowest (faultAt asked (now (card .entry))) count ⌝ }
+{
+    let mut place: usize = 0;
+    while place < count {
+        if bad_at(card, asked, place) {
+            return Found::At(place);
+        }
+        place += 1;
     }
     Found::Absent
 }
@@ -324,49 +327,42 @@ fn named_pairs(card: &[u8]) -> Named
     ensures { λ r. ⌜ r ≡ namedPairs (now (card .entry)) ⌝ }
 {
     let m = fields::pairs(card);
-    let mut places = [0u8; PLACES];
+    let mut positions = [0u8; SEATS];
     let mut q: usize = 0;
     while q < m {
         let Found::At(before) = position_of(card, fields::before_id(card, q)) else {
             return Named {
-                check: answer::refused(10, q),
-                places,
+                stopped: Found::At(q),
+                positions,
                 count: 2 * q,
             };
         };
         let Found::At(after) = position_of(card, fields::after_id(card, q)) else {
             return Named {
-                check: answer::refused(10, q),
-                places,
+                stopped: Found::At(q),
+                positions,
                 count: 2 * q,
             };
         };
-        places[2 * q] = before as u8;
-        places[2 * q + 1] = after as u8;
+        positions[2 * q] = before as u8;
+        positions[2 * q + 1] = after as u8;
         q += 1;
     }
     Named {
-        check: Check::Fine,
-        places,
+        stopped: Found::Absent,
+        positions,
         count: 2 * q,
     }
 }
 
-// A card's pairs as positions. More contours or pairs than a card takes are refused as in the head.
+// A card's pairs as positions. Where there are more contours or pairs than a card takes, no pair is looked at.
 pub fn pair_places(card: &[u8]) -> Named
     ensures { λ r. ⌜ r ≡ namedOf (now (card .entry)) ⌝ }
 {
-    if CONTOURS < fields::contours(card) {
+    if (CONTOURS < fields::contours(card)) | (PAIRS < fields::pairs(card)) {
         return Named {
-            check: answer::refused(4, 1),
-            places: [0u8; PLACES],
-            count: 0,
-        };
-    }
-    if PAIRS < fields::pairs(card) {
-        return Named {
-            check: answer::refused(4, 2),
-            places: [0u8; PLACES],
+            stopped: Found::At(0),
+            positions: [0u8; SEATS],
             count: 0,
         };
     }
@@ -400,54 +396,40 @@ fn tag_fault(card: &[u8], seats: &[u8]) -> Found
     Found::Absent
 }
 
-// 1, 2, 3 for the first block, 4: the file and its head.
-fn check_head(card: &[u8]) -> Check
-    ensures { λ r. ⌜ r ≡ firstRefusal (headStages (now (card .entry))) ⌝ }
+// The rows before the pairs', by their rank: the order in which they are looked at.
+fn stage(card: &[u8], rank: usize) -> Check
+    ensures { λ r. ⌜ r ≡ getD (cardStages (now (card .entry))) rank Fine ⌝ }
 {
-    let a = refused_at(1, length_fault(card));
-    let Check::Fine = a else {
-        return a;
-    };
-    let b = refused_at(2, check_fault(card));
-    let Check::Fine = b else {
-        return b;
-    };
-    let c = refused_at(3, start_fault(card, 1));
-    let Check::Fine = c else {
-        return c;
-    };
-    refused_at(4, head_fault(card))
-}
-
-// 5, 3 for the other blocks, 6, 7: the blocks.
-fn check_blocks(card: &[u8]) -> Check
-    ensures { λ r. ⌜ r ≡ firstRefusal (blockStages (now (card .entry))) ⌝ }
-{
-    let a = refused_at(5, count_fault(card));
-    let Check::Fine = a else {
-        return a;
-    };
     let blocks = card.len() / BLOCK;
-    let b = refused_at(3, start_fault(card, blocks));
-    let Check::Fine = b else {
-        return b;
-    };
-    let c = refused_at(6, contour_fault(card));
-    let Check::Fine = c else {
-        return c;
-    };
-    refused_at(7, spare_fault(card))
+    let n = block::u16_at(card, CONTOURS_AT) as usize;
+    match rank {
+        0 => refused_at(1, length_fault(card)),
+        1 => refused_at(2, first_bad(card, Asked::Checks, blocks)),
+        2 => refused_at(3, first_bad(card, Asked::Starts, 1)),
+        3 => refused_at(4, head_fault(card)),
+        4 => refused_at(5, count_fault(card)),
+        5 => refused_at(3, first_bad(card, Asked::Starts, blocks)),
+        6 => refused_at(6, first_bad(card, Asked::Contours, n)),
+        7 => refused_at(7, first_bad(card, Asked::Spares, blocks)),
+        8 => refused_at(8, first_bad(card, Asked::Points, n + 1)),
+        9 => refused_at(9, first_bad(card, Asked::Ids, n)),
+        _ => Check::Fine,
+    }
 }
 
-// 8, 9: the contours.
-fn check_contours(card: &[u8]) -> Check
-    ensures { λ r. ⌜ r ≡ firstRefusal (contourStages (now (card .entry))) ⌝ }
+// The first of them that refuses.
+fn check_stages(card: &[u8]) -> Check
+    ensures { λ r. ⌜ r ≡ firstRefusal (cardStages (now (card .entry))) ⌝ }
 {
-    let a = refused_at(8, far_fault(card));
-    let Check::Fine = a else {
-        return a;
-    };
-    refused_at(9, repeat_fault(card))
+    let mut rank: usize = 0;
+    while rank < STAGES {
+        let a = stage(card, rank);
+        let Check::Fine = a else {
+            return a;
+        };
+        rank += 1;
+    }
+    Check::Fine
 }
 
 // 11, 12: the pairs, once their positions are known.
@@ -468,30 +450,23 @@ fn check_pairs(card: &[u8]) -> Check
     ensures { λ r. ⌜ r ≡ firstRefusal (pairStages (now (card .entry))) ⌝ }
 {
     let named = named_pairs(card);
-    let a = named.check;
+    let stopped = named.stopped;
+    let a = refused_at(10, stopped);
     let Check::Fine = a else {
         return a;
     };
-    let places = named.places;
+    let positions = named.positions;
     let count = named.count;
-    check_seats(card, &places[..count])
+    check_seats(card, &positions[..count])
 }
 
 // Whether a card is fine, or which fault sends it back and where.
 pub fn check(card: &[u8]) -> Check
     ensures { λ r. ⌜ r ≡ checkOf (now (card .entry)) ⌝ }
 {
-    let a = check_head(card);
+    let a = check_stages(card);
     let Check::Fine = a else {
         return a;
-    };
-    let b = check_blocks(card);
-    let Check::Fine = b else {
-        return b;
-    };
-    let c = check_contours(card);
-    let Check::Fine = c else {
-        return c;
     };
     check_pairs(card)
 }

@@ -211,7 +211,11 @@ fn pair_offset(card: &[u8], q: usize) -> usize
     ensures { λ r. ⌜ r ≡ min (pairOffset (now (card .entry)) q) (length (now (card .entry))) ⌝ }
 {
     let first = (block::u16_at(card, CONTOURS_AT) as usize) + 1;
-    payload_offset(card, first + q / PAIRS_A_BLOCK, PAIR_BYTES * (q % PAIRS_A_BLOCK))
+    payload_offset(
+        card,
+        first + q / PAIRS_A_BLOCK,
+        PAIR_BYTES * (q % PAIRS_A_BLOCK),
+    )
 }
 
 // ---- a contour

@@ -1,7 +1,7 @@
 -- `card::check_pairs` meets its contract. Assumes nothing.
 use denote.Ref.{now}
 use borrow.Author.Needs.{needs}
-use Rattle.card.proofs.GroupLaws.{stopped, passed, named-stage, named-seats, named-whole, named-within}
+use Rattle.card.proofs.GroupLaws.{stops-at, goes-past, named-stopped, named-seats, named-whole, named-within}
 use Rattle.card.proofs.check_pairs.Statement.{statement}
 use Rattle.card.proofs.check_pairs.Tie as tie
 
@@ -9,41 +9,49 @@ enum-told : tie.Need-enum-told
 enum-told c = search needs
 
 returns : tie.Need-returns
-returns c = let n = c .before .before in
-    stopped _ _ _ (named-stage (now (n .before .before .args .card)) _ (n .named-pairs .ensures)) _
-    (c .enum-told2 .given .1)
+returns c = let r = c .before .before in
+    let n = r .before in
+    let s = now (n .before .before .args .card) in
+    stops-at 10 (r .refused-at .ensures) (named-stopped s _ (n .named-pairs .ensures)) _ (c .enum-told2 .given .1)
 
-array-share-prefix-places : tie.Need-array-share-prefix-places
-array-share-prefix-places c = let t = c .before in
-    let n = t .before .before in
-    named-within (now (n .before .before .args .card)) _ (n .named-pairs .ensures) (t .enum-told .given .1)
+array-share-prefix-positions : tie.Need-array-share-prefix-positions
+array-share-prefix-positions c = let t = c .before in
+    let r = t .before .before in
+    let n = r .before in
+    named-within (now (n .before .before .args .card)) _ (n .named-pairs .ensures) (r .refused-at .ensures)
+    (t .enum-told .given .1)
 
 slice-aggregate-check-seats : tie.Need-slice-aggregate-check-seats
 slice-aggregate-check-seats c = let t = c .before .before in
-    let n = t .before .before in
-    named-whole (now (n .before .before .args .card)) _ (n .named-pairs .ensures) (t .enum-told .given .1)
+    let r = t .before .before in
+    let n = r .before in
+    named-whole (now (n .before .before .args .card)) _ (n .named-pairs .ensures) (r .refused-at .ensures)
+    (t .enum-told .given .1)
 
 check-seats-requires : tie.Need-check-seats-requires
 check-seats-requires c κs = let t = c .before .before in
-    let n = t .before .before in
-    named-seats (now (n .before .before .args .card)) _ (n .named-pairs .ensures) (t .enum-told .given .1)
+    let r = t .before .before in
+    let n = r .before in
+    named-seats (now (n .before .before .args .card)) _ (n .named-pairs .ensures) (r .refused-at .ensures)
+    (t .enum-told .given .1)
 
 returns-2 : tie.Need-returns-2
 returns-2 c = let t = c .before .before .before in
-    let n = t .before .before in
-    passed _ _ _ (named-stage (now (n .before .before .args .card)) _ (n .named-pairs .ensures)) _
-    (t .enum-told .given .1)
+    let r = t .before .before in
+    let n = r .before in
+    let s = now (n .before .before .args .card) in
+    goes-past 10 (r .refused-at .ensures) (named-stopped s _ (n .named-pairs .ensures)) _ (t .enum-told .given .1)
     (c .check-seats .ensures)
 
 pub check-pairs-spec : {M : Type 1} → statement M
 check-pairs-spec =
     tie.close
     (tie.spec
-    (λ c κs. search needs)
+    (λ c κs. search needs) (λ c κs. search needs)
     enum-told
     (λ c. search needs)
     returns
-    array-share-prefix-places
+    array-share-prefix-positions
     slice-aggregate-check-seats
     check-seats-requires
     returns-2)

@@ -1,5 +1,5 @@
 -- `card::named_pairs` meets its contract. Assumes nothing.
-use mathlib.Core.Path.{_≡_, refl}
+use mathlib.Core.Path.{_≡_}
 use Prim.Native.Nat.{_*_, _≤_, _-_}
 use native.Mathlib.Omega.{arith}
 use denote.Ref.{now}
@@ -17,11 +17,11 @@ use Rattle.card.proofs.named_pairs.Statement.{statement}
 use Rattle.card.proofs.named_pairs.Tie as tie
 
 abbrev Inv-loop : tie.InvT-loop
-Inv-loop card m places₀ q₀ places q =
-    (m ≡ pairsOf card) × (q ≤ m) × Nowhere (unnamed card) q × (places ≡ padded (2 * PAIRS) 0 (seatsOf card q))
+Inv-loop card m positions₀ q₀ positions q =
+    (m ≡ pairsOf card) × (q ≤ m) × Nowhere (unnamed card) q × (positions ≡ padded (2 * PAIRS) 0 (seatsOf card q))
 
 abbrev μ-loop : tie.MeasureT-loop
-μ-loop card m places₀ q₀ places q = m - q
+μ-loop card m positions₀ q₀ positions q = m - q
 
 loop-holds : tie.Need-loop-holds Inv-loop μ-loop
 loop-holds c = let s = now (c .before .before .args .card) in
@@ -31,25 +31,23 @@ enum-told : tie.Need-enum-told Inv-loop μ-loop
 enum-told c = search needs
 
 returns : tie.Need-returns Inv-loop μ-loop
-returns c = let p = c .before .before .before in
+returns c = let p = c .before .before in
     let l = p .before .before .before in
     let s = now (l .before .before .before .args .card) in
     let i = l .loop .inv in
-    named-until s _ _ _ (i .2) (i .3) (omega arith)
-    (first-unknown s _ _ _ (p .before .before-id .ensures) (p .position-of .ensures)
-    (c .before .enum-told .given .1)) (c .refused .ensures)
+    named-until s _ _ (i .2) (i .3) (omega arith)
+    (first-unknown s _ _ _ (p .before .before-id .ensures) (p .position-of .ensures) (c .enum-told .given .1))
 
 returns-2 : tie.Need-returns-2 Inv-loop μ-loop
-returns-2 c = let p = c .before .before .before in
+returns-2 c = let p = c .before .before in
     let l = p .before .before .before .before .before .before .before .before in
     let s = now (l .before .before .before .args .card) in
     let i = l .loop .inv in
-    named-until s _ _ _ (i .2) (i .3) (omega (arith, l))
-    (second-unknown s _ _ _ (p .before .after-id .ensures) (p .position-of2 .ensures)
-    (c .before .enum-told2 .given .1)) (c .refused2 .ensures)
+    named-until s _ _ (i .2) (i .3) (omega (arith, l))
+    (second-unknown s _ _ _ (p .before .after-id .ensures) (p .position-of2 .ensures) (c .enum-told2 .given .1))
 
-cast-places : tie.Need-cast-places Inv-loop μ-loop
-cast-places c = let k = c .before .before .before .before .before .before in
+cast-positions : tie.Need-cast-positions Inv-loop μ-loop
+cast-positions c = let k = c .before .before .before .before .before .before in
     let p = k .before .before in
     omega (
       arith,
@@ -58,8 +56,8 @@ cast-places c = let k = c .before .before .before .before .before .before in
           (p .position-of .ensures) (k .before2 .given .1),
     )
 
-cast-places-2 : tie.Need-cast-places-2 Inv-loop μ-loop
-cast-places-2 c = let k = c .before in
+cast-positions-2 : tie.Need-cast-positions-2 Inv-loop μ-loop
+cast-positions-2 c = let k = c .before in
     let p = k .before .before in
     omega (
       arith,
@@ -93,7 +91,7 @@ loop-again c = let k′ = c .before in
 returns-3 : tie.Need-returns-3 Inv-loop μ-loop
 returns-3 c = let s = now (c .before .before .before .before .args .card) in
     let i = c .before .loop .inv in
-    named-all s _ _ _ (i .2) (i .3) (omega arith) (omega arith) refl
+    named-all s _ _ (i .2) (i .3) (omega arith) (omega arith)
 
 pub named-pairs-spec : {M : Type 1} → statement M
 named-pairs-spec =
@@ -105,14 +103,14 @@ named-pairs-spec =
     loop-holds
     (λ c κs. tt) (λ c κs. tt) (λ c. search needs)
     enum-told
-    (λ c κs. tt) (λ c. omega arith)
+    (λ c. omega arith)
     returns
     (λ c κs. tt) (λ c κs. tt)
-    (λ c. search needs) (λ c. search needs) (λ c κs. tt) (λ c. omega arith)
+    (λ c. search needs) (λ c. search needs) (λ c. omega arith)
     returns-2
-    cast-places
+    cast-positions
     (λ c. omega arith) (λ c. omega arith)
-    cast-places-2
+    cast-positions-2
     (λ c. omega arith) (λ c. omega arith) (λ c. omega arith) (λ c. omega arith) (λ c. omega arith)
     loop-again
     (λ c. omega arith)
