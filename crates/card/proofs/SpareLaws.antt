@@ -6,18 +6,18 @@ use Prim.Native.Nat.{ℕ, _+_, _*_, _-_, _≤_, _<_}
 use native.Mathlib.Omega.{arith}
 use borrow.Author.Tests.{le-leb, lt-leb, eq-eqb, ne-eqb}
 use Rattle.block.specs.Block.{payloadBytes, allZero, zerosAt}
-use Rattle.fields.specs.Layout.{payload, contoursOf, vertexCountOf, headBytes, contourBytes, vertexBytes, pairBytes}
+use Rattle.fields.specs.Layout.{payload, contoursOf, vertexCountOf, headSize, contourSize, vertexSize, pairSize}
 use Rattle.card.specs.Stages.{pairsIn, usedIn, badSpare}
 
-pub used-head : (s : List ℕ) (b : ℕ) → b ≡ 0 → headBytes ≡ usedIn s b
+pub used-head : (s : List ℕ) (b : ℕ) → b ≡ 0 → headSize ≡ usedIn s b
 used-head s b e = rw (eq-eqb b 0 e)
 
 module _ (s : List ℕ) (b : ℕ) (later : b ≡ 0 → ⊥) where
   pub used-contour : (v : ℕ) → b ≤ contoursOf s → v ≡ vertexCountOf s (b - 1)
-      → contourBytes + vertexBytes * v ≡ usedIn s b
+      → contourSize + vertexSize * v ≡ usedIn s b
   used-contour v h e = rw (ne-eqb b 0 later, le-leb b (contoursOf s) h, e)
 
-  pub used-pairs : (r : ℕ) → contoursOf s < b → r ≡ pairBytes * pairsIn s b → r ≡ usedIn s b
+  pub used-pairs : (r : ℕ) → contoursOf s < b → r ≡ pairSize * pairsIn s b → r ≡ usedIn s b
   used-pairs r h e = rw (ne-eqb b 0 later, lt-leb b (contoursOf s) h) e
 
 -- a payload that is all fields has no spare byte

@@ -17,7 +17,7 @@ use Rattle.card.specs.declared.Asked.{Asked}
 use Rattle.card.specs.declared.Asked.the-variants.{Checks, Starts, Spares, Contours, Ids, Points}
 use Rattle.fields.specs.Layout.{blocksOf, payload, contoursOf, pairsOf, perContourOf, passesOf, homeOffset, exteriorOf}
 use Rattle.fields.specs.Layout.{interiorOf, idOf, tagOf, vertexCountOf, typeOf, fillerOf, vertexOffset, beforeIdOf}
-use Rattle.fields.specs.Layout.{beforeTagOf, afterIdOf, afterTagOf, headBytes, contourBytes, vertexBytes, pairBytes}
+use Rattle.fields.specs.Layout.{beforeTagOf, afterIdOf, afterTagOf, headSize, contourSize, vertexSize, pairSize}
 
 -- this place, if the test holds
 abbrev pub foundIf : Bool → ℕ → Found
@@ -106,8 +106,8 @@ pairsIn s b = min pairsABlock (pairsOf s - pairsABlock * (b - (contoursOf s + 1)
 -- how many bytes of block b's payload are fields
 abbrev pub usedIn : List ℕ → ℕ → ℕ
 usedIn s b =
-    let contour = contourBytes + vertexBytes * vertexCountOf s (b - 1) in
-    cond (eqb b 0) headBytes (cond (leb b (contoursOf s)) contour (pairBytes * pairsIn s b))
+    let contour = contourSize + vertexSize * vertexCountOf s (b - 1) in
+    cond (eqb b 0) headSize (cond (leb b (contoursOf s)) contour (pairSize * pairsIn s b))
 
 abbrev pub badSpare : List ℕ → ℕ → Bool
 badSpare s b = not (zerosAt s (payload b + usedIn s b) (payloadBytes - usedIn s b))

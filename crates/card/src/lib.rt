@@ -19,14 +19,14 @@ use closure::CONTOURS;
 use closure::PAIRS;
 use fields::CANDIDATES;
 use fields::CARD_BYTES;
-use fields::CONTOUR_BYTES;
+use fields::CONTOUR_SIZE;
 use fields::CONTOURS_AT;
 use fields::EXTERIOR_AT;
 use fields::FILLER_AT;
-use fields::HEAD_BYTES;
+use fields::HEAD_SIZE;
 use fields::HOME_AT;
 use fields::INTERIOR_AT;
-use fields::PAIR_BYTES;
+use fields::PAIR_SIZE;
 use fields::PAIRS_A_BLOCK;
 use fields::PAIRS_AT;
 use fields::PASSES;
@@ -34,8 +34,8 @@ use fields::PAYLOAD_AT;
 use fields::PER_CONTOUR;
 use fields::PER_CONTOUR_AT;
 use fields::TYPE_AT;
-use fields::VERTEX_BYTES;
 use fields::VERTEX_COUNT_AT;
+use fields::VERTEX_SIZE;
 use fields::VERTICES;
 use fields::Y_AT;
 
@@ -182,12 +182,12 @@ fn used(card: &[u8], b: usize) -> usize
     ensures { λ r. ⌜ r ≡ usedIn (now (card .entry)) b ⌝ }
 {
     if b == 0 {
-        return HEAD_BYTES;
+        return HEAD_SIZE;
     }
     let n = block::u16_at(card, CONTOURS_AT) as usize;
     if b <= n {
         let v = block::u16_at(card, fields::contour_offset(card, b - 1, VERTEX_COUNT_AT)) as usize;
-        return CONTOUR_BYTES + VERTEX_BYTES * v;
+        return CONTOUR_SIZE + VERTEX_SIZE * v;
     }
     let m = fields::pairs(card);
     let before = PAIRS_A_BLOCK * (b - (n + 1));
@@ -195,9 +195,9 @@ fn used(card: &[u8], b: usize) -> usize
         return 0;
     }
     if PAIRS_A_BLOCK < m - before {
-        return PAIR_BYTES * PAIRS_A_BLOCK;
+        return PAIR_SIZE * PAIRS_A_BLOCK;
     }
-    PAIR_BYTES * (m - before)
+    PAIR_SIZE * (m - before)
 }
 
 // 7: whether block b's payload has a spare byte that is not 0.
@@ -231,11 +231,11 @@ fn far_point(card: &[u8], at: usize) -> bool
 fn far_vertex(card: &[u8], k: usize) -> Found
     ensures { λ r. ⌜ r ≡ farVertex (now (card .entry)) k ⌝ }
 {
-    let start = fields::contour_offset(card, k, CONTOUR_BYTES);
+    let start = fields::contour_offset(card, k, CONTOUR_SIZE);
     let v = block::u16_at(card, fields::contour_offset(card, k, VERTEX_COUNT_AT)) as usize;
     let mut j: usize = 0;
     while j < v {
-        if far_point(card, start + VERTEX_BYTES * j) {
+        if far_point(card, start + VERTEX_SIZE * j) {
             return Found::At(j);
         }
         j += 1;

@@ -18,7 +18,7 @@ use Rattle.block.proofs.Readings.{zeros-each, each-zeros}
 use Rattle.closure.proofs.PairLaws.{lt-or}
 use Rattle.fields.specs.Limits.{pairsABlock}
 use Rattle.fields.specs.Layout.{blocksOf, payload, contoursOf, pairsOf, idOf, tagOf, vertexCountOf, beforeIdOf}
-use Rattle.fields.specs.Layout.{beforeTagOf, afterIdOf, afterTagOf}
+use Rattle.fields.specs.Layout.{beforeTagOf, afterIdOf, afterTagOf, contourSize, vertexSize, pairSize}
 use Rattle.card.specs.Stages.{isAt, pairsIn, usedIn, badSpare, spareFault, seekOf, positionOf, unnamed, nameFault, seat}
 use Rattle.card.specs.Stages.{beforeOf, afterOf, otherTag, tagFault}
 use Rattle.card.proofs.SpareLaws.{used-head, used-contour, used-pairs}
@@ -44,8 +44,8 @@ module _ (s : List ℕ) where
   behind-used : (b offset : ℕ) → usedIn s b ≤ offset → Spare s b offset
   behind-used b offset h = go (lt-or 0 b) (lt-or (contoursOf s) b)
     where
-      pairs-part : (i : ℕ) → b ≡ suc (contoursOf s + i) → 16 * min pairsABlock (pairsOf s - pairsABlock * i) ≤ offset
-          → Spare s b offset
+      pairs-part : (i : ℕ) → b ≡ suc (contoursOf s + i)
+          → pairSize * min pairsABlock (pairsOf s - pairsABlock * i) ≤ offset → Spare s b offset
       pairs-part i e g = split (lt-or pairsABlock (pairsOf s - pairsABlock * i))
         where
           split : (pairsABlock < pairsOf s - pairsABlock * i) ⊎ (pairsOf s - pairsABlock * i ≤ pairsABlock)
@@ -55,10 +55,11 @@ module _ (s : List ℕ) where
 
       go : (0 < b) ⊎ (b ≤ 0) → (contoursOf s < b) ⊎ (b ≤ contoursOf s) → Spare s b offset
       go (inl z) (inl l) =
-          let u : 16 * pairsIn s b ≡ usedIn s b = used-pairs s b (λ e. omega arith) _ l refl in
+          let u : pairSize * pairsIn s b ≡ usedIn s b = used-pairs s b (λ e. omega arith) _ l refl in
           pairs-part (b - (contoursOf s + 1)) (omega arith) (omega arith)
       go (inl z) (inr l) =
-          let u : 12 + 16 * vertexCountOf s (b - 1) ≡ usedIn s b = used-contour s b (λ e. omega arith) _ l refl in
+          let u : contourSize + vertexSize * vertexCountOf s (b - 1) ≡ usedIn s b =
+          used-contour s b (λ e. omega arith) _ l refl in
           in-contour (b - 1) (omega arith) (omega arith) (omega arith)
       go (inr z) w = let e : b ≡ 0 = omega arith in let u = used-head s b e in in-head e (omega arith)
 
@@ -67,14 +68,15 @@ module _ (s : List ℕ) where
   used-behind b offset (in-contour k l e h) =
       let v : vertexCountOf s k ≡ vertexCountOf s (b - 1) =
       ap (vertexCountOf s) (let i : k ≡ b - 1 = omega arith in i) in
-      let u : 12 + 16 * vertexCountOf s k ≡ usedIn s b = used-contour s b (λ z. omega arith) _ (omega arith) v in
+      let u : contourSize + vertexSize * vertexCountOf s k ≡ usedIn s b =
+      used-contour s b (λ z. omega arith) _ (omega arith) v in
       omega arith
   used-behind b offset (past-last-pair i e h) =
       let k : b - (contoursOf s + 1) ≡ i = omega arith in
-      let u : 16 * pairsIn s b ≡ usedIn s b = used-pairs s b (λ z. omega arith) _ (omega arith) refl in
+      let u : pairSize * pairsIn s b ≡ usedIn s b = used-pairs s b (λ z. omega arith) _ (omega arith) refl in
       omega arith
   used-behind b offset (past-full-block i e h) =
-      let u : 16 * pairsIn s b ≡ usedIn s b = used-pairs s b (λ z. omega arith) _ (omega arith) refl in
+      let u : pairSize * pairsIn s b ≡ usedIn s b = used-pairs s b (λ z. omega arith) _ (omega arith) refl in
       omega arith
 
   spare-byte : (b : ℕ) → badSpare s b ≡ true → SpareByte s b

@@ -16,7 +16,7 @@ use Rattle.closure.specs.Limits.{CONTOURS, PAIRS}
 use Rattle.fields.specs.Limits.{cardBytes, perContourLimit, candidateLimit, passLimit, vertexLimit, pairsABlock}
 use Rattle.fields.specs.Layout.{blocksOf, payload, contoursOf, pairsOf, perContourOf, passesOf, homeOffset, exteriorOf}
 use Rattle.fields.specs.Layout.{interiorOf, idOf, tagOf, vertexCountOf, typeOf, fillerOf, vertexOffset, beforeIdOf}
-use Rattle.fields.specs.Layout.{beforeTagOf, afterIdOf, afterTagOf}
+use Rattle.fields.specs.Layout.{beforeTagOf, afterIdOf, afterTagOf, headSize, contourSize, vertexSize, pairSize}
 use Rattle.fields.specs.Values.{pointAt}
 use Rattle.card.specs.Verdict.{checkOf}
 
@@ -90,11 +90,12 @@ Row6 s = Lowest (contoursOf s) (BadContour s)
 -- block of pairs 16 a pair, 31 pairs at most; where the earlier blocks of pairs and the bytes before this one hold all
 -- m pairs, no field is left
 pub data Spare (s : List ℕ) (b offset : ℕ) : Type 0 where
-  in-head : b ≡ 0 → 34 ≤ offset → Spare s b offset
-  in-contour : (k : ℕ) → k < contoursOf s → b ≡ suc k → 12 + 16 * vertexCountOf s k ≤ offset → Spare s b offset
-  past-last-pair : (i : ℕ) → b ≡ suc (contoursOf s + i) → 16 * pairsOf s ≤ 16 * (pairsABlock * i) + offset →
-      Spare s b offset
-  past-full-block : (i : ℕ) → b ≡ suc (contoursOf s + i) → 16 * pairsABlock ≤ offset → Spare s b offset
+  in-head : b ≡ 0 → headSize ≤ offset → Spare s b offset
+  in-contour : (k : ℕ) → k < contoursOf s → b ≡ suc k → contourSize + vertexSize * vertexCountOf s k ≤ offset
+      → Spare s b offset
+  past-last-pair : (i : ℕ) → b ≡ suc (contoursOf s + i) → pairSize * pairsOf s ≤ pairSize * (pairsABlock * i) + offset
+      → Spare s b offset
+  past-full-block : (i : ℕ) → b ≡ suc (contoursOf s + i) → pairSize * pairsABlock ≤ offset → Spare s b offset
 
 -- 7: a spare payload byte is not zero; the lowest block
 pub record SpareByte (s : List ℕ) (b : ℕ) : Type 0 where

@@ -16,17 +16,17 @@ abbrev pub payload : ℕ → ℕ
 payload b = blockBytes * b + 8
 
 -- the bytes of the head's fields, of a contour's before its vertices, of a vertex and of a pair
-abbrev pub headBytes : ℕ
-headBytes = 34
+abbrev pub headSize : ℕ
+headSize = 34
 
-abbrev pub contourBytes : ℕ
-contourBytes = 12
+abbrev pub contourSize : ℕ
+contourSize = 12
 
-abbrev pub vertexBytes : ℕ
-vertexBytes = 16
+abbrev pub vertexSize : ℕ
+vertexSize = 16
 
-abbrev pub pairBytes : ℕ
-pairBytes = 16
+abbrev pub pairSize : ℕ
+pairSize = 16
 
 -- ---- the head
 
@@ -77,12 +77,12 @@ fillerOf s k = byteAt s (payload (k + 1) + 11)
 
 -- a vertex: its x, and 8 bytes on its y
 abbrev pub vertexOffset : ℕ → ℕ → ℕ
-vertexOffset k j = payload (k + 1) + contourBytes + vertexBytes * j
+vertexOffset k j = payload (k + 1) + contourSize + vertexSize * j
 
 -- ---- a pair: 31 to a block, after the contours
 
 abbrev pub pairOffset : List ℕ → ℕ → ℕ
-pairOffset s q = payload (contoursOf s + 1 + q / pairsABlock) + pairBytes * (q % pairsABlock)
+pairOffset s q = payload (contoursOf s + 1 + q / pairsABlock) + pairSize * (q % pairsABlock)
 
 abbrev pub beforeIdOf : List ℕ → ℕ → ℕ
 beforeIdOf s q = u32At s (pairOffset s q + 0)

@@ -4,7 +4,7 @@ ghost use mathlib.Core.Path.{_≡_};
 ghost use Prim.Native.Nat.{_+_, _<_, min};
 ghost use lib.ListN.{length};
 ghost use Rattle.block.specs.Field.{byteAt, u32At};
-ghost use Rattle.fields.specs.Layout.{payload, jobOf, contoursOf, pairsOf, perContourOf, passesOf, moveLimitOf, homeOffset, exteriorOf, interiorOf, pairBytes, idOf, tagOf, vertexCountOf, typeOf, vertexOffset, pairOffset, beforeIdOf, beforeTagOf, afterIdOf, afterTagOf};
+ghost use Rattle.fields.specs.Layout.{payload, jobOf, contoursOf, pairsOf, perContourOf, passesOf, moveLimitOf, homeOffset, exteriorOf, interiorOf, pairSize, idOf, tagOf, vertexCountOf, typeOf, vertexOffset, pairOffset, beforeIdOf, beforeTagOf, afterIdOf, afterTagOf};
 ghost use Rattle.fields.specs.Values.{asType, asPreference, pointAt};
 use answer::ContourType;
 use answer::CutDirectionPreference;
@@ -52,7 +52,7 @@ pub const EXTERIOR_AT: usize = PAYLOAD_AT + 32;
 
 pub const INTERIOR_AT: usize = PAYLOAD_AT + 33;
 
-pub const HEAD_BYTES: usize = 34;
+pub const HEAD_SIZE: usize = 34;
 
 // A contour's, from the beginning of its block's payload; its vertices come after them.
 pub const ID_AT: usize = 0;
@@ -65,12 +65,12 @@ pub const TYPE_AT: usize = 10;
 
 pub const FILLER_AT: usize = 11;
 
-pub const CONTOUR_BYTES: usize = 12;
+pub const CONTOUR_SIZE: usize = 12;
 
 // A vertex's y, from its x; likewise home's.
 pub const Y_AT: usize = 8;
 
-pub const VERTEX_BYTES: usize = 16;
+pub const VERTEX_SIZE: usize = 16;
 
 // A pair's, from its own beginning.
 pub const BEFORE_ID_AT: usize = 0;
@@ -81,7 +81,7 @@ pub const AFTER_ID_AT: usize = 8;
 
 pub const AFTER_TAG_AT: usize = 12;
 
-pub const PAIR_BYTES: usize = 16;
+pub const PAIR_SIZE: usize = 16;
 
 // ---- the head
 
@@ -199,11 +199,11 @@ fn vertex_offset(card: &[u8], k: usize, j: usize) -> usize
     ensures { λ r. ⌜ r ≡ min (vertexOffset k j) (length (now (card .entry))) ⌝ }
 {
     let end = card.len();
-    let start = contour_offset(card, k, CONTOUR_BYTES);
-    if (end - start) / VERTEX_BYTES < j {
+    let start = contour_offset(card, k, CONTOUR_SIZE);
+    if (end - start) / VERTEX_SIZE < j {
         return end;
     }
-    start + VERTEX_BYTES * j
+    start + VERTEX_SIZE * j
 }
 
 // Where pair q stands, cut off likewise.
@@ -214,7 +214,7 @@ fn pair_offset(card: &[u8], q: usize) -> usize
     payload_offset(
         card,
         first + q / PAIRS_A_BLOCK,
-        PAIR_BYTES * (q % PAIRS_A_BLOCK),
+        PAIR_SIZE * (q % PAIRS_A_BLOCK),
     )
 }
 
@@ -280,7 +280,7 @@ pub fn vertex(card: &[u8], k: usize, j: usize) -> Point
 
 // A field of pair q.
 fn pair_u32(card: &[u8], q: usize, offset: usize) -> u32
-    requires { ⌜ offset < pairBytes ⌝ }
+    requires { ⌜ offset < pairSize ⌝ }
     ensures { λ r. ⌜ r ≡ u32At (now (card .entry)) (pairOffset (now (card .entry)) q + offset) ⌝ }
 {
     block::u32_at(card, pair_offset(card, q) + offset)

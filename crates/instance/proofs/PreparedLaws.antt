@@ -20,7 +20,7 @@ use Rattle.card.specs.Names.{namedPairs, namedOf, pairsOn}
 use Rattle.card.specs.Stages.{nameFault}
 use Rattle.answer.specs.Lowest.{refuseAt}
 use Rattle.answer.proofs.StageLaws.{is-fine}
-use Rattle.card.proofs.GroupLaws.{named-stage, named-seats, named-whole, named-within}
+use Rattle.card.proofs.GroupLaws.{named-stopped, named-seats, named-whole, named-within}
 use Rattle.card.proofs.NameLaws.{seats-length}
 use Rattle.card.specs.Verdict.{stagesOf, checkOf}
 use Rattle.card_laws.proofs.Facts.{accepted}
@@ -103,23 +103,23 @@ module _ (items : List Candidate) (t : ℕ) (few : t ≤ candidateLimit) (w : t 
 pub prepared-is : (s : List ℕ) {all : Instance} {home : Point} {homes : List Float} {named : Named}
     → all ≡ instanceOf s → home ≡ homeOn s → homes ≡ homed (all .items) (all .count) home noDistances
     → named ≡ namedOf s
-    → record { all = all; homes = homes; pairs = named .places; seats = named .count } ≡ preparedOf s
+    → record { all = all; homes = homes; pairs = named .positions; seats = named .count } ≡ preparedOf s
 unfolding preparedOf
 prepared-is s a h d n = rw (n, d, h, a)
 
 -- the pairs' positions stand at the front of theirs
-pairs-on : (s : List ℕ) → checkOf s ≡ Fine → Front (namedOf s .count) (namedOf s .places) (pairsOn s)
+pairs-on : (s : List ℕ) → checkOf s ≡ Fine → Front (namedOf s .count) (namedOf s .positions) (pairsOn s)
 unfolding namedOf checkOf
 pairs-on s fine =
     let a = accepted s fine in
     let n : namedOf s ≡ namedPairs s =
     rw (le-ltb CONTOURS (contoursOf s) (a .few-contours), le-ltb PAIRS (pairsOf s) (a .few-pairs)) in
     let ten : refuseAt 10 (nameFault s) ≡ Fine = is-fine (stagesOf s) fine 10 (lit< tt) in
-    let known = named-stage s (namedOf s) n ∙ ten in
+    let known = ap (refuseAt 10) (named-stopped s (namedOf s) n) ∙ ten in
     record {
-      front = named-seats s (namedOf s) n known;
-      whole = named-whole s (namedOf s) n known;
-      within = named-within s (namedOf s) n known;
+      front = named-seats s (namedOf s) n refl known;
+      whole = named-whole s (namedOf s) n refl known;
+      within = named-within s (namedOf s) n refl known;
     }
 
 -- each part of what is prepared of an accepted card

@@ -27,7 +27,7 @@ unfolding instanceOf namedOf
 preparedOf s = record {
   all = instanceOf s;
   homes = homed (instanceOf s .items) (instanceOf s .count) (homeOn s) noDistances;
-  pairs = namedOf s .places;
+  pairs = namedOf s .positions;
   seats = namedOf s .count;
 }
 

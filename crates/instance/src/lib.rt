@@ -4,6 +4,7 @@
 ghost use mathlib.Core.Path.{_≡_};
 ghost use mathlib.Core.List.{[]};
 ghost use Prim.Native.Nat.{min};
+ghost use Rattle.fields.specs.Limits.{vertexLimit};
 ghost use Rattle.table.specs.Distances.{homed};
 ghost use Rattle.candidates.specs.Generate.{filled};
 ghost use Rattle.instance.specs.Gather.{outlineOf, offersOf, heldOf};
@@ -13,8 +14,8 @@ use answer::CutDirection;
 use answer::Point;
 use candidates::Candidate;
 use candidates::Candidates;
+use card::SEATS;
 use closure::CONTOURS;
-use closure::PAIRS;
 use fields::CANDIDATES;
 use fields::PER_CONTOUR;
 use fields::VERTICES;
@@ -24,9 +25,6 @@ const NUMBERS: usize = 2 * VERTICES;
 
 // A number for each contour, and one for the end.
 const FIRSTS: usize = CONTOURS + 1;
-
-// Two positions a pair.
-const SEATS: usize = 2 * PAIRS;
 
 // What is held of a card: the first `count` items are its candidates, each with the contour that it belongs to, and of `first` the
 // first `contours` are the numbers of the contours' first candidates, with the count after them.
@@ -53,21 +51,21 @@ struct Outline {
     count: usize,
 }
 
-// As many as there are, or as can be held.
-fn most(v: usize, limit: usize) -> usize
-    ensures { λ r. ⌜ r ≡ min v limit ⌝ }
+// As many vertices as there are, or as can be held.
+fn most(v: usize) -> usize
+    ensures { λ r. ⌜ r ≡ min v vertexLimit ⌝ }
 {
-    if v < limit {
+    if v < VERTICES {
         return v;
     }
-    limit
+    VERTICES
 }
 
 // Contour k's vertices.
 fn outline_of(card: &[u8], k: usize) -> Outline
     ensures { λ r. ⌜ r ≡ outlined (outlineOf (now (card .entry)) k) ⌝ }
 {
-    let v = most(fields::vertices(card, k), VERTICES);
+    let v = most(fields::vertices(card, k));
     let mut numbers = [0.0; NUMBERS];
     let mut j = 0;
     while j < v {
@@ -196,7 +194,7 @@ pub fn prepare(card: &[u8]) -> Prepared
     let all = gather(card);
     let homes = homes_of(all, fields::home(card));
     let named = card::pair_places(card);
-    let pairs = named.places;
+    let pairs = named.positions;
     let seats = named.count;
     Prepared {
         all,

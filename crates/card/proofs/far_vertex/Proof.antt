@@ -6,7 +6,7 @@ use lib.ListN.{length}
 use denote.Ref.{now}
 use Rattle.answer.proofs.LowestLaws.{Nowhere}
 use Rattle.block.proofs.Readings.{u16-of}
-use Rattle.fields.specs.Layout.{payload, contourBytes, vertexOffset, vertexCountOf}
+use Rattle.fields.specs.Layout.{payload, contourSize, vertexOffset, vertexCountOf}
 use Rattle.card.specs.Stages.{farPoint, farVertex}
 use Rattle.card.proofs.LoopLaws.{none-yet, one-more, found-here, none-found}
 use Rattle.card.proofs.FarLaws.{vertex-looked-at}
@@ -15,7 +15,7 @@ use Rattle.card.proofs.far_vertex.Tie as tie
 
 abbrev Inv-loop : tie.InvT-loop
 Inv-loop card k start v j₀ j =
-    (start ≡ min (payload (k + 1) + contourBytes) (length card)) × (v ≡ vertexCountOf card k) × (v < 65536) × (j ≤ v)
+    (start ≡ min (payload (k + 1) + contourSize) (length card)) × (v ≡ vertexCountOf card k) × (v < 65536) × (j ≤ v)
     × Nowhere (λ i. farPoint card (vertexOffset k i)) j
 
 abbrev μ-loop : tie.MeasureT-loop
@@ -37,7 +37,7 @@ returns c = let a = c .before .before .before .before .before .before .before .b
     let i = c .before .before .before .loop .inv in
     found-here (λ i. farPoint (now (a .card)) (vertexOffset (a .k) i)) (vertexCountOf (now (a .card)) (a .k)) _
     (omega arith) (i .4)
-    (vertex-looked-at (now (a .card)) (payload (a .k + 1) + contourBytes) _ _ _ (i .0) (c .before .far-point .ensures)
+    (vertex-looked-at (now (a .card)) (payload (a .k + 1) + contourSize) _ _ _ (i .0) (c .before .far-point .ensures)
     ∙ c .if1 .taken)
 
 loop-again : tie.Need-loop-again Inv-loop μ-loop
@@ -48,7 +48,7 @@ loop-again c = let a = c .before .before .before .before .before .before .before
       i .2,
       omega arith,
       one-more (λ i. farPoint (now (a .card)) (vertexOffset (a .k) i)) _ (i .4)
-          (vertex-looked-at (now (a .card)) (payload (a .k + 1) + contourBytes) _ _ _ (i .0)
+          (vertex-looked-at (now (a .card)) (payload (a .k + 1) + contourSize) _ _ _ (i .0)
           (c .before .far-point .ensures)
           ∙ c .if1 .left),
     )
