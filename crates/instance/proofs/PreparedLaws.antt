@@ -75,7 +75,7 @@ module _ (items : List Candidate) (t : ℕ) (few : t ≤ candidateLimit) (w : t 
       let all = homesOf (take t items) home in
       let long : length all ≡ t = homes-length (take t items) home ∙ sym w in
       front-is t (homed items t home noDistances) all
-      (rw (le-leb t candidateLimit few) (take-at all (drop t noDistances) t long)) long
+      (rw (long, le-leb t candidateLimit few) (take-at all (drop t noDistances) t long)) long
 
   module _ (owner : List ℕ) (room after : List Float) (e : after ≡ tabled items t owner room) where
     long : length (distancesOf (take t items) owner) ≡ t * t
@@ -87,7 +87,7 @@ module _ (items : List Candidate) (t : ℕ) (few : t ≤ candidateLimit) (w : t 
     table-front l =
         let all = distancesOf (take t items) owner in
         front-is (t * t) after all
-        (ap (take (t * t)) e ∙ rw (le-leb t candidateLimit few, le-leb (t * t) (length room) l)
+        (ap (take (t * t)) e ∙ rw (long, le-leb t candidateLimit few, le-leb (t * t) (length room) l)
         (take-at all (drop (t * t) room) (t * t) long))
         long
 
@@ -95,7 +95,7 @@ module _ (items : List Candidate) (t : ℕ) (few : t ≤ candidateLimit) (w : t 
     pub table-fills : t * t ≡ length room → after ≡ distancesOf (take t items) owner
     unfolding tabled
     table-fills l =
-        e ∙ rw (le-leb t candidateLimit few, le-leb (t * t) (length room) (omega arith), l, drop-length room)
+        e ∙ rw (long, le-leb t candidateLimit few, le-leb (t * t) (length room) (omega arith), l, drop-length room)
         (append-nil (distancesOf (take t items) owner))
 
 -- ---- all that is prepared

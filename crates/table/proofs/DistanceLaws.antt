@@ -13,7 +13,10 @@ use Rattle.points.specs.Distance.{distanceOf}
 use Rattle.table.specs.Evaluate.{homeAt, distanceAt}
 use Rattle.table.specs.Distances.{absent, pierced, leaving, legOf, legAt, rowOf, distancesOf, homeLeg, homesOf}
 use Rattle.table.proofs.FillLaws.{listed-length, listed-at, chained-length, chained-at}
-use Rattle.table.proofs.RoomLaws.{row-length}
+
+pub row-length : (cs : List Candidate) (owner : List ℕ) (t a : ℕ) → length (rowOf cs owner t a) ≡ t
+unfolding rowOf
+row-length cs owner t a = listed-length (legAt cs owner a) t 0
 
 pub distances-length : (cs : List Candidate) (owner : List ℕ) → length (distancesOf cs owner) ≡ length cs * length cs
 unfolding distancesOf

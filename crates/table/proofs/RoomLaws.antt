@@ -1,6 +1,6 @@
 -- What a room holds after the distances were written to it, or were not. Assumes nothing.
 use mathlib.Core.List.{List, _++_}
-use mathlib.Core.Path.{_≡_, subst}
+use mathlib.Core.Path.{_≡_, ap, subst, _∙_}
 use Prim.Native.Nat.{ℕ, _+_, _-_, _*_, _≤_, _<_}
 use native.Mathlib.Omega.{arith}
 use borrow.Author.Tests.{le-leb, lt-leb}
@@ -13,15 +13,15 @@ use Rattle.fields.specs.Limits.{candidateLimit}
 use Rattle.points.specs.Distance.{distanceOf}
 use Rattle.table.specs.Distances.{absent, pierced, listed, homeLeg, homesOf, homed, tabled, legOf, legAt, rowOf}
 use Rattle.table.specs.Distances.{chained, distancesOf, written}
-use Rattle.table.proofs.FillLaws.{listed-length, entry-more, list-more}
+use Rattle.table.proofs.FillLaws.{entry-more, list-more}
+use Rattle.table.proofs.DistanceLaws.{row-length, distances-length, homes-length}
 
-written-all : (t entries : ℕ) (l room now : List Float) → t ≤ candidateLimit → entries ≤ length room
-    → now ≡ l ++ drop entries room → now ≡ written t entries l room
-written-all t entries l room now h enough e = rw (le-leb t candidateLimit h, le-leb entries (length room) enough) e
+module _ (t entries : ℕ) (l room : List Float) (size : length l ≡ entries) (few : t ≤ candidateLimit) where
+  written-all : (now : List Float) → entries ≤ length room → now ≡ l ++ drop entries room → now ≡ written t l room
+  written-all now enough e = rw (size, le-leb t candidateLimit few, le-leb entries (length room) enough) e
 
-written-short : (t entries : ℕ) (l room : List Float) → t ≤ candidateLimit → length room < entries
-    → room ≡ written t entries l room
-written-short t entries l room h short = rw (le-leb t candidateLimit h, lt-leb entries (length room) short)
+  written-short : length room < entries → room ≡ written t l room
+  written-short short = rw (size, le-leb t candidateLimit few, lt-leb entries (length room) short)
 
 -- ---- from home
 
@@ -30,9 +30,12 @@ module _ (items : List Candidate) (t : ℕ) (home : Point) (room : List Float) w
   unfolding homed
   home-many h = rw (lt-leb t candidateLimit h)
 
-  pub home-short : t ≤ candidateLimit → length room < t → room ≡ homed items t home room
+  homes-size : t ≤ candidateLimit → length items ≡ candidateLimit → length (homesOf (take t items) home) ≡ t
+  homes-size h size = homes-length (take t items) home ∙ length-take-le t items (omega arith)
+
+  pub home-short : t ≤ candidateLimit → length items ≡ candidateLimit → length room < t → room ≡ homed items t home room
   unfolding homed
-  home-short h short = written-short t t (homesOf (take t items) home) room h short
+  home-short h size short = written-short t t (homesOf (take t items) home) room (homes-size h size) h short
 
   module _ (a : ℕ) (now : List Float) (so-far : now ≡ listed (homeLeg (take t items) home) a 0 ++ drop a room) where
     pub home-all : t ≤ candidateLimit → t ≤ length room → length items ≡ candidateLimit → a ≡ t
@@ -40,7 +43,7 @@ module _ (items : List Candidate) (t : ℕ) (home : Point) (room : List Float) w
     unfolding homed homesOf
     home-all h enough size done =
         let e : length (take t items) ≡ t = length-take-le t items (omega arith) in
-        written-all t t (homesOf (take t items) home) room now h enough
+        written-all t t (homesOf (take t items) home) room (homes-size h size) h now enough
         (let q : now ≡ listed (homeLeg (take t items) home) t 0 ++ drop t room =
         subst (λ (k : ℕ). now ≡ listed (homeLeg (take t items) home) k 0 ++ drop k room) done so-far in rw e q)
 
@@ -68,18 +71,21 @@ module _ (items : List Candidate) (t : ℕ) (owner : List ℕ) (a b : ℕ) (room
 
 -- ---- all rows
 
-pub row-length : (cs : List Candidate) (owner : List ℕ) (t a : ℕ) → length (rowOf cs owner t a) ≡ t
-unfolding rowOf
-row-length cs owner t a = listed-length (legAt cs owner a) t 0
-
 module _ (items : List Candidate) (t : ℕ) (owner : List ℕ) (room : List Float) where
   pub table-many : candidateLimit < t → room ≡ tabled items t owner room
   unfolding tabled
   table-many h = rw (lt-leb t candidateLimit h)
 
-  pub table-short : t ≤ candidateLimit → length room < t * t → room ≡ tabled items t owner room
+  distances-size : t ≤ candidateLimit → length items ≡ candidateLimit
+      → length (distancesOf (take t items) owner) ≡ t * t
+  distances-size h size =
+      distances-length (take t items) owner ∙ ap (λ (k : ℕ). k * k) (length-take-le t items (omega arith))
+
+  pub table-short : t ≤ candidateLimit → length items ≡ candidateLimit → length room < t * t
+      → room ≡ tabled items t owner room
   unfolding tabled
-  table-short h short = written-short t (t * t) (distancesOf (take t items) owner) room h short
+  table-short h size short =
+      written-short t (t * t) (distancesOf (take t items) owner) room (distances-size h size) h short
 
   module _ (a : ℕ) (now : List Float) (so-far : now ≡ chained (rowOf (take t items) owner t) a 0 ++ drop (a * t) room)
     where
@@ -97,4 +103,4 @@ module _ (items : List Candidate) (t : ℕ) (owner : List ℕ) (room : List Floa
           let e : length (take t items) ≡ t = length-take-le t items (omega arith) in
           let q : now ≡ chained (rowOf (take t items) owner t) t 0 ++ drop (t * t) room =
           subst (λ (k : ℕ). now ≡ chained (rowOf (take t items) owner t) k 0 ++ drop (k * t) room) done so-far in
-          written-all t (t * t) (distancesOf (take t items) owner) room now h enough (rw e q)
+          written-all t (t * t) (distancesOf (take t items) owner) room (distances-size h size) h now enough (rw e q)

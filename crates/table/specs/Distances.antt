@@ -5,8 +5,9 @@ use mathlib.Core.List.{List, [], _∷_, _++_}
 use Prim.Native.Nat.{ℕ, zero, suc, _*_}
 use lib.Dec.{eqb, leb}
 use lib.Ieee.{Float}
-use lib.ListN.{length, getD, take, drop}
+use lib.ListN.{length, getD, take}
 use Rattle.answer.specs.declared.Point.{Point}
+use Rattle.answer.specs.Room.{placed}
 use Rattle.candidates.specs.declared.Candidate.{Candidate}
 use Rattle.candidates.specs.Generate.{candidateAt}
 use Rattle.candidates.specs.Along.{spot}
@@ -69,17 +70,17 @@ unfoldable pub homesOf : List Candidate → Point → List Float
 unfolding homeLeg listed
 homesOf cs home = listed (homeLeg cs home) (length cs) 0
 
--- a room after so many entries of t candidates were written to its front: its rest is kept, and it is left as it was
--- where it is too small or the candidates are too many
-abbrev pub written : ℕ → ℕ → List Float → List Float → List Float
-written t entries l room = cond (leb t candidateLimit && leb entries (length room)) (l ++ drop entries room) room
+-- a room after these distances of t candidates: it is left as it was where it is too small or the candidates are too
+-- many
+abbrev pub written : ℕ → List Float → List Float → List Float
+written t l room = cond (leb t candidateLimit && leb (length l) (length room)) (placed l room) room
 
 -- a room after the distances of the first t candidates
 unfoldable pub tabled : List Candidate → ℕ → List ℕ → List Float → List Float
 unfolding distancesOf
-tabled items t owner room = written t (t * t) (distancesOf (take t items) owner) room
+tabled items t owner room = written t (distancesOf (take t items) owner) room
 
 -- a room after their distances from home
 unfoldable pub homed : List Candidate → ℕ → Point → List Float → List Float
 unfolding homesOf
-homed items t home room = written t t (homesOf (take t items) home) room
+homed items t home room = written t (homesOf (take t items) home) room

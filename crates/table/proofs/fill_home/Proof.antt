@@ -22,7 +22,8 @@ returns : tie.Need-returns Inv-loop μ-loop
 returns c = home-many _ _ _ _ (c .if1 .taken)
 
 returns-2 : tie.Need-returns-2 Inv-loop μ-loop
-returns-2 c = home-short _ _ _ _ (omega arith) (c .if2 .taken)
+returns-2 c = let s = c .before .before .before in
+    home-short _ _ _ _ (omega arith) (s .good .1 .0 .1 .0 .1) (c .if2 .taken)
 
 loop-holds : tie.Need-loop-holds Inv-loop μ-loop
 unfolding listed

@@ -27,7 +27,8 @@ mul-if2 : tie.Need-mul-if2 Inv-loop μ-loop
 mul-if2 c = omega (arith, square-small (c .before .before .before .args .t) (omega arith))
 
 returns-2 : tie.Need-returns-2 Inv-loop μ-loop
-returns-2 c = table-short _ _ _ _ (omega arith) (c .if2 .taken)
+returns-2 c = let s = c .before .before .before .before in
+    table-short _ _ _ _ (omega arith) (s .good .1 .0 .1 .0 .1) (c .if2 .taken)
 
 loop-holds : tie.Need-loop-holds Inv-loop μ-loop
 unfolding chained
