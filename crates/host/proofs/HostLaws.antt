@@ -10,7 +10,7 @@ use Rattle.answer.specs.declared.Refusal.{Refusal}
 use Rattle.answer.specs.Code.{codeOf}
 use Rattle.table.specs.Distances.{entryLimit}
 use Rattle.solve.specs.declared.Outcome.{Outcome}
-use Rattle.questions.specs.declared.Place.{Place}
+use Rattle.questions.specs.declared.Local.{Local}
 use Rattle.questions.specs.declared.Located.{Located}
 use Rattle.questions.specs.declared.Located.the-variants as located
 use Rattle.tour.specs.declared.Toured.{Toured}
@@ -41,6 +41,6 @@ pub place-told-refused : (l told : Located) (contour within : ℕ) (r : Refusal)
     → told ≡ located.Refused r → code ≡ codeOf (Refused r) → pointed code contour within ≡ hostPlace l contour within
 place-told-refused l told contour within r code e f g = rw (← e, f, g)
 
-pub place-told : (l told : Located) (contour within : ℕ) (p : Place) → told ≡ l → told ≡ located.At p
+pub place-told : (l told : Located) (contour within : ℕ) (p : Local) → told ≡ l → told ≡ located.At p
     → pointed 0 (p .contour) (p .within) ≡ hostPlace l contour within
 place-told l told contour within p e f = rw (← e, f)

@@ -24,7 +24,7 @@ use Rattle.card_laws.proofs.Facts.{accepted}
 use Rattle.instance.specs.Gather.{wayOf}
 use Rattle.instance.proofs.FineLaws.{few-candidates}
 use Rattle.solve.specs.declared.Outcome.{Outcome}
-use Rattle.questions.specs.declared.Place.{Place}
+use Rattle.questions.specs.declared.Local.{Local}
 use Rattle.instance.specs.Search.{countOn}
 use Rattle.tour.specs.Search.{tourOn, outcomeOn}
 use Rattle.questions.specs.Index.{placeOn}
@@ -135,7 +135,7 @@ module _ (s : List ℕ) (ofBytes : OfBytes s) where
       joined (decimalOf (idOf s k)) (bytes " " ++ decimalOf (tagOf s k)) 10 11 (u32-short (payload (k + 1) + 0))
       (joined (bytes " ") (decimalOf (tagOf s k)) 1 10 (lit≤ tt) (u32-short (payload (k + 1) + 4)))
 
-  place-short : (p : Place) → p .within < 10 ^ 2 → length (placeLine s p) ≤ stopLongest
+  place-short : (p : Local) → p .within < 10 ^ 2 → length (placeLine s p) ≤ stopLongest
   unfolding placeLine
   place-short p few =
       joined (nameWords s (p .contour) ++ (bytes " " ++ decimalOf (p .within))) (wayWord (wayOf s (p .contour))) 24 5

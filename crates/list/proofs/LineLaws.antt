@@ -22,7 +22,7 @@ use Rattle.instance.specs.declared.Instance.{Instance}
 use Rattle.instance.specs.Gather.{wayOf}
 use Rattle.instance.specs.Room.{instanceOf}
 use Rattle.solve.specs.declared.Outcome.{Outcome}
-use Rattle.questions.specs.declared.Place.{Place}
+use Rattle.questions.specs.declared.Local.{Local}
 use Rattle.questions.specs.Index.{placeIn}
 use Rattle.questions.proofs.IndexLaws.{place-on}
 use Rattle.text.specs.Page.{Page, put}
@@ -59,7 +59,7 @@ pub name-put : (s : List ℕ) (k id tag : ℕ) (p q r : Page) → id ≡ idOf s 
 unfolding nameWords
 name-put s k id tag p q r a b e f = rw (← a, ← b) (put-then _ _ p q r e f)
 
-pub place-put : (s : List ℕ) (place : Place) (d : CutDirection) (p q r t : Page) → d ≡ wayOf s (place .contour)
+pub place-put : (s : List ℕ) (place : Local) (d : CutDirection) (p q r t : Page) → d ≡ wayOf s (place .contour)
     → q ≡ put (nameWords s (place .contour)) p → r ≡ put (bytes " " ++ decimalOf (place .within)) q
     → t ≡ put (wayWord d) r
     → t ≡ put (placeLine s place) p
@@ -92,14 +92,14 @@ stops-last s (b ∷ tour) a =
     ap (λ (l : List ℕ). stopLine s b ++ l) (stops-last s tour a)
     ∙ sym (append-assoc (stopLine s b) (stopLines s tour) (stopLine s a))
 
-line-is : (s : List ℕ) → checkOf s ≡ Fine → (all : Instance) → all ≡ instanceOf s → (a : ℕ) (place : Place)
+line-is : (s : List ℕ) → checkOf s ≡ Fine → (all : Instance) → all ≡ instanceOf s → (a : ℕ) (place : Local)
     → place ≡ placeIn all a → placeLine s place ≡ stopLine s a
 unfolding stopLine
 line-is s fine all is a place w = ap (placeLine s) (w ∙ place-on s fine all is a)
 
 -- one stop more of a tour
 pub stop-more : (s : List ℕ) → checkOf s ≡ Fine → (all : Instance) → all ≡ instanceOf s
-    → (tour : List ℕ) (i : ℕ) (place : Place) (p q r : Page) → i < length tour → place ≡ placeIn all (getD tour i 0)
+    → (tour : List ℕ) (i : ℕ) (place : Local) (p q r : Page) → i < length tour → place ≡ placeIn all (getD tour i 0)
     → q ≡ put (stopLines s (take i tour)) p → r ≡ put (placeLine s place) q
     → r ≡ put (stopLines s (take (i + 1) tour)) p
 stop-more s fine all is tour i place p q r h w e f =

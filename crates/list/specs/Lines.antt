@@ -11,7 +11,7 @@ use Rattle.fields.specs.Layout.{jobOf, contoursOf, idOf, tagOf}
 use Rattle.card.specs.Verdict.{checkOf}
 use Rattle.instance.specs.Gather.{wayOf}
 use Rattle.solve.specs.declared.Outcome.{Outcome}
-use Rattle.questions.specs.declared.Place.{Place}
+use Rattle.questions.specs.declared.Local.{Local}
 use Rattle.tour.specs.Search.{tourOn, outcomeOn}
 use Rattle.questions.specs.Index.{placeOn}
 use Rattle.text.specs.Text.{bytes, decimalOf, hexOf}
@@ -30,7 +30,7 @@ unfoldable pub nameWords : List ℕ → ℕ → List ℕ
 nameWords s k = decimalOf (idOf s k) ++ (bytes " " ++ decimalOf (tagOf s k))
 
 -- a stop: the contour's id and tag, the candidate's number within it, and which way round it is cut
-unfoldable pub placeLine : List ℕ → Place → List ℕ
+unfoldable pub placeLine : List ℕ → Local → List ℕ
 unfolding nameWords wayWord
 placeLine s p = nameWords s (p .contour) ++ (bytes " " ++ decimalOf (p .within)) ++ wayWord (wayOf s (p .contour))
 

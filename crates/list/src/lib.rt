@@ -14,7 +14,7 @@ use answer::Refusal;
 use closure::CONTOURS;
 use instance::Instance;
 use libc::STDOUT_FILENO;
-use questions::Place;
+use questions::Local;
 use solve::Outcome;
 use table::ENTRIES;
 use tour::Toured;
@@ -70,7 +70,7 @@ fn put_name(card: &[u8], k: usize, page: &mut [u8], at: usize) -> usize
 }
 
 // A stop: the contour's id and tag, the candidate's number within it, and which way round it is cut.
-fn put_place(card: &[u8], p: Place, page: &mut [u8], at: usize) -> usize
+fn put_place(card: &[u8], p: Local, page: &mut [u8], at: usize) -> usize
     ensures { λ r. ⌜ paged r (now (page .exit)) ≡ put (placeLine (now (card .entry)) p) (paged at (now (page .entry))) ⌝ }
 {
     let k = p.contour;

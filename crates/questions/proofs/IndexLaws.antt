@@ -28,7 +28,7 @@ use Rattle.instance.specs.Prepared.{HeldOn}
 use Rattle.answer.proofs.RoomLaws.{padded-at}
 use Rattle.instance.proofs.FineLaws.{instance-is}
 use Rattle.instance.proofs.OwnerLaws.{gathered-grows, first-at}
-use Rattle.questions.specs.declared.Place.{Place}
+use Rattle.questions.specs.declared.Local.{Local}
 use Rattle.questions.specs.declared.Located.{Located}
 use Rattle.questions.specs.declared.Located.the-variants as located
 use Rattle.questions.specs.declared.Picked.{Picked}
@@ -66,7 +66,7 @@ module _ (s : List ℕ) (all : Instance) (held : HeldOn s all) where
         ≡ locatedUnless (refuseIf (leb (countOn s) a) 15 a) (placeOn s a)
     no-such-number h = let e = held .count in rw (le-leb (countOn s) a (omega arith))
 
-    pub place-is : (p : Place) → a < all .count → p ≡ placeOn s a
+    pub place-is : (p : Local) → a < all .count → p ≡ placeOn s a
         → located.At p ≡ locatedUnless (refuseIf (leb (countOn s) a) 15 a) (placeOn s a)
     place-is p h e = let l = held .count in rw (e, lt-leb (countOn s) a (omega arith))
 

@@ -17,7 +17,7 @@ use Rattle.instance.specs.declared.Instance.{Instance}
 use Rattle.instance.specs.Search.{candidatesOn, countOn, ownersOn, firstsOn}
 use Rattle.questions.specs.declared.Picked.{Picked}
 use Rattle.questions.specs.declared.Picked.the-variants as picked
-use Rattle.questions.specs.declared.Place.{Place}
+use Rattle.questions.specs.declared.Local.{Local}
 use Rattle.questions.specs.declared.Located.{Located}
 use Rattle.questions.specs.declared.Located.the-variants as located
 
@@ -35,15 +35,15 @@ unfoldable pub pickedOf : List ℕ → ℕ → Picked
 pickedOf s a = pickedUnless (numberCheck s a) (getD (candidatesOn s) a blank)
 
 -- the contour of candidate a, and its number within that contour
-abbrev pub placeOn : List ℕ → ℕ → Place
+abbrev pub placeOn : List ℕ → ℕ → Local
 placeOn s a = record { contour = getD (ownersOn s) a 0; within = a - getD (firstsOn s) (getD (ownersOn s) a 0) 0 }
 
 -- the same read from what was gathered
-abbrev pub placeIn : Instance → ℕ → Place
+abbrev pub placeIn : Instance → ℕ → Local
 placeIn all a = record { contour = getD (all .owner) a 0; within = a - getD (all .first) (getD (all .owner) a 0) 0 }
 
 -- `global_to_local`
-abbrev pub locatedUnless : Check → Place → Located
+abbrev pub locatedUnless : Check → Local → Located
 locatedUnless Fine p = located.At p
 locatedUnless (Refused r) p = located.Refused r
 

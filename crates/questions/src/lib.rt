@@ -33,14 +33,14 @@ pub enum Picked {
 }
 
 // Where a candidate is: its contour, and its number within that contour.
-pub struct Place {
+pub struct Local {
     pub contour: usize,
     pub within: usize,
 }
 
 // Where the candidate asked for is, or why there is none.
 pub enum Located {
-    At(Place),
+    At(Local),
     Refused(Refusal),
 }
 
@@ -111,16 +111,10 @@ pub fn order_check(n: usize, owner: &[u8], t: usize, order: &[u8]) -> Check
     ensures { λ r. ⌜ r ≡ orderCheck n (now (owner .entry)) t (now (order .entry)) ⌝ }
 {
     if order.len() != n {
-        return Check::Refused(Refusal {
-            number: 15,
-            place: order.len(),
-        });
+        return answer::refused(15, order.len());
     }
     match first_bad_stop(owner, t, order) {
-        Found::At(p) => Check::Refused(Refusal {
-            number: 15,
-            place: p,
-        }),
+        Found::At(p) => answer::refused(15, p),
         Found::Absent => Check::Fine,
     }
 }
@@ -253,13 +247,13 @@ fn above(a: usize, from: usize) -> usize
 }
 
 // Where candidate a is, read from what was gathered.
-pub fn locate(all: Instance, a: usize) -> Place
+pub fn locate(all: Instance, a: usize) -> Local
     ensures { λ r. ⌜ r ≡ placeIn all a ⌝ }
 {
     let owner = all.owner;
     let first = all.first;
     let k = wide(table::byte_at(&owner, a));
-    Place {
+    Local {
         contour: k,
         within: above(a, wide(table::byte_at(&first, k))),
     }

@@ -23,7 +23,7 @@ pub fn solve_constrained(
     ensures { λ r. do
       n ← ⟦tour.len()⟧ .entry
       let chart = chartOf (now (home .entry)) (now (table .entry)) t (now (owner .entry)) (now (first .entry)) (now (pairs .entry)) in
-      ⌜ Solved chart (endIn chart n passes limit) (now (tour .entry)) r (now (tour .exit)) ⌝ }
+          ⌜ Solved chart (endIn chart n passes limit) (now (tour .entry)) r (now (tour .exit)) ⌝ }
 {
     let made = start::nn_constrained(home, table, t, first, pairs, tour);
     let moves = improve::improve(
