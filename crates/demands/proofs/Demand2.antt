@@ -1,36 +1,46 @@
 -- Demand 2 holds. Assumes nothing.
 use mathlib.Core.Path.{_≡_, refl, sym, ap, _∙_, subst}
 use mathlib.Core.Logic.{_⊎_, inl, inr}
-use mathlib.Core.Bool.{true, false, true≢false, and-false}
+use mathlib.Core.Bool.{Bool, true, false, and-false}
 use mathlib.Core.List.{List, [], _∷_, _++_}
-use Prim.Native.Nat.{ℕ, zero, suc, _+_, _≤_, _<_}
+use Prim.Native.Nat.{ℕ, zero, suc, _+_, _*_, _-_, _≤_, _<_}
+use native.Mathlib.Nat.{sub-zero, min-eq-left}
 use native.Mathlib.Omega.{arith}
-use borrow.Author.Tests.{lt-ltb, le-leb, lt-leb}
+use borrow.Author.Tests.{lt-ltb, le-leb, lt-leb, eq-eqb, ne-eqb}
 use lib.Dec.{ltb}
-use lib.ListN.{length, getD, take, drop, length-append, List·getD-append}
+use lib.Ieee.{Float}
+use lib.ListN.{length, getD, set, take, drop, length-append, List·getD-append}
 use lib.Seq.{take-at, getD-append-add}
+use Rattle.bytes.specs.Bytes.{rev}
 use Rattle.answer.specs.declared.Point.{Point}
 use Rattle.answer.specs.declared.Check.the-variants.{Fine}
 use Rattle.candidates.specs.declared.Candidate.{Candidate}
 use Rattle.candidates.specs.Generate.{candidatesOf}
 use Rattle.closure.specs.Limits.{CONTOURS}
-use Rattle.closure.proofs.PairLaws.{lt-or, same-or}
-use Rattle.fields.specs.Layout.{contoursOf, perContourOf, passesOf, vertexCountOf, vertexOffset}
+use Rattle.closure.proofs.PairLaws.{same-or}
+use Rattle.keep.proofs.OrderLaws.{keeps-exactly}
+use Rattle.fields.specs.Layout.{contoursOf, pairsOf, perContourOf, passesOf, vertexCountOf, vertexOffset, beforeIdOf}
+use Rattle.fields.specs.Layout.{afterIdOf}
 use Rattle.fields.specs.Values.{pointAt}
 use Rattle.card_laws.specs.Card.{tabulated}
+use Rattle.card.specs.Names.{pairsOn}
 use Rattle.card.specs.Verdict.{checkOf}
+use Rattle.card.proofs.NameLaws.{seats-length, seat-before, seat-after}
 use Rattle.card_laws.proofs.Facts.{accepted}
+use Rattle.card_laws.proofs.OrderLaws.{by-positions, by-ids}
 use Rattle.card_laws.proofs.Verdicts.{exactly}
-use Rattle.table.specs.Distances.{absent}
-use Rattle.table.proofs.DistanceLaws.{homes-at, same-contour, other-contour}
-use Rattle.improve.specs.Search.{Chart, State, lengthIn, swap, alternative, turn, flip, reversal, row, pass, repeated}
-use Rattle.improve.specs.Search.{judged, atLimit, tried, begun, worthwhile, searched}
-use Rattle.improve.proofs.Keeps.{Carries, search-carries, Keeps, search-keeps}
-use Rattle.improve.proofs.TourLaws.{moves-at-most}
-use Rattle.improve.specs.After.{After, here, swapped, flipped}
-use Rattle.improve.proofs.PassLaws.{repeat-cut, repeat-quiet}
-use Rattle.improve.proofs.PrefixLaws.{level-refl, after-level, after-counts, Twin, search-twin, looser-none}
-use Rattle.improve.proofs.PrefixLaws.{cut-at-limit, one-more, limit-idle}
+use Rattle.table.specs.Distances.{absent, listed, chained}
+use Rattle.table.specs.Evaluate.{lengthOf}
+use Rattle.table.specs.Walk.{legs, walk}
+use Rattle.table.proofs.DistanceLaws.{distances-length, same-contour, other-contour, homes-length, homes-at}
+use Rattle.improve.specs.Search.{Chart, State, lengthIn, shorter, judged, atLimit, tried, swap, reversed, flip}
+use Rattle.improve.specs.Search.{contours, worthwhile, searched}
+use Rattle.improve.specs.Flags.{taken, declined}
+use Rattle.improve.specs.Trials.{other, allMade, others, turnTrials, turnsTrials, rowTrials, passTrials, passesTrials}
+use Rattle.improve.specs.Trials.{trialsOf, Proper, Level}
+use Rattle.improve.proofs.Flags.{claim as flags}
+use Rattle.improve.proofs.ReversalLaws.{turned-parts}
+use Rattle.improve.proofs.Trials.{claim as search-makes}
 use Rattle.instance.specs.Gather.{verticesOf, wayOf, offersOf, gathered}
 use Rattle.instance.proofs.FineLaws.{outline-whole}
 use Rattle.instance.proofs.OwnerLaws.{first-at, gathered-grows, owner-at}
@@ -39,8 +49,9 @@ use Rattle.tour.specs.declared.Toured.the-variants.{Done}
 use Rattle.instance.specs.Search.{homeOn, candidatesOn, countOn, ownersOn, chartOn}
 use Rattle.tour.specs.Search.{startOn, endOn, tourOn, outcomeOn}
 use Rattle.tour.specs.Tour.{Left, tourOf}
-use Rattle.demands.specs.Demand2.{ownOn, Numbered, Apart, Trials, begunOn, searchOn, passesOn, Begins, Order, Cut}
-use Rattle.demands.specs.Demand2.{Claim}
+use Rattle.demands.specs.Demand2.{ownOn, Numbered, Sized, Apart, Has, Paired, longOn, Measured, Terms, Leaves}
+use Rattle.demands.specs.Demand2.{Trials, begunOn, searchOn, Between, othersOn, passesOn, allOn, Making, Turns}
+use Rattle.demands.specs.Demand2.{Rows, Passes, Order, Same, Begins, Cut, Claim}
 use Rattle.demands.proofs.AskedLaws.{toured-if, done-fine, fine-nothing}
 use Rattle.demands.proofs.NextLaws.{starts}
 use Rattle.tour_laws.proofs.TourLaws.{start-long, tour-long, tour-legal}
@@ -99,25 +110,223 @@ module _ (s : List ℕ) (fine : checkOf s ≡ Fine) where
         (owner-at s (contoursOf s) k (length (gathered s k) + j) h (omega arith) (omega arith));
   }
 
+sized : (s : List ℕ) → Sized s
+sized s = record {
+  homes = homes-length (candidatesOn s) (homeOn s);
+  table = distances-length (candidatesOn s) (ownersOn s);
+}
+
 apart : (s : List ℕ) (a b : ℕ) → a < countOn s → b < countOn s → Apart s a b
 apart s a b ha hb = record {
   same = same-contour (candidatesOn s) (ownersOn s) a b ha hb;
   other = other-contour (candidatesOn s) (ownersOn s) a b ha hb;
 }
 
+-- ---- pairs
+
+module _ (s : List ℕ) (fine : checkOf s ≡ Fine) where
+  has-before : (q : ℕ) → q < pairsOf s → Has s (beforeIdOf s q) (getD (pairsOn s) (2 * q) 0)
+  has-before q h =
+      let named = accepted s fine .before-named q h in
+      subst (Has s (beforeIdOf s q)) (sym (seat-before s (pairsOf s) q h))
+      (record { is-contour = named .is-contour; same-id = named .same-id })
+
+  has-after : (q : ℕ) → q < pairsOf s → Has s (afterIdOf s q) (getD (pairsOn s) (2 * q + 1) 0)
+  has-after q h =
+      let named = accepted s fine .after-named q h in
+      subst (Has s (afterIdOf s q)) (sym (seat-after s (pairsOf s) q h))
+      (record { is-contour = named .is-contour; same-id = named .same-id })
+
+  pairs : Paired s
+  unfolding chartOn
+  pairs = record {
+    read = refl;
+    all = seats-length s (pairsOf s);
+    before = has-before;
+    after = has-after;
+    equal-ids = accepted s fine .ids-differ;
+  }
+
 -- ---- trials
 
+legs-more : {A : Type 0} (leg : A → ℕ → ℕ → A) (sum : A) (at : ℕ) (front : List ℕ) (a b : ℕ)
+    → legs leg sum at (front ++ (a ∷ b ∷ [])) ≡ leg (legs leg sum at (front ++ (a ∷ []))) a b
+unfolding legs
+legs-more leg sum at [] a b = refl
+legs-more leg sum at (c ∷ front) a b = legs-more leg (leg sum at c) c front a b
+
+walk-more : {A : Type 0} (nothing : A) (reach : ℕ → A) (leg : A → ℕ → ℕ → A) (front : List ℕ) (a b : ℕ)
+    → walk nothing reach leg (front ++ (a ∷ b ∷ [])) ≡ leg (walk nothing reach leg (front ++ (a ∷ []))) a b
+unfolding walk legs
+walk-more nothing reach leg [] a b = refl
+walk-more nothing reach leg (c ∷ front) a b = legs-more leg (reach c) c front a b
+
+measured : (s : List ℕ) → Measured s
+unfolding chartOn lengthOf walk legs
+measured s = record {
+  nowhere = refl;
+  from-home = λ a. refl;
+  one-leg = walk-more _ _ _;
+}
+
+terms : (s : List ℕ) → checkOf s ≡ Fine → Terms s
+unfolding chartOn shorter rev
+terms s fine =
+    let sound = exactly s .fine-only fine in
+    record {
+      is-shorter = λ new current. refl;
+      is-legal = λ tour once.
+          (let exact = keeps-exactly (contoursOf s) (contours (ownersOn s) tour) once (pairsOn s) in
+          let order = contours (ownersOn s) tour in (
+            (λ e. by-ids s (sound .0 .0 .0 .1) (sound .0 .0 .1) order (exact .0 e)),
+            (λ l. exact .1 (by-positions s (sound .0 .0 .0 .1) (sound .0 .0 .1) order l)),
+          ));
+      is-reversed = λ i j front middle back. turned-parts front middle back (suc i) (suc j);
+    }
+
+leaves-taken : (v after : State) (tour : List ℕ) (cost : Float) → after ≡ taken tour cost v
+    → Leaves v after tour cost true
+leaves-taken v after tour cost e = record {
+  tour-is = ap (λ (u : State). u .tour) e;
+  cost-is = ap (λ (u : State). u .cost) e;
+  better-is = ap (λ (u : State). u .better) e;
+  moves-is = ap (λ (u : State). u .moves) e;
+  cut-is = ap (λ (u : State). u .cut) e;
+}
+
+leaves-declined : (v after : State) (tour : List ℕ) → after ≡ declined tour v
+    → Leaves v after tour (v .cost) (v .better)
+leaves-declined v after tour e = record {
+  tour-is = ap (λ (u : State). u .tour) e;
+  cost-is = ap (λ (u : State). u .cost) e;
+  better-is = ap (λ (u : State). u .better) e;
+  moves-is = ap (λ (u : State). u .moves) e;
+  cut-is = ap (λ (u : State). u .cut) e;
+}
+
 trials : (s : List ℕ) (v : State) → Trials s v
-unfolding swap flip judged
+unfolding swap flip
 trials s v = record {
-  other-taken = λ p held a e. record { tour-is = rw e; cost-is = rw e; moves-is = refl };
-  other-left = λ p held a e. record { tour-is = rw e; cost-is = rw e; moves-is = refl };
-  reversal-taken = λ i j e l. record { tour-is = rw (e, l); cost-is = rw (e, l); moves-is = refl };
-  reversal-longer = λ i j e. record { tour-is = rw e; cost-is = rw e; moves-is = refl };
-  reversal-illegal = λ i j l. record { tour-is = rw (l, and-false _); cost-is = rw (l, and-false _); moves-is = refl };
+  other-taken = λ p held a e.
+      leaves-taken v _ _ _ (ap (judge (set (v .tour) p a) (set (v .tour) p held)) e ∙ flags .accepted _ _ _ v);
+  other-left = λ p held a e.
+      leaves-declined v _ _ (ap (judge (set (v .tour) p a) (set (v .tour) p held)) e ∙ flags .rejected _ _ _ v);
+  reversal-taken = λ i j e l.
+      leaves-taken v _ _ _ (ap (judge (reversed i j (v .tour)) (v .tour)) (rw (e, l)) ∙ flags .accepted _ _ _ v);
+  reversal-longer = λ i j e.
+      leaves-declined v _ _ (ap (judge (reversed i j (v .tour)) (v .tour)) (rw e) ∙ flags .rejected _ _ _ v);
+  reversal-illegal = λ i j l.
+      leaves-declined v _ _ (ap (judge (reversed i j (v .tour)) (v .tour))
+      (rw l (and-false (shorter (longOn s (reversed i j (v .tour))) (v .cost)))) ∙ flags .rejected _ _ _ v);
+}
+  where
+    judge : List ℕ → List ℕ → Bool → State
+    judge new back accepts = judged accepts new (longOn s new) back v
+
+between : (s : List ℕ) → Between s
+between s = record {
+  begins = flags .begins (chartOn s) (startOn s);
+  pass-begins = flags .anew;
+  limit-ends = flags .ends;
 }
 
 -- ---- the order of the trials
+
+making : (s : List ℕ) (v : State) → Making s v
+unfolding allMade
+making s v = record { none = refl; an-other = λ p held a more. refl; a-stretch = λ i j more. refl }
+
+module _ (p held a to : ℕ) where
+  one-candidate : a < to → (a ≡ held → ⊥) → othersOn p held a to ≡ other p held a ∷ othersOn p held (suc a) to
+  unfolding others
+  one-candidate h d =
+      let left : to - a ≡ suc (to - suc a) = omega arith in
+      rw (left, ne-eqb a held d)
+
+  candidate-held : a < to → a ≡ held → othersOn p held a to ≡ othersOn p held (suc a) to
+  unfolding others
+  candidate-held h e =
+      let left : to - a ≡ suc (to - suc a) = omega arith in
+      rw (left, eq-eqb a held e)
+
+  no-candidate : to ≤ a → othersOn p held a to ≡ []
+  unfolding others
+  no-candidate h =
+      let left : to - a ≡ 0 = omega arith in
+      rw left
+
+turns : (s : List ℕ) → Turns s
+unfolding chartOn turnTrials turnsTrials
+turns s = record {
+  turn = λ p v. refl;
+  candidate = one-candidate;
+  but-held = λ p a to h. candidate-held p a a to h refl;
+  no-candidate = no-candidate;
+  next-turn = λ p v h. (
+      let left : contoursOf s - p ≡ suc (contoursOf s - suc p) = omega arith in
+      rw left);
+  no-turn = λ p v h. (
+      let left : contoursOf s - p ≡ 0 = omega arith in
+      rw left);
+}
+
+rows : (s : List ℕ) → Rows s
+unfolding listed chained rowTrials
+rows s = record {
+  reversal = λ i j h. (
+      let left : contoursOf s - j ≡ suc (contoursOf s - suc j) = omega arith in
+      rw left);
+  no-reversal = λ i j h. (
+      let left : contoursOf s - j ≡ 0 = omega arith in
+      rw left);
+  next-row = λ i h. (
+      let left : contoursOf s - 1 - i ≡ suc (contoursOf s - 1 - suc i) = omega arith in
+      rw left);
+  no-row = λ i h. (
+      let left : contoursOf s - 1 - i ≡ 0 = omega arith in
+      rw left);
+}
+
+no-other : (chart : Chart) (n k : ℕ) (v : State) → (k ≡ 0) ⊎ (v .better ≡ false) → passesTrials chart n k v ≡ []
+unfolding passesTrials
+no-other chart n k v (inl e) = rw e
+no-other chart n zero v (inr e) = refl
+no-other chart n (suc k) v (inr e) = rw e
+
+not-worthwhile : (most n : ℕ) → (most ≡ 0) ⊎ (n < 3) → worthwhile most n ≡ false
+not-worthwhile most n (inl e) = rw e
+not-worthwhile most n (inr h) = rw (lt-leb 3 n h) (and-false (ltb 0 most))
+
+module _ (s : List ℕ) (fine : checkOf s ≡ Fine) where
+  whole : (most : ℕ) → 3 ≤ contoursOf s → trialsOf (chartOn s) most (startOn s) ≡ passesOn s most (begunOn s)
+  unfolding trialsOf passesTrials
+  whole zero h = refl
+  whole (suc k) h =
+      rw (
+        start-long s fine,
+        lt-ltb 0 (suc k) (omega arith),
+        le-leb 3 (contoursOf s) h,
+        le-leb (contoursOf s) CONTOURS (accepted s fine .few-contours),
+      )
+
+  few : contoursOf s < 3 → allOn s ≡ []
+  unfolding trialsOf
+  few h = rw (not-worthwhile (passesOf s) (length (startOn s)) (inr (rw (start-long s fine) h)))
+
+  passes : Passes s
+  unfolding passTrials passesTrials
+  passes = record {
+    pass = λ v. rw (sub-zero (contoursOf s), sub-zero (contoursOf s - 1));
+    another = λ k v b. rw b;
+    no-other = no-other (chartOn s) (contoursOf s);
+    search = whole (passesOf s);
+    few = few;
+  }
+
+order : (s : List ℕ) → checkOf s ≡ Fine → Order s
+order s fine = record { making = making s; turns = turns s; rows = rows s; passes = passes s fine }
+
+-- ---- the search makes them, and the limit
 
 not-at-limit : (M m : ℕ) → (M ≡ 0) ⊎ (m < M) → atLimit M m ≡ false
 unfolding atLimit
@@ -132,149 +341,33 @@ begins M trial v = record {
   over = λ c. rw c;
 }
 
-no-other : (chart : Chart) (M n k : ℕ) (v : State) → (k ≡ 0) ⊎ ((v .better ≡ false) ⊎ (v .cut ≡ true))
-    → repeated chart M n k v ≡ v
-unfolding repeated
-no-other chart M n k v (inl e) = rw e
-no-other chart M n k v (inr (inl e)) = repeat-quiet chart M n k v e
-no-other chart M n k v (inr (inr e)) = repeat-cut chart M n k v e
+same : (v w : State) → Level v w → Same v w
+same v w l = record { tour = l .tour; cost = l .cost; moves = l .moves }
 
-whole : (s : List ℕ) → checkOf s ≡ Fine → (M most : ℕ) → 3 ≤ contoursOf s
-    → searched (chartOn s) most M (startOn s) ≡ passesOn s M most (begunOn s)
-unfolding searched repeated
-whole s fine M zero h = refl
-whole s fine M (suc k) h =
-    rw (
-      start-long s fine,
-      lt-ltb 0 (suc k) (omega arith),
-      le-leb 3 (contoursOf s) h,
-      le-leb (contoursOf s) CONTOURS
-          (accepted s fine .few-contours),
-    )
-
-order : (s : List ℕ) → checkOf s ≡ Fine → (M : ℕ) → Order s M
-unfolding chartOn turn alternative row reversal pass repeated
-order s fine M = record {
-  begins = begins M;
-  turns = λ p v. refl;
-  rows = λ i v. refl;
-  passes = λ v. refl;
-  another = λ k v b c. rw (b, c);
-  no-other = no-other (chartOn s) M (contoursOf s);
-  search = whole s fine M (passesOf s);
-}
-
--- ---- the limit
-
-module _ (s : List ℕ) where
-  never-cut : searchOn s 0 .cut ≡ false
-  unfolding swap flip judged
-  never-cut = search-keeps (chartOn s) (passesOf s) 0 (startOn s) (λ v. v .cut ≡ false) keeps refl
-    where
-      keeps : Keeps (chartOn s) 0 (length (startOn s)) (λ v. v .cut ≡ false)
-      keeps = record {
-        stops = λ v l q. absurd (true≢false (sym l ∙ not-at-limit 0 (v .moves) (inl refl)));
-        begins = λ v q. q;
-        swaps = λ p held a v h o m q b. (q, q);
-        flips = λ i j v h g m q. q;
-      }
-
-  cut-short : (M : ℕ) → 0 < M → M < searchOn s 0 .moves
-      → (searchOn s M .moves ≡ M)
-      × ((k : ℕ) × After (chartOn s) (length (startOn s)) (searchOn s M) (suc k) (searchOn s 0))
-  cut-short M h l = go (search-twin (chartOn s) (passesOf s) M 0 (startOn s) (looser-none M))
-    where
-      most : searchOn s M .moves ≤ M
-      most = moves-at-most (chartOn s) (passesOf s) M (startOn s) h
-
-      go : Twin (chartOn s) (length (startOn s)) (searchOn s M) (searchOn s 0)
-          → (searchOn s M .moves ≡ M)
-          × ((k : ℕ) × After (chartOn s) (length (startOn s)) (searchOn s M) (suc k) (searchOn s 0))
-      go (inl e) = let f : searchOn s M .moves ≡ searchOn s 0 .moves =
-          ap (λ (v : State). v .moves) e in absurd (omega (arith, most))
-      go (inr w) = let least = cut-at-limit (chartOn s) (passesOf s) M (startOn s) (w .0) in (omega (arith, most), w .1)
-
-  -- with one trial more allowed, one more is made: the two cannot be the same, since they count differently
-  one-further : (M : ℕ) → 0 < M → M < searchOn s 0 .moves
-      → After (chartOn s) (length (startOn s)) (searchOn s M) 1 (searchOn s (suc M))
-  one-further M h l = go (one-more (chartOn s) (passesOf s) M (startOn s) h)
-    where
-      next : (suc M < searchOn s 0 .moves) ⊎ (searchOn s 0 .moves ≤ suc M) → searchOn s (suc M) .moves ≡ suc M
-      next (inl g) = cut-short (suc M) (omega arith) g .0
-      next (inr g) =
-          let e : searchOn s (suc M) .moves ≡ searchOn s 0 .moves =
-          ap (λ (v : State). v .moves) (limit-idle (chartOn s) (passesOf s) (suc M) (startOn s) g) in
-          omega arith
-
-      go : (searchOn s M ≡ searchOn s (suc M))
-          ⊎ ((searchOn s M .cut ≡ true) × After (chartOn s) (length (startOn s)) (searchOn s M) 1 (searchOn s (suc M)))
-          → After (chartOn s) (length (startOn s)) (searchOn s M) 1 (searchOn s (suc M))
-      go (inl e) =
-          let f : searchOn s M .moves ≡ searchOn s (suc M) .moves = ap (λ (v : State). v .moves) e in
-          let now = cut-short M h l .0 in
-          let then = next (lt-or (suc M) (searchOn s 0 .moves)) in
-          absurd (omega arith)
-      go (inr w) = w .1
-
-  -- every trial counted was made
-  abbrev Reached : State → Type 0
-  Reached v = (k : ℕ) × After (chartOn s) (length (startOn s)) (begunOn s) k v
-
-  trial-by-trial : (M : ℕ) → Carries (chartOn s) M (length (startOn s)) Reached (λ p held. Reached)
-  trial-by-trial M = record {
-    stops = λ v l q. (
-      q .0,
-      after-level (chartOn s) (length (startOn s)) (begunOn s) (q .1)
-          (record { tour = refl; cost = refl; moves = refl }),
-    );
-    begins = λ v q. (
-      q .0,
-      after-level (chartOn s) (length (startOn s)) (begunOn s) (q .1)
-          (record { tour = refl; cost = refl; moves = refl }),
-    );
-    flips = λ i j v h g m q. (suc (q .0), flipped i j h g (q .1) (level-refl _));
-    enters = λ p v q. q;
-    rests = λ p held v l q. (
-      q .0,
-      after-level (chartOn s) (length (startOn s)) (begunOn s) (q .1)
-          (record { tour = refl; cost = refl; moves = refl }),
-    );
-    swaps = λ p held a v h o m q. (suc (q .0), swapped p held a h o (q .1) (level-refl _));
-    leaves = λ p held v q. q;
-  }
-
-  all-made : (M : ℕ) → After (chartOn s) (length (startOn s)) (begunOn s) (searchOn s M .moves) (searchOn s M)
-  all-made M =
-      let r = search-carries (chartOn s) (passesOf s) M (startOn s) Reached (λ p held. Reached) (trial-by-trial M)
-      (0, here (level-refl _)) in
-      let e = after-counts (chartOn s) (length (startOn s)) (begunOn s) (r .1) in
-      let k : r .0 ≡ searchOn s M .moves = omega arith in
-      subst (λ (z : ℕ). After (chartOn s) (length (startOn s)) (begunOn s) z (searchOn s M)) k (r .1)
-
-  stays : (M : ℕ) → worthwhile (passesOf s) (length (startOn s)) ≡ false → searchOn s M ≡ begun (chartOn s) (startOn s)
-  unfolding searched
-  stays M e = rw e
-
--- few contours or no passes: nothing is worth a search
-not-worthwhile : (most n : ℕ) → (most ≡ 0) ⊎ (n < 3) → worthwhile most n ≡ false
-not-worthwhile most n (inl e) = rw e
-not-worthwhile most n (inr h) = rw (lt-leb 3 n h) (and-false (ltb 0 most))
+stays : (s : List ℕ) (M : ℕ) → worthwhile (passesOf s) (length (startOn s)) ≡ false → searchOn s M ≡ begunOn s
+unfolding searched
+stays s M e = rw e
 
 limit : (s : List ℕ) → checkOf s ≡ Fine → Cut s
-limit s fine = record {
-  enough = λ M h. limit-idle (chartOn s) (passesOf s) M (startOn s) h;
-  made = λ M. subst (λ (n : ℕ). After (chartOn s) n (begunOn s) (searchOn s M .moves) (searchOn s M))
-      (start-long s fine) (all-made s M);
-  cut = λ M h l.
-      subst (λ (n : ℕ). (searchOn s M .moves ≡ M)
-      × ((k : ℕ) × After (chartOn s) n (searchOn s M) (suc k) (searchOn s 0))) (start-long s fine) (cut-short s M h l);
-  one-more = λ M h l. subst (λ (n : ℕ). After (chartOn s) n (searchOn s M) 1 (searchOn s (suc M))) (start-long s fine)
-      (one-further s M h l);
-  unlimited = never-cut s;
-  idle = λ M w. (
-      let e = stays s M (not-worthwhile (passesOf s) (length (startOn s)) (rw (start-long s fine) w)) in
-      (ap (λ (v : State). v .tour) e, ap (λ (v : State). v .moves) e));
-}
+limit s fine =
+    let makes = search-makes (chartOn s) (passesOf s) (startOn s) in
+    let all = makes .all-counted in
+    record {
+      begins = begins;
+      made = same _ _ (makes .all);
+      counted = all;
+      unlimited = makes .never-ended;
+      first-made = λ M h. same _ _ (makes .first M h);
+      first-counted = makes .first-counted;
+      enough = λ M h. makes .enough M (rw (← all) h);
+      cut = λ M h l.
+          (let less : M < length (allOn s) = rw (← all) l in
+          (makes .first-counted M h ∙ min-eq-left {n = M} {m = length (allOn s)} (omega arith), makes .ended M h less));
+      idle = λ M w. (
+          let e = stays s M (not-worthwhile (passesOf s) (length (startOn s)) (rw (start-long s fine) w)) in
+          (ap (λ (v : State). v .tour) e, ap (λ (v : State). v .moves) e));
+      proper = subst (λ (n : ℕ). Proper (chartOn s) n (begunOn s) (allOn s)) (start-long s fine) (makes .proper);
+    }
 
 -- ---- the answer
 
@@ -292,10 +385,15 @@ claim s room table told h =
     ∙ take-at (tourOn s) (drop (length (tourOn s)) room) (contoursOf s) long in
     record {
       numbered = numbered s fine;
+      sized = sized s;
       from-home = homes-at (candidatesOn s) (homeOn s);
       apart = apart s;
+      pairs = pairs s fine;
       starts = starts s fine;
+      measured = measured s;
+      terms = terms s fine;
       trials = trials s;
+      between = between s;
       order = order s fine;
       limit = limit s fine;
       told-so = record {

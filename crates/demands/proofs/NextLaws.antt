@@ -1,13 +1,13 @@
 -- Each step of a fine card's start takes the first of the nearest candidates that are ready, and the steps make up the
 -- start. Assumes nothing.
-use mathlib.Core.Bool.{Bool, true, false, cond}
+use mathlib.Core.Bool.{Bool, true, false, not, cond, true≢false, or-true, _&&_, _||_}
 use mathlib.Core.List.{List, [], _∷_, _++_}
 use mathlib.Core.Logic.{_⊎_, inl, inr}
 use mathlib.Core.Path.{_≡_, refl, sym, ap, _∙_, subst}
 use Prim.Native.Nat.{ℕ, zero, suc, _+_, _-_, _*_, _≤_, _<_}
 use native.Mathlib.Nat.{zero-add, add-zero, add-suc, suc-add}
 use native.Mathlib.Omega.{arith}
-use borrow.Author.Tests.{eqb-false, le-leb}
+use borrow.Author.Tests.{eqb-true, eqb-false, eq-eqb, ne-eqb, le-leb}
 use lib.Dec.{eqb, lit≤}
 use lib.Ieee.{Float, nan, inf, fin, ofBits, ofFields, odd}
 use lib.ListN.{length, getD, length-append}
@@ -15,26 +15,164 @@ use Rattle.answer.specs.declared.Point.{Point}
 use Rattle.answer.specs.declared.Check.the-variants.{Fine}
 use Rattle.points.specs.Distance.{distanceOf}
 use Rattle.points.proofs.SizeLaws.{Plus, Near, distance-plus}
+use Rattle.closure.specs.Pairs.{Pair, paired, every}
 use Rattle.closure.proofs.PairLaws.{same-or}
-use Rattle.fields.specs.Layout.{contoursOf}
+use Rattle.fields.specs.Layout.{contoursOf, pairsOf}
+use Rattle.card.specs.Names.{pairsOn}
 use Rattle.card.specs.Verdict.{checkOf}
+use Rattle.card.proofs.NameLaws.{seats-length}
 use Rattle.card_laws.proofs.Facts.{accepted}
+use Rattle.table.specs.Evaluate.{homeAt, distanceAt}
 use Rattle.table.specs.Each.{each}
 use Rattle.table.proofs.DistanceLaws.{same-contour, homes-at}
 use Rattle.table.proofs.EachLaws.{each-keeps}
-use Rattle.start.specs.Nearest.{Ground, Way, reachOf, lastOf, chosen, visit, step, setOut, walked, nearest}
+use Rattle.start.specs.Nearest.{Ground, Way, lastOf, isIn, reachOf, clears, isOpen, chosen, visit, step, setOut, walked}
+use Rattle.start.specs.Nearest.{nearest}
 use Rattle.start.proofs.ChoiceLaws.{chosen-fair}
 use Rattle.start.proofs.StepLaws.{last-at}
 use Rattle.instance.proofs.OwnerLaws.{gathered-grows, first-at}
 use Rattle.instance.specs.Search.{homeOn, candidatesOn, countOn, ownersOn, homesOn, tableOn, chartOn}
 use Rattle.tour.specs.Search.{startOn}
-use Rattle.demands.specs.Demand2.{groundOn, wayOn, reachOn, Ready, Takes, Starts}
+use Rattle.demands.specs.Demand2.{groundOn, wayOn, reachOn, Visited, Free, Looks, Ready, Takes, Starts}
 use Rattle.tour_laws.specs.Visits.{AllBelow}
 use Rattle.tour_laws.proofs.BelowLaws.{below-at, step-below}
 use Rattle.demands.proofs.ChosenLaws.{Real, Open, chosen-least, chosen-first}
 use Rattle.tour_laws.proofs.GatherLaws.{firsts-below, ends-gathered, candidate-near}
 use Rattle.tour_laws.proofs.RouteLaws.{stopOf, leg-is}
 use Rattle.tour_laws.proofs.TourLaws.{home-near, start-long}
+
+-- ---- what a step looks at
+
+last-of : (front : List ℕ) (b : ℕ) → lastOf (front ++ (b ∷ [])) ≡ b
+unfolding lastOf
+last-of [] b = refl
+last-of (c ∷ []) b = refl
+last-of (c ∷ (d ∷ more)) b = last-of (d ∷ more) b
+
+-- a number in a list stands somewhere in it
+record Somewhere (k : ℕ) (l : List ℕ) : Type 0 where
+  at : ℕ
+  within : at < length l
+  is-there : getD l at 0 ≡ k
+
+in-somewhere : (k : ℕ) (l : List ℕ) → isIn k l ≡ true → Somewhere k l
+unfolding isIn
+in-somewhere k [] e = absurd (true≢false (sym e))
+in-somewhere k (x ∷ l) e = go (eqb x k) refl (in-somewhere k l) e
+  where
+    go : (b : Bool) → eqb x k ≡ b → (isIn k l ≡ true → Somewhere k l) → (b || isIn k l) ≡ true → Somewhere k (x ∷ l)
+    go true f later g = record { at = 0; within = omega arith; is-there = eqb-true x k f }
+    go false f later g =
+        let w = later g in
+        record { at = suc (w .at); within = omega (arith, w .within); is-there = w .is-there }
+
+somewhere-in : (k : ℕ) (l : List ℕ) (at : ℕ) → at < length l → getD l at 0 ≡ k → isIn k l ≡ true
+unfolding isIn
+somewhere-in k [] at h e = absurd (omega arith)
+somewhere-in k (x ∷ l) zero h e = rw (eq-eqb x k e)
+somewhere-in k (x ∷ l) (suc at) h e = rw (somewhere-in k l at (omega arith) e) (or-true (eqb x k))
+
+and-left : (a b : Bool) → (a && b) ≡ true → a ≡ true
+and-left true b e = refl
+and-left false b e = absurd (true≢false (sym e))
+
+and-right : (a b : Bool) → (a && b) ≡ true → b ≡ true
+and-right true b e = e
+and-right false b e = absurd (true≢false (sym e))
+
+-- a pair of a flat list by its number
+abbrev pairAt : List ℕ → ℕ → Pair
+pairAt l q = record { before = getD l (2 * q) 0; after = getD l (2 * q + 1) 0 }
+
+-- the pairs after the first
+pair-next : (b a : ℕ) (l : List ℕ) (q : ℕ) → pairAt (b ∷ a ∷ l) (suc q) ≡ pairAt l q
+pair-next b a l q =
+    let e : 2 * suc q ≡ suc (suc (2 * q)) = omega arith in
+    let f : 2 * suc q + 1 ≡ suc (suc (2 * q + 1)) = omega arith in
+    rw (f, e)
+
+every-pair : (test : Pair → Bool) (l : List ℕ) → every test (paired l) ≡ true → (q : ℕ) → 2 * q + 1 < length l
+    → test (pairAt l q) ≡ true
+unfolding every paired
+every-pair test [] e q h = absurd (omega arith)
+every-pair test (b ∷ []) e q h = absurd (omega arith)
+every-pair test (b ∷ (a ∷ l)) e zero h = and-left (test (pairAt (b ∷ a ∷ l) 0)) _ e
+every-pair test (b ∷ (a ∷ l)) e (suc q) h =
+    ap test (pair-next b a l q)
+    ∙ every-pair test l (and-right (test (pairAt (b ∷ a ∷ l) 0)) _ e) q (omega arith)
+
+pair-every : (test : Pair → Bool) (l : List ℕ) → ((q : ℕ) → 2 * q + 1 < length l → test (pairAt l q) ≡ true)
+    → every test (paired l) ≡ true
+unfolding every paired
+pair-every test [] h = refl
+pair-every test (b ∷ []) h = refl
+pair-every test (b ∷ (a ∷ l)) h =
+    rw (h 0 (omega arith))
+    (pair-every test l (λ q m. sym (ap test (pair-next b a l q)) ∙ h (suc q) (omega arith)))
+
+module _ (s : List ℕ) (w : Way) where
+  reach-by : (a : ℕ) (l : List ℕ) → Float
+  reach-by a l =
+      cond (eqb (length l) 0) (homeAt (homesOn s) a) (distanceAt (tableOn s) (countOn s) (lastOf l) a)
+
+  reach-last : (front : List ℕ) (b a : ℕ) → reach-by a (front ++ (b ∷ [])) ≡ distanceAt (tableOn s) (countOn s) b a
+  unfolding reach-by
+  reach-last front b a =
+      let long = length-append front (b ∷ []) in
+      let some : eqb (length (front ++ (b ∷ []))) 0 ≡ false =
+      ne-eqb (length (front ++ (b ∷ []))) 0 (λ e. omega arith) in
+      rw (some, last-of front b)
+
+  to-visited : (k : ℕ) → isIn k (w .visited) ≡ true → Visited w k
+  to-visited k e =
+      let found = in-somewhere k (w .visited) e in
+      record { step = found .at; made = found .within; is-there = found .is-there }
+
+  from-visited : (k : ℕ) → Visited w k → isIn k (w .visited) ≡ true
+  from-visited k v = somewhere-in k (w .visited) (v .step) (v .made) (v .is-there)
+
+  open-free : (k : ℕ) → isOpen (groundOn s) w k ≡ true → Free s w k
+  unfolding chartOn isOpen
+  open-free k e = record {
+    not-yet = λ v. absurd (not-both (isIn k (w .visited)) (from-visited k v) (and-left _ _ e));
+    cleared = λ q h f.
+        to-visited _ (clear (eqb (getD (pairsOn s) (2 * q + 1) 0) k) _ (eq-eqb _ k f)
+        (every-pair (clears w k) (pairsOn s) (and-right (not (isIn k (w .visited))) _ e) q
+        (omega (arith, seats-length s (pairsOf s)))));
+  }
+    where
+      not-both : (b : Bool) → b ≡ true → not b ≡ true → ⊥
+      not-both true p q = true≢false (sym q)
+      not-both false p q = true≢false (sym p)
+
+      clear : (b c : Bool) → b ≡ true → (not b || c) ≡ true → c ≡ true
+      clear true c p q = q
+      clear false c p q = absurd (true≢false (sym p))
+
+  free-open : (k : ℕ) → Free s w k → isOpen (groundOn s) w k ≡ true
+  unfolding chartOn isOpen
+  free-open k free =
+      rw (unvisited (isIn k (w .visited)) refl) (pair-every (clears w k) (pairsOn s) (λ q h.
+      clear q (omega (arith, seats-length s (pairsOf s))) (eqb (getD (pairsOn s) (2 * q + 1) 0) k) refl))
+    where
+      unvisited : (b : Bool) → isIn k (w .visited) ≡ b → isIn k (w .visited) ≡ false
+      unvisited true e = absurd (free .not-yet (to-visited k e))
+      unvisited false e = e
+
+      clear : (q : ℕ) → q < pairsOf s → (b : Bool) → eqb (getD (pairsOn s) (2 * q + 1) 0) k ≡ b
+          → (not b || isIn (getD (pairsOn s) (2 * q) 0) (w .visited)) ≡ true
+      clear q h true e = from-visited _ (free .cleared q h (eqb-true _ k e))
+      clear q h false e = refl
+
+  looks : Looks s w
+  unfolding chartOn reachOf reach-by
+  looks = record {
+    from-home = λ a e. ap (reach-by a) e;
+    from-last = λ front b a e. ap (reach-by a) e ∙ reach-last front b a;
+    open-so = λ k. (open-free k, free-open k);
+  }
+
+-- ---- the steps
 
 -- a loop's last step
 each-last : {S : Type 0} (f : ℕ → S → S) (k a : ℕ) (s : S) → each f (suc k) a s ≡ f (a + k) (each f k a s)
@@ -200,4 +338,5 @@ module _ (s : List ℕ) (fine : checkOf s ≡ Fine) where
           absurd (omega arith)
 
   pub starts : Starts s
-  starts = record { steps = steps; whole = whole }
+  unfolding each
+  starts = record { sets-out = refl; looks = looks s; steps = steps; whole = whole }

@@ -2,28 +2,31 @@
 -- the search as it is defined; a move limit cuts that search after so many trials and changes nothing else; and the
 -- length told is evaluated from the tour handed out. tourOf is what `tour::tour` promises. Assumes nothing.
 use mathlib.Core.Path.{_≡_}
-use mathlib.Core.Bool.{true, false, cond}
-use mathlib.Core.Logic.{_⊎_}
-use mathlib.Core.List.{List, [], _∷_, _++_}
-use Prim.Native.Nat.{ℕ, suc, _+_, _*_, _-_, _≤_, _<_}
-use lib.Dec.{T, eqb}
-use lib.Ieee.{Float, lt, le}
+use mathlib.Core.Bool.{Bool, true, false}
+use mathlib.Core.Logic.{_⊎_, _↔_}
+use mathlib.Core.List.{List, [], _∷_, map, _++_, reverse}
+use Prim.Native.Nat.{ℕ, suc, _+_, _*_, _-_, _≤_, _<_, min}
+use lib.Dec.{T}
+use lib.Ieee.{Float, binary64, ofBits, lt, le, add, sub}
 use lib.ListN.{length, getD, set, take, drop}
-use Rattle.points.specs.Numbers.{huge}
+use Rattle.points.specs.Numbers.{zero64, huge}
 use Rattle.points.specs.Distance.{distanceOf}
 use Rattle.candidates.specs.declared.Candidate.{Candidate}
 use Rattle.candidates.specs.Direction.{directionOf}
 use Rattle.candidates.specs.Generate.{candidatesOf}
-use Rattle.fields.specs.Layout.{contoursOf, passesOf, moveLimitOf}
+use Rattle.keep.specs.Legal.{EachOnce}
+use Rattle.fields.specs.Layout.{contoursOf, pairsOf, passesOf, moveLimitOf, idOf, beforeIdOf, afterIdOf}
+use Rattle.card.specs.Names.{pairsOn}
 use Rattle.card_laws.specs.Card.{cardOf, contourOf}
 use Rattle.card_laws.specs.Orders.{LegalOrder}
 use Rattle.table.specs.Evaluate.{homeAt, distanceAt, lengthOf}
-use Rattle.table.specs.Distances.{absent, pierced, leaving}
+use Rattle.table.specs.Distances.{absent, pierced, leaving, listed, chained}
 use Rattle.table.specs.Each.{each}
 use Rattle.start.specs.Nearest.{Ground, Way, reachOf, isOpen, step, setOut}
-use Rattle.improve.specs.Search.{State, contours, lengthIn, legal, shorter, stopped, tried, swap, turn, reversed, flip}
-use Rattle.improve.specs.Search.{row, fresh, pass, repeated, begun, searched}
-use Rattle.improve.specs.After.{After}
+use Rattle.improve.specs.Search.{State, contours, lengthIn, legal, shorter, stopped, tried, swap, reversed, flip, fresh}
+use Rattle.improve.specs.Search.{begun, searched}
+use Rattle.improve.specs.Trials.{Trial, other, stretch, allMade, others, turnTrials, turnsTrials, rowTrials, passTrials}
+use Rattle.improve.specs.Trials.{passesTrials, trialsOf, Proper}
 use Rattle.solve.specs.declared.Outcome.{Outcome}
 use Rattle.solve.specs.Solve.{groundIn}
 use Rattle.tour.specs.declared.Toured.the-variants.{Done}
@@ -50,6 +53,11 @@ pub record Numbered (s : List ℕ) : Type 0 where
   pub owner : (k j : ℕ) → k < contoursOf s → j < length (ownOn s k)
       → getD (ownersOn s) (getD (firstsOn s) k 0 + j) 0 ≡ k
 
+-- a distance from home for each candidate, and one for each candidate to each, row by row
+pub record Sized (s : List ℕ) : Type 0 where
+  pub homes : length (homesOn s) ≡ countOn s
+  pub table : length (tableOn s) ≡ countOn s * countOn s
+
 -- from home to candidate a's point
 abbrev pub FromHome : List ℕ → ℕ → Type 0
 FromHome s a = homeAt (homesOn s) a ≡ distanceOf (homeOn s) (pierced (getD (candidatesOn s) a absent))
@@ -60,6 +68,22 @@ pub record Apart (s : List ℕ) (a b : ℕ) : Type 0 where
   pub other : (getD (ownersOn s) a 0 ≡ getD (ownersOn s) b 0 → ⊥)
       → distanceAt (tableOn s) (countOn s) a b
       ≡ distanceOf (leaving (getD (candidatesOn s) a absent)) (pierced (getD (candidatesOn s) b absent))
+
+-- ---- pairs
+
+-- position k is the contour that has this id
+pub record Has (s : List ℕ) (id k : ℕ) : Type 0 where
+  pub is-contour : k < contoursOf s
+  pub same-id : idOf s k ≡ id
+
+-- what the search reads of the pairs are two positions for each, before and after: those of the contours whose ids
+-- stand on the card. No two contours have one id, so contours and positions with equal ids are the same
+pub record Paired (s : List ℕ) : Type 0 where
+  pub read : chartOn s .pairs ≡ pairsOn s
+  pub all : length (pairsOn s) ≡ 2 * pairsOf s
+  pub before : (q : ℕ) → q < pairsOf s → Has s (beforeIdOf s q) (getD (pairsOn s) (2 * q) 0)
+  pub after : (q : ℕ) → q < pairsOf s → Has s (afterIdOf s q) (getD (pairsOn s) (2 * q + 1) 0)
+  pub equal-ids : (j k : ℕ) → j < contoursOf s → k < contoursOf s → idOf s j ≡ idOf s k → j ≡ k
 
 -- ---- the start
 
@@ -74,6 +98,25 @@ wayOn s p = each (step (groundOn s) (contoursOf s)) p 0 setOut
 -- how far candidate a is from there: from home at first, then from the last candidate
 abbrev pub reachOn : List ℕ → Way → ℕ → Float
 reachOn s w a = reachOf (groundOn s) w a
+
+-- contour k is visited
+pub record Visited (w : Way) (k : ℕ) : Type 0 where
+  pub step : ℕ
+  pub made : step < length (w .visited)
+  pub is-there : getD (w .visited) step 0 ≡ k
+
+-- contour k is not visited, and whatever a pair puts before it is
+pub record Free (s : List ℕ) (w : Way) (k : ℕ) : Type 0 where
+  pub not-yet : Visited w k → ⊥
+  pub cleared : (q : ℕ) → q < pairsOf s → getD (pairsOn s) (2 * q + 1) 0 ≡ k → Visited w (getD (pairsOn s) (2 * q) 0)
+
+-- what a step looks at: how far each candidate is, from home at first and then from the last one; and which contours
+-- are open
+pub record Looks (s : List ℕ) (w : Way) : Type 0 where
+  pub from-home : (a : ℕ) → w .tour ≡ [] → reachOn s w a ≡ homeAt (homesOn s) a
+  pub from-last : (front : List ℕ) (b a : ℕ) → w .tour ≡ front ++ (b ∷ [])
+      → reachOn s w a ≡ distanceAt (tableOn s) (countOn s) b a
+  pub open-so : (k : ℕ) → (isOpen (groundOn s) w k ≡ true) ↔ Free s w k
 
 -- candidate b is one of an open contour: one not visited whose predecessors all are
 pub record Ready (s : List ℕ) (w : Way) (b : ℕ) : Type 0 where
@@ -92,8 +135,10 @@ pub record Takes (s : List ℕ) (w after : Way) (a : ℕ) : Type 0 where
   pub put : after .tour ≡ w .tour ++ (a ∷ [])
   pub marked : after .visited ≡ w .visited ++ (ready .contour ∷ [])
 
--- a step for each contour
+-- from nothing on, a step for each contour
 pub record Starts (s : List ℕ) : Type 0 where
+  pub sets-out : wayOn s 0 ≡ record { tour = []; visited = [] }
+  pub looks : (w : Way) → Looks s w
   pub steps : (p : ℕ) → p < contoursOf s → (a : ℕ) × Takes s (wayOn s p) (wayOn s (suc p)) a
   pub whole : startOn s ≡ wayOn s (contoursOf s) .tour
 
@@ -103,6 +148,25 @@ pub record Starts (s : List ℕ) : Type 0 where
 abbrev pub longOn : List ℕ → List ℕ → Float
 longOn s tour = lengthIn (chartOn s) tour
 
+-- that length: +0 for no stop, from home to the first, then leg after leg added, each sum rounded once
+pub record Measured (s : List ℕ) : Type 0 where
+  pub nowhere : longOn s [] ≡ zero64
+  pub from-home : (a : ℕ) → longOn s (a ∷ []) ≡ homeAt (homesOn s) a
+  pub one-leg : (front : List ℕ) (a b : ℕ)
+      → longOn s (front ++ (a ∷ b ∷ []))
+      ≡ add binary64 (longOn s (front ++ (a ∷ []))) (distanceAt (tableOn s) (countOn s) a b)
+
+-- what is asked of a trial: in floats, new < current - 1e-10; and, of a tour that meets each contour once, that it
+-- meets of each pair the first before the second. Reversed is the stretch from i+1 to j; what stands around it stays
+pub record Terms (s : List ℕ) : Type 0 where
+  pub is-shorter : (new current : Float)
+      → shorter new current ≡ lt new (sub binary64 current (ofBits binary64 0x3ddb_7cdf_d9d7_bdbb))
+  pub is-legal : (tour : List ℕ) → EachOnce (contoursOf s) (contours (ownersOn s) tour)
+      → (legal (chartOn s) tour ≡ true) ↔ LegalOrder s (contours (ownersOn s) tour)
+  pub is-reversed : (i j : ℕ) (front middle back : List ℕ) → length front ≡ suc i
+      → length front + length middle ≡ suc j
+      → reversed i j (front ++ (middle ++ back)) ≡ front ++ (reverse middle ++ back)
+
 -- the two trials: candidate a at position p, where `held` was held when its turn began; and the stretch from i+1 to j
 -- reversed
 abbrev pub otherOn : List ℕ → ℕ → ℕ → ℕ → State → State
@@ -111,49 +175,136 @@ otherOn s p held a v = swap (chartOn s) p held a v
 abbrev pub reversalOn : List ℕ → ℕ → ℕ → State → State
 reversalOn s i j v = flip (chartOn s) i j v
 
--- a trial leaves this tour, this length to beat, and so many trials made
-pub record Leaves (after : State) (tour : List ℕ) (cost : Float) (moves : ℕ) : Type 0 where
+-- a trial leaves this tour, this length to beat, and a pass that has accepted something or not; it counts one, and
+-- leaves it to the limit to end the search
+pub record Leaves (before after : State) (tour : List ℕ) (cost : Float) (better : Bool) : Type 0 where
   pub tour-is : after .tour ≡ tour
   pub cost-is : after .cost ≡ cost
-  pub moves-is : after .moves ≡ moves
+  pub better-is : after .better ≡ better
+  pub moves-is : after .moves ≡ suc (before .moves)
+  pub cut-is : after .cut ≡ before .cut
 
 -- a trial is accepted if it is shorter by more than 1e-10 and, for a reversal, legal: its tour and its length are then
--- held. If not, a candidate gives the position back the one held when its turn began, a reversal the tour as it was,
--- and the length stays. Each counts one
+-- held, and its pass has accepted something. If not, a candidate gives the position back the one held when its turn
+-- began, a reversal the tour as it was, and the rest stays
 pub record Trials (s : List ℕ) (v : State) : Type 0 where
   pub other-taken : (p held a : ℕ) → shorter (longOn s (set (v .tour) p a)) (v .cost) ≡ true
-      → Leaves (otherOn s p held a v) (set (v .tour) p a) (longOn s (set (v .tour) p a)) (suc (v .moves))
+      → Leaves v (otherOn s p held a v) (set (v .tour) p a) (longOn s (set (v .tour) p a)) true
   pub other-left : (p held a : ℕ) → shorter (longOn s (set (v .tour) p a)) (v .cost) ≡ false
-      → Leaves (otherOn s p held a v) (set (v .tour) p held) (v .cost) (suc (v .moves))
+      → Leaves v (otherOn s p held a v) (set (v .tour) p held) (v .cost) (v .better)
   pub reversal-taken : (i j : ℕ) → shorter (longOn s (reversed i j (v .tour))) (v .cost) ≡ true
       → legal (chartOn s) (reversed i j (v .tour)) ≡ true
-      → Leaves (reversalOn s i j v) (reversed i j (v .tour)) (longOn s (reversed i j (v .tour))) (suc (v .moves))
+      → Leaves v (reversalOn s i j v) (reversed i j (v .tour)) (longOn s (reversed i j (v .tour))) true
   pub reversal-longer : (i j : ℕ) → shorter (longOn s (reversed i j (v .tour))) (v .cost) ≡ false
-      → Leaves (reversalOn s i j v) (v .tour) (v .cost) (suc (v .moves))
+      → Leaves v (reversalOn s i j v) (v .tour) (v .cost) (v .better)
   pub reversal-illegal : (i j : ℕ) → legal (chartOn s) (reversed i j (v .tour)) ≡ false
-      → Leaves (reversalOn s i j v) (v .tour) (v .cost) (suc (v .moves))
+      → Leaves v (reversalOn s i j v) (v .tour) (v .cost) (v .better)
 
--- ---- the order of the trials, with a limit of M; 0 is none
-
--- the turn of position p, the reversals that begin after position i, a pass, and at most k passes
-abbrev pub turnOn : List ℕ → ℕ → ℕ → State → State
-turnOn s M p v = turn (chartOn s) M p v
-
-abbrev pub rowOn : List ℕ → ℕ → ℕ → State → State
-rowOn s M i v = row (chartOn s) M (contoursOf s) i v
-
-abbrev pub passOn : List ℕ → ℕ → State → State
-passOn s M v = pass (chartOn s) M (contoursOf s) v
-
-abbrev pub passesOn : List ℕ → ℕ → ℕ → State → State
-passesOn s M k v = repeated (chartOn s) M (contoursOf s) k v
-
--- the state in which a search begins, the start and its length; and the one in which it ends
+-- the state in which a search begins, with the start and its length; and the one in which it ends, with a limit of M;
+-- 0 is none
 abbrev pub begunOn : List ℕ → State
 begunOn s = begun (chartOn s) (startOn s)
 
 abbrev pub searchOn : List ℕ → ℕ → State
 searchOn s M = searched (chartOn s) (passesOf s) M (startOn s)
+
+-- a search begins as if a pass had accepted something, so that the first pass is made; each pass begins having accepted
+-- nothing; and a search that the limit ends is ended and else as it was
+pub record Between (s : List ℕ) : Type 0 where
+  pub begins : begunOn s
+      ≡ record { tour = startOn s; cost = longOn s (startOn s); better = true; moves = 0; cut = false }
+  pub pass-begins : (v : State)
+      → fresh v ≡ record { tour = v .tour; cost = v .cost; better = false; moves = v .moves; cut = v .cut }
+  pub limit-ends : (v : State)
+      → stopped v ≡ record { tour = v .tour; cost = v .cost; better = v .better; moves = v .moves; cut = true }
+
+-- ---- the order of the trials: a list of `other p held a` and `stretch i j`
+
+-- trials made one after the other
+abbrev pub madeOn : List ℕ → List Trial → State → State
+madeOn s trials v = allMade (chartOn s) trials v
+
+-- the trials from here on: in a turn, of the candidates from a to before `to`; in the turn of position p; in the turns
+-- from position p on
+abbrev pub othersOn : ℕ → ℕ → ℕ → ℕ → List Trial
+othersOn p held a to = map (other p held) (others held (to - a) a)
+
+abbrev pub turnOn : List ℕ → ℕ → State → List Trial
+turnOn s p v = turnTrials (chartOn s) p v
+
+abbrev pub turnsOn : List ℕ → ℕ → State → List Trial
+turnsOn s p v = turnsTrials (chartOn s) (contoursOf s - p) p v
+
+-- of the stretches after position i, from the one that ends at j on; of those after position i and later ones
+abbrev pub stretchesOn : List ℕ → ℕ → ℕ → List Trial
+stretchesOn s i j = listed (stretch i) (contoursOf s - j) j
+
+abbrev pub rowsOn : List ℕ → ℕ → List Trial
+rowsOn s i = chained (rowTrials (contoursOf s)) (contoursOf s - 1 - i) i
+
+-- in a pass, in at most k passes, and in the whole search
+abbrev pub passOn : List ℕ → State → List Trial
+passOn s v = passTrials (chartOn s) (contoursOf s) v
+
+abbrev pub passesOn : List ℕ → ℕ → State → List Trial
+passesOn s k v = passesTrials (chartOn s) (contoursOf s) k v
+
+abbrev pub allOn : List ℕ → List Trial
+allOn s = trialsOf (chartOn s) (passesOf s) (startOn s)
+
+-- each trial of a list is made as it is above
+pub record Making (s : List ℕ) (v : State) : Type 0 where
+  pub none : madeOn s [] v ≡ v
+  pub an-other : (p held a : ℕ) (more : List Trial)
+      → madeOn s (other p held a ∷ more) v ≡ madeOn s more (otherOn s p held a v)
+  pub a-stretch : (i j : ℕ) (more : List Trial)
+      → madeOn s (stretch i j ∷ more) v ≡ madeOn s more (reversalOn s i j v)
+
+-- a turn tries the candidates of the contour that its position holds, one after the other, but for the one that it
+-- holds when the turn begins; every position has its turn, in order, which begins where the one before has led
+pub record Turns (s : List ℕ) : Type 0 where
+  pub turn : (p : ℕ) (v : State)
+      → let held = getD (v .tour) p 0 in
+      let k = getD (ownersOn s) held 0 in
+      turnOn s p v ≡ othersOn p held (getD (firstsOn s) k 0) (getD (firstsOn s) (suc k) 0)
+  pub candidate : (p held a to : ℕ) → a < to → (a ≡ held → ⊥)
+      → othersOn p held a to ≡ other p held a ∷ othersOn p held (suc a) to
+  pub but-held : (p a to : ℕ) → a < to → othersOn p a a to ≡ othersOn p a (suc a) to
+  pub no-candidate : (p held a to : ℕ) → to ≤ a → othersOn p held a to ≡ []
+  pub next-turn : (p : ℕ) (v : State) → p < contoursOf s
+      → turnsOn s p v ≡ turnOn s p v ++ turnsOn s (suc p) (madeOn s (turnOn s p v) v)
+  pub no-turn : (p : ℕ) (v : State) → contoursOf s ≤ p → turnsOn s p v ≡ []
+
+-- for each i from 0 to n-2, in order, the stretch from i+1 to j is reversed for each j from i+2 to n-1, in order
+pub record Rows (s : List ℕ) : Type 0 where
+  pub reversal : (i j : ℕ) → j < contoursOf s → stretchesOn s i j ≡ stretch i j ∷ stretchesOn s i (suc j)
+  pub no-reversal : (i j : ℕ) → contoursOf s ≤ j → stretchesOn s i j ≡ []
+  pub next-row : (i : ℕ) → suc i < contoursOf s → rowsOn s i ≡ stretchesOn s i (i + 2) ++ rowsOn s (suc i)
+  pub no-row : (i : ℕ) → contoursOf s ≤ suc i → rowsOn s i ≡ []
+
+-- a pass has every turn and then every reversal. Passes follow each other while the last accepted something and one is
+-- left, each where the one before has led; with three contours or more that is the search, and with fewer nothing is
+pub record Passes (s : List ℕ) : Type 0 where
+  pub pass : (v : State) → passOn s v ≡ turnsOn s 0 v ++ rowsOn s 0
+  pub another : (k : ℕ) (v : State) → v .better ≡ true
+      → passesOn s (suc k) v ≡ passOn s (fresh v) ++ passesOn s k (madeOn s (passOn s (fresh v)) (fresh v))
+  pub no-other : (k : ℕ) (v : State) → (k ≡ 0) ⊎ (v .better ≡ false) → passesOn s k v ≡ []
+  pub search : 3 ≤ contoursOf s → allOn s ≡ passesOn s (passesOf s) (begunOn s)
+  pub few : contoursOf s < 3 → allOn s ≡ []
+
+pub record Order (s : List ℕ) : Type 0 where
+  pub making : (v : State) → Making s v
+  pub turns : Turns s
+  pub rows : Rows s
+  pub passes : Passes s
+
+-- ---- the search makes them, and the limit
+
+-- the same tour, length to beat, and number of trials
+pub record Same (v w : State) : Type 0 where
+  pub tour : v .tour ≡ w .tour
+  pub cost : v .cost ≡ w .cost
+  pub moves : v .moves ≡ w .moves
 
 -- a trial begins if the search has not ended and the limit allows one more; where it does not, the search ends
 pub record Begins (M : ℕ) (trial : State → State) (v : State) : Type 0 where
@@ -161,43 +312,23 @@ pub record Begins (M : ℕ) (trial : State → State) (v : State) : Type 0 where
   pub ended : v .cut ≡ false → 0 < M → M ≤ v .moves → tried M trial v ≡ stopped v
   pub over : v .cut ≡ true → tried M trial v ≡ v
 
--- a turn tries the candidates of the contour that its position holds, one after the other, but for the one that it
--- holds; a row reverses i+1..j for each j from i+2 on; a pass has every position's turn and then every row. Passes
--- follow each other while the last accepted something, the limit has not ended the search, and one is left; with three
--- contours or more that is the search
-pub record Order (s : List ℕ) (M : ℕ) : Type 0 where
-  pub begins : (trial : State → State) (v : State) → Begins M trial v
-  pub turns : (p : ℕ) (v : State)
-      → let held = getD (v .tour) p 0 in
-      let k = getD (ownersOn s) held 0 in
-      let from = getD (firstsOn s) k 0 in
-      turnOn s M p v ≡ each (λ a u. cond (eqb a held) u (tried M (otherOn s p held a) u))
-      (getD (firstsOn s) (suc k) 0 - from) from v
-  pub rows : (i : ℕ) (v : State)
-      → rowOn s M i v ≡ each (λ j. tried M (reversalOn s i j)) (contoursOf s - (i + 2)) (i + 2) v
-  pub passes : (v : State)
-      → passOn s M v ≡ each (rowOn s M) (contoursOf s - 1) 0 (each (turnOn s M) (contoursOf s) 0 (fresh v))
-  pub another : (k : ℕ) (v : State) → v .better ≡ true → v .cut ≡ false
-      → passesOn s M (suc k) v ≡ passesOn s M k (passOn s M v)
-  pub no-other : (k : ℕ) (v : State) → (k ≡ 0) ⊎ ((v .better ≡ false) ⊎ (v .cut ≡ true)) → passesOn s M k v ≡ v
-  pub search : 3 ≤ contoursOf s → searchOn s M ≡ passesOn s M (passesOf s) (begunOn s)
-
--- ---- the limit
-
--- the trials counted were made, from the start on. A limit that the search does not need changes nothing; another cuts
--- it after exactly so many trials, a limit higher by one lets it make one trial more, and without a limit it goes on
--- from there and is never cut. Where no pass is allowed or there are fewer than three contours, it stays at the start
--- and makes no trial
+-- without a limit the search makes exactly those trials, from the start on, and is not ended; with a limit of M exactly
+-- the first M of them. A limit that leaves none out changes nothing; another ends the search after exactly so many.
+-- Where no pass is allowed or there are fewer than three contours, it stays at the start and makes no trial. Each trial
+-- is proper: of a position of the tour, with another candidate of the contour held there when its turn began; or of
+-- two contours or more
 pub record Cut (s : List ℕ) : Type 0 where
-  pub made : (M : ℕ) → After (chartOn s) (contoursOf s) (begunOn s) (searchOn s M .moves) (searchOn s M)
-  pub enough : (M : ℕ) → searchOn s 0 .moves ≤ M → searchOn s M ≡ searchOn s 0
-  pub cut : (M : ℕ) → 0 < M → M < searchOn s 0 .moves
-      → (searchOn s M .moves ≡ M) × ((k : ℕ) × After (chartOn s) (contoursOf s) (searchOn s M) (suc k) (searchOn s 0))
-  pub one-more : (M : ℕ) → 0 < M → M < searchOn s 0 .moves
-      → After (chartOn s) (contoursOf s) (searchOn s M) 1 (searchOn s (suc M))
+  pub begins : (M : ℕ) (trial : State → State) (v : State) → Begins M trial v
+  pub made : Same (searchOn s 0) (madeOn s (allOn s) (begunOn s))
+  pub counted : searchOn s 0 .moves ≡ length (allOn s)
   pub unlimited : searchOn s 0 .cut ≡ false
+  pub first-made : (M : ℕ) → 0 < M → Same (searchOn s M) (madeOn s (take M (allOn s)) (begunOn s))
+  pub first-counted : (M : ℕ) → 0 < M → searchOn s M .moves ≡ min M (length (allOn s))
+  pub enough : (M : ℕ) → searchOn s 0 .moves ≤ M → searchOn s M ≡ searchOn s 0
+  pub cut : (M : ℕ) → 0 < M → M < searchOn s 0 .moves → (searchOn s M .moves ≡ M) × (searchOn s M .cut ≡ true)
   pub idle : (M : ℕ) → (passesOf s ≡ 0) ⊎ (contoursOf s < 3)
       → (searchOn s M .tour ≡ startOn s) × (searchOn s M .moves ≡ 0)
+  pub proper : Proper (chartOn s) (contoursOf s) (begunOn s) (allOn s)
 
 -- ---- the answer
 
@@ -213,11 +344,16 @@ pub record Told (s room : List ℕ) (table : List Float) (told : Outcome) : Type
 
 pub record Follows (s room : List ℕ) (table : List Float) (told : Outcome) : Type 0 where
   pub numbered : Numbered s
+  pub sized : Sized s
   pub from-home : (a : ℕ) → a < countOn s → FromHome s a
   pub apart : (a b : ℕ) → a < countOn s → b < countOn s → Apart s a b
+  pub pairs : Paired s
   pub starts : Starts s
+  pub measured : Measured s
+  pub terms : Terms s
   pub trials : (v : State) → Trials s v
-  pub order : (M : ℕ) → Order s M
+  pub between : Between s
+  pub order : Order s
   pub limit : Cut s
   pub told-so : Told s room table told
 

@@ -11,7 +11,7 @@ use lib.Seq.{set-getD}
 use Rattle.table.proofs.EachLaws.{each-keeps}
 use Rattle.improve.specs.Search.{Chart, State, ownerOf, atLimit, stopped, tried, givenBack, swap, alternative}
 use Rattle.improve.specs.Search.{turn, flip, reversal, row, fresh, pass, repeated, begun, worthwhile, searched}
-use Rattle.improve.specs.After.{Offers}
+use Rattle.improve.specs.Trials.{Offers}
 
 -- ---- what is asked of a property
 

@@ -14,7 +14,7 @@ use Rattle.bytes.specs.Bytes.{rev}
 use Rattle.keep.specs.Keep.{keepsPairs}
 use Rattle.improve.specs.Search.{Chart, State, lengthIn, ownerOf, contours, legal, shorter, judged, atLimit, swap}
 use Rattle.improve.specs.Search.{turned, reversed, flip, searched}
-use Rattle.improve.specs.After.{Offers}
+use Rattle.improve.specs.Trials.{Offers}
 use Rattle.improve.proofs.Keeps.{Keeps, search-keeps}
 use Rattle.improve.proofs.ReversalLaws.{Parts, parts, turned-parts, length-turned}
 

@@ -12,8 +12,9 @@ use lib.ListN.{length, getD, set, take, drop}
 use Rattle.bytes.specs.Bytes.{rev, slice}
 use Rattle.table.specs.Each.{each}
 use Rattle.improve.specs.Code.{unpaired, distances, Judged, Taken, going, stateOf}
-use Rattle.improve.specs.Search.{Chart, State, lengthIn, legal, shorter, judged, atLimit, tried, ownerOf}
-use Rattle.improve.specs.Search.{givenBack, swap, alternative, turn, turned, reversed, flip, reversal, row}
+use Rattle.improve.specs.Search.{Chart, State, lengthIn, legal, shorter, judged, atLimit, stopped, tried}
+use Rattle.improve.specs.Search.{ownerOf, givenBack, swap, alternative, turn, turned, reversed, flip, reversal}
+use Rattle.improve.specs.Search.{row}
 use Rattle.improve.specs.declared.Progress.{Progress}
 use Rattle.improve.specs.declared.Tried.{Tried}
 use Rattle.improve.proofs.IdleLaws.{Idle, each-idle, each-same}
@@ -21,7 +22,7 @@ use Rattle.improve.proofs.ReversalLaws.{turned-twice}
 
 -- ---- ended
 
-tried-idle : (limit : ℕ) (trial : State → State) (s : State) → s .cut ≡ true → tried limit trial s ≡ s
+pub tried-idle : (limit : ℕ) (trial : State → State) (s : State) → s .cut ≡ true → tried limit trial s ≡ s
 unfolding tried
 tried-idle limit trial s e = rw e
 
@@ -52,16 +53,20 @@ module _ (chart : Chart) where
 abbrev pub ended : List ℕ → Float → Bool → ℕ → State
 ended tour cost better moves = record { tour = tour; cost = cost; better = better; moves = moves; cut = true }
 
-tried-stops : (limit : ℕ) (trial : State → State) (tour : List ℕ) (cost : Float) (better : Bool) (moves : ℕ)
-    → atLimit limit moves ≡ true → tried limit trial (going tour cost better moves) ≡ ended tour cost better moves
-unfolding tried
-tried-stops limit trial tour cost better moves e = rw e
+module _ (limit : ℕ) (trial : State → State) (s : State) (goes : s .cut ≡ false) where
+  -- a trial that the limit does not let begin ends the search
+  pub tried-stops : atLimit limit (s .moves) ≡ true → tried limit trial s ≡ stopped s
+  unfolding tried
+  tried-stops e =
+      ap (λ (c : Bool). cond c s (cond (atLimit limit (s .moves)) (stopped s) (trial s))) goes
+      ∙ ap (λ (b : Bool). cond b (stopped s) (trial s)) e
 
-tried-goes : (limit : ℕ) (trial : State → State) (tour : List ℕ) (cost : Float) (better : Bool) (moves : ℕ)
-    → atLimit limit moves ≡ false
-    → tried limit trial (going tour cost better moves) ≡ trial (going tour cost better moves)
-unfolding tried
-tried-goes limit trial tour cost better moves e = rw e
+  -- any other is made
+  pub tried-goes : atLimit limit (s .moves) ≡ false → tried limit trial s ≡ trial s
+  unfolding tried
+  tried-goes e =
+      ap (λ (c : Bool). cond c s (cond (atLimit limit (s .moves)) (stopped s) (trial s))) goes
+      ∙ ap (λ (b : Bool). cond b (stopped s) (trial s)) e
 
 judged-is : (accepted : Bool) (new : List ℕ) (length : Float) (back tour after : List ℕ) (cost : Float)
     (better : Bool) (moves : ℕ) (r : Tried)
@@ -85,7 +90,7 @@ module _ (chart : Chart) (limit p held a : ℕ) (tour : List ℕ) (cost : Float)
       ≡ ended tour cost better moves
   unfolding alternative
   alternative-stops e =
-      rw (ne-eqb a held other) (tried-stops limit (swap chart p held a) tour cost better moves (sym asked ∙ e))
+      rw (ne-eqb a held other) (tried-stops limit (swap chart p held a) _ refl (sym asked ∙ e))
 
   -- before it, another candidate is tried
   pub alternative-goes : (r : Tried) (after : List ℕ) → flag ≡ false
@@ -96,7 +101,7 @@ module _ (chart : Chart) (limit p held a : ℕ) (tour : List ℕ) (cost : Float)
   unfolding alternative swap
   alternative-goes r after e w =
       rw (ne-eqb a held other)
-      (tried-goes limit (swap chart p held a) tour cost better moves (sym asked ∙ e)
+      (tried-goes limit (swap chart p held a) _ refl (sym asked ∙ e)
       ∙ judged-is _ _ _ _ tour after cost better moves r w)
 
 module _ (chart : Chart) (limit i j : ℕ) (tour : List ℕ) (cost : Float) (better : Bool) (moves : ℕ) (flag : Bool)
@@ -105,7 +110,7 @@ module _ (chart : Chart) (limit i j : ℕ) (tour : List ℕ) (cost : Float) (bet
   pub reversal-stops : flag ≡ true → reversal chart limit i j (going tour cost better moves)
       ≡ ended tour cost better moves
   unfolding reversal
-  reversal-stops e = tried-stops limit (flip chart i j) tour cost better moves (sym asked ∙ e)
+  reversal-stops e = tried-stops limit (flip chart i j) _ refl (sym asked ∙ e)
 
   -- before it, the stretch is tried the other way round
   pub reversal-goes : (r : Tried) (after : List ℕ) → flag ≡ false
@@ -115,7 +120,7 @@ module _ (chart : Chart) (limit i j : ℕ) (tour : List ℕ) (cost : Float) (bet
       ≡ going after (r .cost) (better || r .accepted) (moves + 1)
   unfolding reversal flip
   reversal-goes r after e w =
-      tried-goes limit (flip chart i j) tour cost better moves (sym asked ∙ e)
+      tried-goes limit (flip chart i j) _ refl (sym asked ∙ e)
       ∙ judged-is _ _ _ _ tour after cost better moves r w
 
 -- ---- turns

@@ -1,3 +1,4 @@
 pub mod Search
-pub mod After
+pub mod Flags
+pub mod Trials
 pub mod Code
