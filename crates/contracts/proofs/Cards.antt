@@ -1,0 +1,55 @@
+-- Each contract of the card comes to its definition. Assumes nothing.
+use mathlib.Core.Path.{sym, _∙_, refl}
+use Rattle.contracts.proofs.Laws.{told, lent, as-written}
+use Rattle.contracts.specs.Cards.{OfFields, OfCard, OfReader, OfReaderStruct, Claim}
+
+of-fields : OfFields
+of-fields = record {
+  job = told _ (λ κs a u v. refl) (λ κs a x p. p);
+  contours = told _ (λ κs a u v. refl) (λ κs a x p. p);
+  pairs = told _ (λ κs a u v. refl) (λ κs a x p. p);
+  per-contour = told _ (λ κs a u v. refl) (λ κs a x p. p);
+  passes = told _ (λ κs a u v. refl) (λ κs a x p. p);
+  move-limit = told _ (λ κs a u v. refl) (λ κs a x p. p);
+  home = told _ (λ κs a u v. refl) (λ κs a x p. p);
+  exterior = told _ (λ κs a u v. refl) (λ κs a x p. p);
+  interior = told _ (λ κs a u v. refl) (λ κs a x p. p);
+  contour-offset = told _ (λ κs a u v. refl) (λ κs a x p. p);
+  contour-byte = told _ (λ κs a u v. refl) (λ κs a x p. p);
+  id = told _ (λ κs a u v. refl) (λ κs a x p. p);
+  tag = told _ (λ κs a u v. refl) (λ κs a x p. p);
+  vertices = told _ (λ κs a u v. refl) (λ κs a x p. p);
+  contour-type = told _ (λ κs a u v. refl) (λ κs a x p. p);
+  vertex = told _ (λ κs a u v. refl) (λ κs a x p. p);
+  before-id = told _ (λ κs a u v. refl) (λ κs a x p. p);
+  before-tag = told _ (λ κs a u v. refl) (λ κs a x p. p);
+  after-id = told _ (λ κs a u v. refl) (λ κs a x p. p);
+  after-tag = told _ (λ κs a u v. refl) (λ κs a x p. p);
+}
+
+of-card : OfCard
+of-card = record {
+  position-of = told _ (λ κs a u v. refl) (λ κs a x p. p);
+  pair-places = told _ (λ κs a u v. refl) (λ κs a x p. p);
+  check = told _ (λ κs a u v. refl) (λ κs a x p. p);
+}
+
+of-reader : OfReader
+of-reader = record {
+  field-at = told _ (λ κs a u v. refl) (λ κs a x p. p);
+  left-at = told _ (λ κs a u v. refl) (λ κs a x p. p);
+  read-field = told _ (λ κs a u v. refl) (λ κs a x p. p);
+  read-head = told _ (λ κs a u v. refl) (λ κs a x p. p);
+  read-contour = told _ (λ κs a u v. refl) (λ κs a x p. p);
+}
+
+of-reader-struct : OfReaderStruct
+of-reader-struct = record {
+  new = as-written _ (λ κs a u v. refl) (λ κs a x p. p);
+  moved = as-written _ (λ κs a u v. refl) (λ κs a x p. p);
+  next = as-written _ (λ κs a u v. refl) (λ κs a x p. p);
+  left = as-written _ (λ κs a u v. refl) (λ κs a x p. p);
+}
+
+pub claim : Claim
+claim = (of-fields, of-card, of-reader, of-reader-struct)

@@ -1,0 +1,49 @@
+-- Each contract of the search comes to its definition. Assumes nothing.
+use mathlib.Core.Path.{sym, _∙_, refl}
+use Rattle.contracts.proofs.Laws.{told, lent}
+use Rattle.contracts.specs.Search.{OfCandidates, OfTable, OfStart, OfImprove, OfInstance, OfSolve, Claim}
+
+of-candidates : OfCandidates
+of-candidates = record {
+  determine-direction = told _ (λ κs a u v. refl) (λ κs a x p. p);
+  perimeter = told _ (λ κs a u v. refl) (λ κs a x p. p);
+  spot-at = told _ (λ κs a u v. refl) (λ κs a x p. p);
+  candidates-of = told _ (λ κs a u v. refl) (λ κs a x p. p);
+  contour-candidates = told _ (λ κs a u v. refl) (λ κs a x p. p);
+}
+
+of-table : OfTable
+of-table = record {
+  float-at = told _ (λ κs a u v. refl) (λ κs a x p. p);
+  byte-at = told _ (λ κs a u v. refl) (λ κs a x p. p);
+  home-at = told _ (λ κs a u v. refl) (λ κs a x p. p);
+  distance-at = told _ (λ κs a u v. refl) (λ κs a x p. p);
+  evaluate-solution = told _ (λ κs a u v. refl) (λ κs a x p. p);
+  fill-table = lent (λ κs a x y p q i. (tt, ((p ∙ sym q) i, (tt, (tt, (tt, tt)))))) (λ κs a x p. p);
+  fill-home = lent (λ κs a x y p q i. (tt, ((p ∙ sym q) i, (tt, (tt, (tt, tt)))))) (λ κs a x p. p);
+}
+
+of-start : OfStart
+of-start = record {
+  nn-constrained = lent (λ κs a x y p q i. ((p .counted ∙ sym (q .counted)) i, (tt, (tt, (tt, (tt, (tt, ((p .held ∙ sym (q .held)) i, tt)))))))) (λ κs a x p. p);
+  solve-nn = lent (λ κs a x y p q i. ((p .counted ∙ sym (q .counted)) i, (tt, (tt, (tt, (tt, ((p .held ∙ sym (q .held)) i, tt))))))) (λ κs a x p. p);
+}
+
+of-improve : OfImprove
+of-improve = record {
+  improve = lent (λ κs a x y p q i. ((p .counted ∙ sym (q .counted)) i, (tt, (tt, (tt, (tt, (tt, (tt, ((p .held ∙ sym (q .held)) i, (tt, (tt, tt))))))))))) (λ κs a x p. p);
+}
+
+of-instance : OfInstance
+of-instance = record {
+  gather = told _ (λ κs a u v. refl) (λ κs a x p. p);
+  prepare = told _ (λ κs a u v. refl) (λ κs a x p. p);
+}
+
+of-solve : OfSolve
+of-solve = record {
+  solve-constrained = lent (λ κs a x y p q i. ((p .told ∙ sym (q .told)) i, (tt, (tt, (tt, (tt, (tt, (tt, ((p .held ∙ sym (q .held)) i, (tt, (tt, tt))))))))))) (λ κs a x p. p);
+}
+
+pub claim : Claim
+claim = (of-candidates, of-table, of-start, of-improve, of-instance, of-solve)
