@@ -42,6 +42,7 @@ test:
 	{ rt ci >$$log 2>&1 || { cat $$log; exit 1; }; } && cat $$log && tail -n 1 $$log >target/gate
 	gate/test.sh
 	gate/refusals.sh
+	gate/contracts.sh
 	@$(MAKE) --no-print-directory $(if $(shell command -v $(CARGO)),hosts,no-cargo)
 	@cat target/gate
 

@@ -1,7 +1,8 @@
 #!/bin/sh
 # test.sh: refusals.sh must pass a sweep whose wrong programs are each refused at their own fact, and name what is wrong with
 # one that has a harmless replacement in it, one refused elsewhere, one told twice, a name that docs/PROMISES.md lacks, and so
-# on. The log is one that `rt must-fail` wrote of crates/block, cut short.
+# on. The log is one that `rt must-fail` wrote of crates/block, cut short. And contracts.sh must pass a crate whose callable
+# functions all have their entries, and name one that has none, one that cites another's contract, and a record not proved.
 set -eu
 
 here=$(cd "$(dirname "$0")" && pwd -P)
@@ -42,9 +43,10 @@ new: $2
 refused: $3
 END
 }
-says() { # STATUS TEXT: how refusals.sh ends on the sweep, and what is in the lines that it prints
+script=refusals.sh
+says() { # STATUS TEXT: how the script ends on the tree, and what is in the lines that it prints
     status=0
-    said=$("$here/refusals.sh" "$tree") || status=$?
+    said=$("$here/$script" "$tree") || status=$?
     case $status:$said in "$1:"*"$2"*) ;; *) echo "gate/test.sh: due was $1 and «$2», got $status and «$said»"; exit 1 ;; esac
 }
 
@@ -73,3 +75,44 @@ says 1 ': a replacement that has no name'
 echo "$whole" >"$edit"
 rm "$tree/target/must-fail/block/bodies_1/.log"
 says 1 'first_byte_for_any: not refused at byte_at returns'
+
+# ---- contracts.sh
+script=contracts.sh
+mkdir -p "$tree/crates/contracts/specs" "$tree/crates/contracts/proofs" "$tree/crates/contracts/src"
+cat >"$tree/crates/block/src/lib.rt" <<'END'
+pub fn byte_at(s: &[u8], at: usize) -> u8
+pub(crate) fn inner(s: &[u8]) -> u8
+fn private(s: &[u8]) -> u8
+    pub extern "C" fn door(
+pub fn next<'a>(r: Reader<'a>) -> u8
+END
+echo '// no code' >"$tree/crates/contracts/src/lib.rt"
+entries() { # ENTRY-OF-DOOR: the statements, with this line for the second
+    cat >"$tree/crates/contracts/specs/Words.antt" <<END
+use Rattle.block.proofs as Block
+
+pub record OfBlock : Type 0 where
+  pub byte-at : Says Block.byte_at.ended Block.byte_at.Reads.Asked
+      Block.byte_at.Reads.Learnt
+      (λ _ s at r. r ≡ byteAt (now s) at)
+$1
+  pub next : SaysByHand Block.next.ended (λ M. Block.next.clauses) (λ _ r f. f ≡ fieldAt (now (r .src)) (r .at))
+
+abbrev pub Claim : Type 0
+Claim = OfBlock
+END
+}
+door='  pub door : Says Block.door.ended Block.door.Reads.Asked Block.door.Reads.Learnt (λ _ s r. r ≡ doorOf (now s))'
+echo 'of-block : OfBlock' >"$tree/crates/contracts/proofs/Words.antt"
+entries "$door"
+says 0 '3 callable functions, the contract of each cited whole in crates/contracts'
+entries ''
+says 1 'block::door: no entry in crates/contracts/specs'
+entries "$(echo "$door" | sed 's/Block.door.Reads.Learnt/Block.byte_at.Reads.Learnt/')"
+says 1 'door does not cite one contract whole'
+says 1 'block::door: no entry in crates/contracts/specs'
+entries "$(echo "$door" | sed 's/Block/Card/g')"
+says 1 'no crate is named Card'
+entries "$door"
+echo 'of-card : OfCard' >"$tree/crates/contracts/proofs/Words.antt"
+says 1 'crates/contracts/proofs has no OfBlock'

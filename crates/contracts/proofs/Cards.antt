@@ -1,7 +1,7 @@
--- Each contract of the card comes to its definition. Assumes nothing.
-use mathlib.Core.Path.{sym, _∙_, refl}
-use Rattle.contracts.proofs.Laws.{told, lent, as-written}
-use Rattle.contracts.specs.Cards.{OfFields, OfCard, OfReader, OfReaderStruct, Claim}
+-- Each contract of `fields`, `card` and `reader` comes to its definition. Assumes nothing.
+use mathlib.Core.Path.{refl}
+use Rattle.contracts.proofs.Laws.{told, by-hand}
+use Rattle.contracts.specs.Cards.{OfFields, OfCard, OfReader, OfReaderByHand, Claim}
 
 of-fields : OfFields
 of-fields = record {
@@ -43,13 +43,13 @@ of-reader = record {
   read-contour = told _ (λ κs a u v. refl) (λ κs a x p. p);
 }
 
-of-reader-struct : OfReaderStruct
-of-reader-struct = record {
-  new = as-written _ (λ κs a u v. refl) (λ κs a x p. p);
-  moved = as-written _ (λ κs a u v. refl) (λ κs a x p. p);
-  next = as-written _ (λ κs a u v. refl) (λ κs a x p. p);
-  left = as-written _ (λ κs a u v. refl) (λ κs a x p. p);
+of-reader-by-hand : OfReaderByHand
+of-reader-by-hand = record {
+  new = by-hand _ (λ κs a u v. refl) (λ κs a x p. p);
+  moved = by-hand _ (λ κs a u v. refl) (λ κs a x p. p);
+  next = by-hand _ (λ κs a u v. refl) (λ κs a x p. p);
+  left = by-hand _ (λ κs a u v. refl) (λ κs a x p. p);
 }
 
 pub claim : Claim
-claim = (of-fields, of-card, of-reader, of-reader-struct)
+claim = (of-fields, of-card, of-reader, of-reader-by-hand)

@@ -1,6 +1,6 @@
--- Each contract of the numbers comes to its definition. Assumes nothing.
-use mathlib.Core.Path.{sym, _∙_, refl}
-use Rattle.contracts.proofs.Laws.{told, lent}
+-- Each contract of `root`, `points` and `cost` comes to its definition. Assumes nothing.
+use mathlib.Core.Path.{refl}
+use Rattle.contracts.proofs.Laws.{told}
 use Rattle.contracts.specs.Numbers.{OfRoot, OfPoints, OfCost, Claim}
 
 of-root : OfRoot

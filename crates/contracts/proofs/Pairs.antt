@@ -1,6 +1,6 @@
--- Each contract of the pairs comes to its definition. Assumes nothing.
-use mathlib.Core.Path.{sym, _∙_, refl}
-use Rattle.contracts.proofs.Laws.{told, lent}
+-- Each contract of `closure`, `keep` and `hierarchy` comes to its definition. Assumes nothing.
+use mathlib.Core.Path.{refl}
+use Rattle.contracts.proofs.Laws.{told}
 use Rattle.contracts.specs.Pairs.{OfClosure, OfKeep, OfHierarchy, Claim}
 
 of-closure : OfClosure

@@ -1,6 +1,6 @@
--- Each contract of the search comes to its definition. Assumes nothing.
-use mathlib.Core.Path.{sym, _∙_, refl}
-use Rattle.contracts.proofs.Laws.{told, lent}
+-- Each contract of the search's crates comes to its definition. Assumes nothing.
+use mathlib.Core.Path.{refl}
+use Rattle.contracts.proofs.Laws.{same, _&_, told, lent}
 use Rattle.contracts.specs.Search.{OfCandidates, OfTable, OfStart, OfImprove, OfInstance, OfSolve, Claim}
 
 of-candidates : OfCandidates
@@ -19,19 +19,27 @@ of-table = record {
   home-at = told _ (λ κs a u v. refl) (λ κs a x p. p);
   distance-at = told _ (λ κs a u v. refl) (λ κs a x p. p);
   evaluate-solution = told _ (λ κs a u v. refl) (λ κs a x p. p);
-  fill-table = lent (λ κs a x y p q i. (tt, ((p ∙ sym q) i, (tt, (tt, (tt, tt)))))) (λ κs a x p. p);
-  fill-home = lent (λ κs a x y p q i. (tt, ((p ∙ sym q) i, (tt, (tt, (tt, tt)))))) (λ κs a x p. p);
+  fill-table = lent (λ κs a x y p q. refl & same p q & refl) (λ κs a x p. p);
+  fill-home = lent (λ κs a x y p q. refl & same p q & refl) (λ κs a x p. p);
 }
 
 of-start : OfStart
 of-start = record {
-  nn-constrained = lent (λ κs a x y p q i. ((p .counted ∙ sym (q .counted)) i, (tt, (tt, (tt, (tt, (tt, ((p .held ∙ sym (q .held)) i, tt)))))))) (λ κs a x p. p);
-  solve-nn = lent (λ κs a x y p q i. ((p .counted ∙ sym (q .counted)) i, (tt, (tt, (tt, (tt, ((p .held ∙ sym (q .held)) i, tt))))))) (λ κs a x p. p);
+  nn-constrained = lent
+      (λ κs a x y p q. same (p .counted) (q .counted) & refl & refl & refl & refl & refl & same (p .held) (q .held) &
+      refl)
+      (λ κs a x p. p);
+  solve-nn = lent
+      (λ κs a x y p q. same (p .counted) (q .counted) & refl & refl & refl & refl & same (p .held) (q .held) & refl)
+      (λ κs a x p. p);
 }
 
 of-improve : OfImprove
 of-improve = record {
-  improve = lent (λ κs a x y p q i. ((p .counted ∙ sym (q .counted)) i, (tt, (tt, (tt, (tt, (tt, (tt, ((p .held ∙ sym (q .held)) i, (tt, (tt, tt))))))))))) (λ κs a x p. p);
+  improve = lent
+      (λ κs a x y p q. same (p .counted) (q .counted) & refl & refl & refl & refl & refl & refl &
+      same (p .held) (q .held) & refl)
+      (λ κs a x p. p);
 }
 
 of-instance : OfInstance
@@ -42,7 +50,10 @@ of-instance = record {
 
 of-solve : OfSolve
 of-solve = record {
-  solve-constrained = lent (λ κs a x y p q i. ((p .told ∙ sym (q .told)) i, (tt, (tt, (tt, (tt, (tt, (tt, ((p .held ∙ sym (q .held)) i, (tt, (tt, tt))))))))))) (λ κs a x p. p);
+  solve-constrained = lent
+      (λ κs a x y p q. same (p .told) (q .told) & refl & refl & refl & refl & refl & refl & same (p .held) (q .held) &
+      refl)
+      (λ κs a x p. p);
 }
 
 pub claim : Claim

@@ -1,32 +1,70 @@
--- Each contract of the test doors comes to its definition. Assumes nothing.
-use mathlib.Core.Path.{sym, _∙_, refl}
-use Rattle.contracts.proofs.Laws.{told, lent}
+-- Each contract of `probe` comes to its definition. Assumes nothing.
+use mathlib.Core.Path.{refl}
+use Rattle.contracts.proofs.Laws.{same, _&_, told, lent}
 use Rattle.contracts.specs.TestDoors.{OfProbe, Claim}
 
 of-probe : OfProbe
 of-probe = record {
-  probe-root = lent (λ κs a x y p q i. ((p .0 ∙ sym (q .0)) i, (tt, ((p .1 ∙ sym (q .1)) i, tt)))) (λ κs a x p. p);
+  probe-root = lent (λ κs a x y p q. same (p .0) (q .0) & refl & same (p .1) (q .1) & refl) (λ κs a x p. p);
   probe-sqrt = told _ (λ κs a u v. refl) (λ κs a x p. p);
-  probe-distance = lent (λ κs a x y p q i. ((p .0 ∙ sym (q .0)) i, (tt, (tt, (tt, (tt, ((p .1 ∙ sym (q .1)) i, tt))))))) (λ κs a x p. p);
-  probe-distance-sq = lent (λ κs a x y p q i. ((p .0 ∙ sym (q .0)) i, (tt, (tt, (tt, (tt, ((p .1 ∙ sym (q .1)) i, tt))))))) (λ κs a x p. p);
+  probe-distance = lent
+      (λ κs a x y p q. same (p .0) (q .0) & refl & refl & refl & refl & same (p .1) (q .1) & refl)
+      (λ κs a x p. p);
+  probe-distance-sq = lent
+      (λ κs a x y p q. same (p .0) (q .0) & refl & refl & refl & refl & same (p .1) (q .1) & refl)
+      (λ κs a x p. p);
   probe-between = told _ (λ κs a u v. refl) (λ κs a x p. p);
-  probe-rapid = lent (λ κs a x y p q i. ((p .0 ∙ sym (q .0)) i, (tt, (tt, (tt, ((p .1 ∙ sym (q .1)) i, tt)))))) (λ κs a x p. p);
-  probe-sequence-cost = lent (λ κs a x y p q i. ((p .0 ∙ sym (q .0)) i, (tt, (tt, (tt, ((p .1 ∙ sym (q .1)) i, tt)))))) (λ κs a x p. p);
-  probe-closest = lent (λ κs a x y p q i. ((p .0 ∙ sym (q .0)) i, (tt, (tt, (tt, ((p .1 .0 ∙ sym (q .1 .0)) i, ((p .1 .1 .0 ∙ sym (q .1 .1 .0)) i, ((p .1 .1 .1 .0 ∙ sym (q .1 .1 .1 .0)) i, ((p .1 .1 .1 .1 ∙ sym (q .1 .1 .1 .1)) i, tt))))))))) (λ κs a x p. p);
-  probe-num-contours = lent (λ κs a x y p q i. ((p .0 ∙ sym (q .0)) i, (tt, (tt, ((p .1 ∙ sym (q .1)) i, tt))))) (λ κs a x p. p);
+  probe-rapid = lent
+      (λ κs a x y p q. same (p .0) (q .0) & refl & refl & refl & same (p .1) (q .1) & refl)
+      (λ κs a x p. p);
+  probe-sequence-cost = lent
+      (λ κs a x y p q. same (p .0) (q .0) & refl & refl & refl & same (p .1) (q .1) & refl)
+      (λ κs a x p. p);
+  probe-closest = lent
+      (λ κs a x y p q. same (p .0) (q .0) & refl & refl & refl & same (p .1 .0) (q .1 .0) &
+      same (p .1 .1 .0) (q .1 .1 .0) & same (p .1 .1 .1 .0) (q .1 .1 .1 .0) & same (p .1 .1 .1 .1) (q .1 .1 .1 .1) &
+      refl)
+      (λ κs a x p. p);
+  probe-num-contours = lent
+      (λ κs a x y p q. same (p .0) (q .0) & refl & refl & same (p .1) (q .1) & refl)
+      (λ κs a x p. p);
   probe-violates = told _ (λ κs a u v. refl) (λ κs a x p. p);
   probe-is-valid-sequence = told _ (λ κs a u v. refl) (λ κs a x p. p);
-  probe-precedences = lent (λ κs a x y p q i. ((p .0 ∙ sym (q .0)) i, (tt, (tt, ((p .1 .0 ∙ sym (q .1 .0)) i, ((p .1 .1 ∙ sym (q .1 .1)) i, tt)))))) (λ κs a x p. p);
-  probe-predecessors = lent (λ κs a x y p q i. ((p .0 ∙ sym (q .0)) i, (tt, (tt, (tt, ((p .1 .0 ∙ sym (q .1 .0)) i, ((p .1 .1 ∙ sym (q .1 .1)) i, tt))))))) (λ κs a x p. p);
-  probe-successors = lent (λ κs a x y p q i. ((p .0 ∙ sym (q .0)) i, (tt, (tt, (tt, ((p .1 .0 ∙ sym (q .1 .0)) i, ((p .1 .1 ∙ sym (q .1 .1)) i, tt))))))) (λ κs a x p. p);
-  probe-candidate = lent (λ κs a x y p q i. ((p .0 ∙ sym (q .0)) i, (tt, (tt, (tt, (tt, (tt, (tt, ((p .1 .0 ∙ sym (q .1 .0)) i, ((p .1 .1 .0 ∙ sym (q .1 .1 .0)) i, ((p .1 .1 .1 .0 ∙ sym (q .1 .1 .1 .0)) i, ((p .1 .1 .1 .1 ∙ sym (q .1 .1 .1 .1)) i, tt)))))))))))) (λ κs a x p. p);
-  probe-topological-sort = lent (λ κs a x y p q i. ((p .0 ∙ sym (q .0)) i, (tt, (tt, ((p .1 .0 ∙ sym (q .1 .0)) i, ((p .1 .1 ∙ sym (q .1 .1)) i, tt)))))) (λ κs a x p. p);
+  probe-precedences = lent
+      (λ κs a x y p q. same (p .0) (q .0) & refl & refl & same (p .1 .0) (q .1 .0) & same (p .1 .1) (q .1 .1) & refl)
+      (λ κs a x p. p);
+  probe-predecessors = lent
+      (λ κs a x y p q. same (p .0) (q .0) & refl & refl & refl & same (p .1 .0) (q .1 .0) & same (p .1 .1) (q .1 .1) &
+      refl)
+      (λ κs a x p. p);
+  probe-successors = lent
+      (λ κs a x y p q. same (p .0) (q .0) & refl & refl & refl & same (p .1 .0) (q .1 .0) & same (p .1 .1) (q .1 .1) &
+      refl)
+      (λ κs a x p. p);
+  probe-candidate = lent
+      (λ κs a x y p q. same (p .0) (q .0) & refl & refl & refl & refl & refl & refl & same (p .1 .0) (q .1 .0) &
+      same (p .1 .1 .0) (q .1 .1 .0) & same (p .1 .1 .1 .0) (q .1 .1 .1 .0) & same (p .1 .1 .1 .1) (q .1 .1 .1 .1) &
+      refl)
+      (λ κs a x p. p);
+  probe-topological-sort = lent
+      (λ κs a x y p q. same (p .0) (q .0) & refl & refl & same (p .1 .0) (q .1 .0) & same (p .1 .1) (q .1 .1) & refl)
+      (λ κs a x p. p);
   probe-check = told _ (λ κs a u v. refl) (λ κs a x p. p);
   probe-evaluate = told _ (λ κs a u v. refl) (λ κs a x p. p);
-  probe-improve = lent (λ κs a x y p q i. ((p .counted ∙ sym (q .counted)) i, (tt, (tt, (tt, (tt, (tt, (tt, ((p .held ∙ sym (q .held)) i, (tt, (tt, tt))))))))))) (λ κs a x p. p);
-  probe-start = lent (λ κs a x y p q i. ((p .counted ∙ sym (q .counted)) i, (tt, (tt, (tt, (tt, (tt, ((p .held ∙ sym (q .held)) i, tt)))))))) (λ κs a x p. p);
-  probe-solve-nn = lent (λ κs a x y p q i. ((p .counted ∙ sym (q .counted)) i, (tt, (tt, (tt, (tt, ((p .held ∙ sym (q .held)) i, tt))))))) (λ κs a x p. p);
-  probe-distances = lent (λ κs a x y p q i. (tt, (tt, ((p .0 ∙ sym (q .0)) i, ((p .1 .0 ∙ sym (q .1 .0)) i, ((p .1 .1 ∙ sym (q .1 .1)) i, tt)))))) (λ κs a x p. p);
+  probe-improve = lent
+      (λ κs a x y p q. same (p .counted) (q .counted) & refl & refl & refl & refl & refl & refl &
+      same (p .held) (q .held) & refl)
+      (λ κs a x p. p);
+  probe-start = lent
+      (λ κs a x y p q. same (p .counted) (q .counted) & refl & refl & refl & refl & refl & same (p .held) (q .held) &
+      refl)
+      (λ κs a x p. p);
+  probe-solve-nn = lent
+      (λ κs a x y p q. same (p .counted) (q .counted) & refl & refl & refl & refl & same (p .held) (q .held) & refl)
+      (λ κs a x p. p);
+  probe-distances = lent
+      (λ κs a x y p q. refl & refl & same (p .0) (q .0) & same (p .1 .0) (q .1 .0) & same (p .1 .1) (q .1 .1) & refl)
+      (λ κs a x p. p);
 }
 
 pub claim : Claim

@@ -1,6 +1,6 @@
--- Each contract of the words comes to its definition. Assumes nothing.
-use mathlib.Core.Path.{sym, _∙_, refl}
-use Rattle.contracts.proofs.Laws.{told, lent}
+-- Each contract of `answer`, `block` and `text` comes to its definition. Assumes nothing.
+use mathlib.Core.Path.{ap, refl}
+use Rattle.contracts.proofs.Laws.{same, _&_, told, lent}
 use Rattle.contracts.specs.Words.{OfAnswer, OfBlock, OfText, Claim}
 
 of-answer : OfAnswer
@@ -24,11 +24,11 @@ of-block = record {
 
 of-text : OfText
 of-text = record {
-  put-byte = lent (λ κs a x y p q i. ((p ∙ sym q) i .at, ((p ∙ sym q) i .held, (tt, (tt, tt))))) (λ κs a x p. p);
-  put = lent (λ κs a x y p q i. ((p ∙ sym q) i .at, ((p ∙ sym q) i .held, (tt, (tt, tt))))) (λ κs a x p. p);
-  put-decimal = lent (λ κs a x y p q i. ((p ∙ sym q) i .at, ((p ∙ sym q) i .held, (tt, (tt, tt))))) (λ κs a x p. p);
-  put-hex = lent (λ κs a x y p q i. ((p ∙ sym q) i .at, ((p ∙ sym q) i .held, (tt, (tt, tt))))) (λ κs a x p. p);
-  put-number = lent (λ κs a x y p q i. ((p ∙ sym q) i .at, ((p ∙ sym q) i .held, (tt, (tt, (tt, tt)))))) (λ κs a x p. p);
+  put-byte = lent (λ κs a x y p q. ap (λ z. z .at) (same p q) & ap (λ z. z .held) (same p q) & refl) (λ κs a x p. p);
+  put = lent (λ κs a x y p q. ap (λ z. z .at) (same p q) & ap (λ z. z .held) (same p q) & refl) (λ κs a x p. p);
+  put-decimal = lent (λ κs a x y p q. ap (λ z. z .at) (same p q) & ap (λ z. z .held) (same p q) & refl) (λ κs a x p. p);
+  put-hex = lent (λ κs a x y p q. ap (λ z. z .at) (same p q) & ap (λ z. z .held) (same p q) & refl) (λ κs a x p. p);
+  put-number = lent (λ κs a x y p q. ap (λ z. z .at) (same p q) & ap (λ z. z .held) (same p q) & refl) (λ κs a x p. p);
 }
 
 pub claim : Claim

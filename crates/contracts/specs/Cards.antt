@@ -1,9 +1,11 @@
--- The contracts of the card. Assumes nothing.
+-- What the contracts of `fields`, `card` and `reader` come to: see Contract. Assumes nothing.
 use mathlib.Core.Path.{_≡_}
 use Prim.Native.Nat.{_+_, min, _-_}
 use lib.ListN.{length}
 use Rattle.block.specs.Field.{byteAt}
-use Rattle.fields.specs.Layout.{payload, jobOf, contoursOf, pairsOf, perContourOf, passesOf, moveLimitOf, homeOffset, exteriorOf, interiorOf, idOf, tagOf, vertexCountOf, typeOf, vertexOffset, beforeIdOf, beforeTagOf, afterIdOf, afterTagOf}
+use Rattle.fields.specs.Layout.{payload, jobOf, contoursOf, pairsOf, perContourOf, passesOf, moveLimitOf, homeOffset}
+use Rattle.fields.specs.Layout.{exteriorOf, interiorOf, idOf, tagOf, vertexCountOf, typeOf, vertexOffset, beforeIdOf}
+use Rattle.fields.specs.Layout.{beforeTagOf, afterIdOf, afterTagOf}
 use Rattle.fields.specs.Values.{asType, asPreference, pointAt}
 use Rattle.card.specs.Stages.{positionOf}
 use Rattle.card.specs.Names.{namedOf}
@@ -14,7 +16,8 @@ use denote.Ref.{now}
 use Rattle.fields.proofs as Fields
 use Rattle.card.proofs as Card
 use Rattle.reader.proofs as Reader
-use Rattle.contracts.specs.Contract.{Says, SaysAsWritten}
+use Rattle.contracts.specs.Contract.{Says}
+use Rattle.contracts.specs.ByHand.{SaysByHand}
 
 -- fields
 pub record OfFields : Type 0 where
@@ -78,14 +81,14 @@ pub record OfReader : Type 0 where
   pub read-contour : Says Reader.read_contour.ended Reader.read_contour.Reads.Asked Reader.read_contour.Reads.Learnt
       (λ _ card k r. r ≡ contourRead (now card) k)
 
--- reader
-pub record OfReaderStruct : Type 2 where
-  pub new : SaysAsWritten Reader.new.ended (λ M. Reader.new.clauses) (λ _ src r. r ≡ record { src = src; at = 0 })
-  pub moved : SaysAsWritten Reader.moved.ended (λ M. Reader.moved.clauses)
+-- reader, by hand
+pub record OfReaderByHand : Type 2 where
+  pub new : SaysByHand Reader.new.ended (λ M. Reader.new.clauses) (λ _ src r. r ≡ record { src = src; at = 0 })
+  pub moved : SaysByHand Reader.moved.ended (λ M. Reader.moved.clauses)
       (λ _ r at q. q ≡ record { src = r .src; at = at })
-  pub next : SaysAsWritten Reader.next.ended (λ M. Reader.next.clauses)
+  pub next : SaysByHand Reader.next.ended (λ M. Reader.next.clauses)
       (λ _ r width f. f ≡ fieldAt (now (r .src)) (r .at) width)
-  pub left : SaysAsWritten Reader.left.ended (λ M. Reader.left.clauses) (λ _ r n. n ≡ length (now (r .src)) - r .at)
+  pub left : SaysByHand Reader.left.ended (λ M. Reader.left.clauses) (λ _ r n. n ≡ length (now (r .src)) - r .at)
 
 abbrev pub Claim : Type 2
-Claim = OfFields × OfCard × OfReader × OfReaderStruct
+Claim = OfFields × OfCard × OfReader × OfReaderByHand

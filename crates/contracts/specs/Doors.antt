@@ -1,4 +1,4 @@
--- The contracts of the doors. Assumes nothing.
+-- What the contracts of the doors come to: see Contract. Assumes nothing.
 use mathlib.Core.Path.{_≡_}
 use Rattle.card.specs.Verdict.{checkOf}
 use Rattle.questions.specs.Order.{orderCheck, evaluated}

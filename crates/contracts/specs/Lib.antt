@@ -1,4 +1,5 @@
 pub mod Contract
+pub mod ByHand
 pub mod Words
 pub mod Numbers
 pub mod Pairs

@@ -1,4 +1,4 @@
--- The contracts of the numbers. Assumes nothing.
+-- What the contracts of `root`, `points` and `cost` come to: see Contract. Assumes nothing.
 use mathlib.Core.Path.{_≡_}
 use Rattle.root.specs.Root.{sqrtOf, rootOf}
 use lib.ListN.{getD}

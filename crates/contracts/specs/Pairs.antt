@@ -1,8 +1,9 @@
--- The contracts of the pairs. Assumes nothing.
+-- What the contracts of `closure`, `keep` and `hierarchy` come to: see Contract. Assumes nothing.
 use mathlib.Core.Path.{_≡_}
 use Rattle.closure.specs.Cycle.{firstOnCycle}
 use Rattle.keep.specs.Keep.{keptAt, keepsPairs, readyIn}
-use Rattle.hierarchy.specs.Questions.{numContours, precedencesOf, violatesOf, predecessorsOf, successorsOf, validSequence, topologicalSort}
+use Rattle.hierarchy.specs.Questions.{numContours, precedencesOf, violatesOf, predecessorsOf, successorsOf}
+use Rattle.hierarchy.specs.Questions.{validSequence, topologicalSort}
 use denote.Ref.{now}
 use Rattle.closure.proofs as Closure
 use Rattle.keep.proofs as Keep

@@ -1,4 +1,4 @@
--- The contracts of the search. Assumes nothing.
+-- What the contracts of the search's crates come to: see Contract. Assumes nothing.
 use mathlib.Core.Path.{_≡_}
 use mathlib.Core.List.{[]}
 use lib.ListN.{getD, length}

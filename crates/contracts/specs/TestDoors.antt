@@ -1,4 +1,4 @@
--- The contracts of the test doors. Assumes nothing.
+-- What the contracts of `probe` come to: see Contract. Assumes nothing.
 use mathlib.Core.Path.{_≡_}
 use Rattle.probe.specs.Told.{rootCode, rootOr, lengthCode, lengthOr, closestCode, nearestOr, countCode, countOr}
 use Rattle.probe.specs.Told.{verdictCode, wayOf, askedOf, nthOf, placeOf, fineOr}

@@ -1,4 +1,4 @@
--- The contracts of the words. Assumes nothing.
+-- What the contracts of `answer`, `block` and `text` come to: see Contract. Assumes nothing.
 use mathlib.Core.Path.{_≡_}
 use Rattle.answer.specs.declared.Check.{Check}
 use Rattle.answer.specs.Code.{codeOf}

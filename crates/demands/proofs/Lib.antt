@@ -7,4 +7,3 @@ pub mod Demand2
 pub mod NearLaws
 pub mod Demand3
 pub mod Starred
-pub mod Unique

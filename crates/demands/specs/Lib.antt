@@ -2,5 +2,4 @@ pub mod Doors
 pub mod Demand1
 pub mod Demand2
 pub mod Demand3
-pub mod Unique
 pub mod Starred

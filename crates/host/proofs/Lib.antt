@@ -1,4 +1,3 @@
 pub mod BoundLaws
 pub mod Exports
 pub mod HostLaws
-pub mod Unique

@@ -1,3 +1,2 @@
 pub mod Hosts
 pub mod Exports
-pub mod Unique

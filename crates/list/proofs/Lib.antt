@@ -1,4 +1,3 @@
 pub mod LineLaws
 pub mod DoorLaws
 pub mod Fits
-pub mod Unique
