@@ -45,7 +45,7 @@ limited-answered : Answered limited 3 6
 unfolding list-computes
 limited-answered = refl
 
-each-on : (cs : List Candidate) → T (gridPoints (map pierced cs)) → (a : ℕ) → a < length cs
+pub each-on : (cs : List Candidate) → T (gridPoints (map pierced cs)) → (a : ℕ) → a < length cs
     → T (gridPoint (pierced (getD cs a absent)))
 unfolding gridPoints
 each-on [] h a l = absurd (omega arith)

@@ -1,0 +1,321 @@
+-- The searches on a line, computed: a card's distances are worked out from its bytes once, and the search on those.
+-- Assumes nothing.
+use mathlib.Core.Path.{_≡_, refl, sym, ap, _∙_, subst}
+use mathlib.Core.Bool.{Bool, true, false}
+use mathlib.Core.List.{List, [], _∷_}
+use Prim.Native.Nat.{ℕ, zero, suc, _<_}
+use native.Mathlib.Omega.{arith}
+use lib.ListN.{getD}
+use Rattle.points.specs.Numbers.{huge}
+use Rattle.card_laws.specs.Write.{written}
+use Rattle.fields.specs.Layout.{contoursOf, passesOf, moveLimitOf}
+use Rattle.improve.specs.Search.{Chart, State, lengthIn, pass, begun, searched}
+use Rattle.exact.specs.Grid.{gridPoints}
+use Rattle.instance.specs.Search.{candidatesOn, chartOn}
+use Rattle.solve.specs.Solve.{startIn}
+use Rattle.tour.specs.Search.{startOn, endOn, tourOn}
+use Rattle.tour_laws.proofs.Computes.{tour-computes}
+use Rattle.demands.specs.Demand3.{OnGrid}
+use Rattle.witnesses.specs.Examples.{Answered}
+use Rattle.witnesses.specs.Taken.{mm, aligned, bound, free, cut, afterOn, OtherTaken, ReversalTaken, ReversalIllegal}
+use Rattle.witnesses.specs.Taken.{one, two, three, LineAnswered, Elsewhere, Trials, Bound, Passes, CutInside}
+use Rattle.witnesses.specs.Taken.{Claim}
+use Rattle.witnesses.proofs.Examples.{each-on}
+
+-- ---- what the bytes say
+
+-- the distances of the card on a line
+unfoldable line : Chart
+line = record {
+  home = mm 3 ∷ mm 5 ∷ mm 4 ∷ mm 3 ∷ mm 4 ∷ [];
+  table = huge ∷ huge ∷ mm 1 ∷ mm 6 ∷ mm 7
+      ∷ huge ∷ huge ∷ mm 9 ∷ mm 2 ∷ mm 1
+      ∷ mm 1 ∷ mm 9 ∷ huge ∷ huge ∷ mm 8
+      ∷ mm 6 ∷ mm 2 ∷ huge ∷ huge ∷ mm 1
+      ∷ mm 7 ∷ mm 1 ∷ mm 8 ∷ mm 1 ∷ huge ∷ [];
+  t = 5;
+  owner = 0 ∷ 0 ∷ 1 ∷ 1 ∷ 2 ∷ [];
+  first = 0 ∷ 2 ∷ 4 ∷ 5 ∷ [];
+  pairs = 0 ∷ 1 ∷ [];
+}
+
+-- and of the one whose pair binds
+unfoldable dots : Chart
+dots = record {
+  home = mm 1 ∷ mm 3 ∷ mm 2 ∷ [];
+  table = huge ∷ mm 2 ∷ mm 1 ∷ mm 2 ∷ huge ∷ mm 1 ∷ mm 1 ∷ mm 1 ∷ huge ∷ [];
+  t = 3;
+  owner = 0 ∷ 1 ∷ 2 ∷ [];
+  first = 0 ∷ 1 ∷ 2 ∷ 3 ∷ [];
+  pairs = 1 ∷ 2 ∷ [];
+}
+
+record Read (s : List ℕ) (chart : Chart) (limit : ℕ) : Type 0 where
+  distances : chartOn s ≡ chart
+  passes : passesOf s ≡ 10
+  contours : contoursOf s ≡ 3
+  limit-is : moveLimitOf s ≡ limit
+
+free-read : Read free line 0
+unfolding tour-computes line
+free-read = record { distances = refl; passes = refl; contours = refl; limit-is = refl }
+
+cut-read : Read cut line 5
+unfolding tour-computes line
+cut-read = record { distances = refl; passes = refl; contours = refl; limit-is = refl }
+
+bound-read : Read (written bound) dots 0
+unfolding tour-computes dots
+bound-read = record { distances = refl; passes = refl; contours = refl; limit-is = refl }
+
+-- what is computed on these holds of the card
+carried : (s : List ℕ) (chart : Chart) (limit : ℕ) → Read s chart limit → (P : Chart → ℕ → ℕ → ℕ → Type 0)
+    → P chart 10 3 limit → P (chartOn s) (passesOf s) (contoursOf s) (moveLimitOf s)
+carried s chart limit r P w =
+    subst (λ (c : Chart). P c (passesOf s) (contoursOf s) (moveLimitOf s)) (sym (r .distances))
+    (subst (λ (k : ℕ). P chart k (contoursOf s) (moveLimitOf s)) (sym (r .passes))
+    (subst (λ (n : ℕ). P chart 10 n (moveLimitOf s)) (sym (r .contours)) (subst (P chart 10 3) (sym (r .limit-is)) w)))
+
+-- and what holds of two states holds of those that are computed
+both : (P : State → State → Type 0) {v w x y : State} → v ≡ x → w ≡ y → P x y → P v w
+both P {v = v} {y = y} e f h = subst (P v) (sym f) (subst (λ (u : State). P u y) (sym e) h)
+
+-- ---- the start
+
+start-computed : startIn line 3 ≡ 0 ∷ 2 ∷ 4 ∷ []
+unfolding tour-computes line
+start-computed = refl
+
+begun-computed : begun line (startIn line 3) .cost ≡ mm 12
+unfolding tour-computes line
+begun-computed = refl
+
+start-is : startOn free ≡ 0 ∷ 2 ∷ 4 ∷ []
+start-is = carried free line 0 free-read (λ c k n M. startIn c n ≡ 0 ∷ 2 ∷ 4 ∷ []) start-computed
+
+-- ---- the end
+
+-- where a search with a limit ends
+abbrev endIn : Chart → ℕ → ℕ → ℕ → State
+endIn chart most n M = searched chart most M (startIn chart n)
+
+record Ends (chart : Chart) (v : State) (tour : List ℕ) (length moves : ℕ) : Type 0 where
+  tour-is : v .tour ≡ tour
+  tour-long : lengthIn chart (v .tour) ≡ mm length
+  moves-are : v .moves ≡ moves
+
+free-computed : Ends line (endIn line 10 3 0) (1 ∷ 4 ∷ 3 ∷ []) 7 9
+unfolding tour-computes line
+free-computed = record { tour-is = refl; tour-long = refl; moves-are = refl }
+
+cut-computed : Ends line (endIn line 10 3 5) (1 ∷ 3 ∷ 4 ∷ []) 8 5
+unfolding tour-computes line
+cut-computed = record { tour-is = refl; tour-long = refl; moves-are = refl }
+
+end-is : (s : List ℕ) → endIn (chartOn s) (passesOf s) (contoursOf s) (moveLimitOf s) ≡ endOn s
+unfolding endOn
+end-is s = refl
+
+ends : (s : List ℕ) (chart : Chart) (limit : ℕ) → Read s chart limit → (tour : List ℕ) (length moves : ℕ)
+    → Ends chart (endIn chart 10 3 limit) tour length moves → Ends (chartOn s) (endOn s) tour length moves
+ends s chart limit r tour length moves w =
+    subst (λ (v : State). Ends (chartOn s) v tour length moves) (end-is s)
+    (carried s chart limit r (λ c k n M. Ends c (endIn c k n M) tour length moves) w)
+
+free-ends : Ends (chartOn free) (endOn free) (1 ∷ 4 ∷ 3 ∷ []) 7 9
+free-ends = ends free line 0 free-read _ _ _ free-computed
+
+cut-ends : Ends (chartOn cut) (endOn cut) (1 ∷ 3 ∷ 4 ∷ []) 8 5
+cut-ends = ends cut line 5 cut-read _ _ _ cut-computed
+
+differ : startOn free ≡ tourOn free → ⊥
+differ e =
+    let first : _≡_ {A = ℕ} 0 1 = ap (λ (l : List ℕ). getD l 0 0) (sym start-is ∙ e ∙ free-ends .tour-is) in
+    absurd (omega arith)
+
+elsewhere : Elsewhere
+elsewhere = record {
+  start-is = start-is;
+  start-long = carried free line 0 free-read (λ c k n M. begun c (startIn c n) .cost ≡ mm 12) begun-computed;
+  tour-is = free-ends .tour-is;
+  tour-long = free-ends .tour-long;
+  differ = differ;
+}
+
+cut-inside : CutInside
+cut-inside =
+    record { moves-are = cut-ends .moves-are; tour-is = cut-ends .tour-is; tour-long = cut-ends .tour-long }
+
+-- ---- the trials
+
+-- where a search stands after M trials
+abbrev afterIn : Chart → ℕ → ℕ → ℕ → State
+afterIn chart most n zero = begun chart (startIn chart n)
+afterIn chart most n (suc M) = searched chart most (suc M) (startIn chart n)
+
+-- a search that was cut: the tour held, so many millimetres long, and whether the pass has accepted a trial
+abbrev held : List ℕ → ℕ → Bool → ℕ → State
+held tour length better moves = record { tour = tour; cost = mm length; better = better; moves = moves; cut = true }
+
+after1 : afterIn line 10 3 1 ≡ held (0 ∷ 2 ∷ 4 ∷ []) 12 false 1
+unfolding tour-computes line
+after1 = refl
+
+after2 : afterIn line 10 3 2 ≡ held (0 ∷ 3 ∷ 4 ∷ []) 10 true 2
+unfolding tour-computes line
+after2 = refl
+
+after3 : afterIn line 10 3 3 ≡ held (0 ∷ 3 ∷ 4 ∷ []) 10 false 3
+unfolding tour-computes line
+after3 = refl
+
+after4 : afterIn line 10 3 4 ≡ held (1 ∷ 3 ∷ 4 ∷ []) 8 true 4
+unfolding tour-computes line
+after4 = refl
+
+after5 : afterIn line 10 3 5 ≡ held (1 ∷ 3 ∷ 4 ∷ []) 8 true 5
+unfolding tour-computes line
+after5 = refl
+
+after6 : afterIn line 10 3 6 ≡ held (1 ∷ 4 ∷ 3 ∷ []) 7 false 6
+unfolding tour-computes line
+after6 = refl
+
+second-computed : OtherTaken line (held (0 ∷ 2 ∷ 4 ∷ []) 12 false 1) (held (0 ∷ 3 ∷ 4 ∷ []) 10 true 2) 1 3
+unfolding tour-computes line
+second-computed = record { is-shorter = refl; tour-is = refl; cost-is = refl; counted = refl }
+
+fourth-computed : OtherTaken line (held (0 ∷ 3 ∷ 4 ∷ []) 10 false 3) (held (1 ∷ 3 ∷ 4 ∷ []) 8 true 4) 0 1
+unfolding tour-computes line
+fourth-computed = record { is-shorter = refl; tour-is = refl; cost-is = refl; counted = refl }
+
+sixth-computed : ReversalTaken line (held (1 ∷ 3 ∷ 4 ∷ []) 8 true 5) (held (1 ∷ 4 ∷ 3 ∷ []) 7 false 6) 0 2
+unfolding tour-computes line
+sixth-computed = record { is-shorter = refl; is-legal = refl; tour-is = refl; cost-is = refl; counted = refl }
+
+second : OtherTaken (chartOn free) (afterOn free 1) (afterOn free 2) 1 3
+second =
+    carried free line 0 free-read (λ c k n M. OtherTaken c (afterIn c k n 1) (afterIn c k n 2) 1 3)
+    (both (λ v w. OtherTaken line v w 1 3) after1 after2 second-computed)
+
+fourth : OtherTaken (chartOn free) (afterOn free 3) (afterOn free 4) 0 1
+fourth =
+    carried free line 0 free-read (λ c k n M. OtherTaken c (afterIn c k n 3) (afterIn c k n 4) 0 1)
+    (both (λ v w. OtherTaken line v w 0 1) after3 after4 fourth-computed)
+
+sixth : ReversalTaken (chartOn free) (afterOn free 5) (afterOn free 6) 0 2
+sixth =
+    carried free line 0 free-read (λ c k n M. ReversalTaken c (afterIn c k n 5) (afterIn c k n 6) 0 2)
+    (both (λ v w. ReversalTaken line v w 0 2) after5 after6 sixth-computed)
+
+trials : Trials
+trials = record { second = second; fourth = fourth; sixth = sixth }
+
+-- ---- the passes
+
+abbrev oneIn : Chart → ℕ → State
+oneIn chart n = pass chart 0 n (begun chart (startIn chart n))
+
+abbrev twoIn : Chart → ℕ → State
+twoIn chart n = pass chart 0 n (oneIn chart n)
+
+abbrev threeIn : Chart → ℕ → State
+threeIn chart n = pass chart 0 n (twoIn chart n)
+
+-- after a pass: what it comes to, and whether it accepted a trial
+record Made (v : State) (moves : ℕ) (better : Bool) : Type 0 where
+  moves-are : v .moves ≡ moves
+  better-is : v .better ≡ better
+
+one-computed : Made (oneIn line 3) 3 true
+unfolding tour-computes line
+one-computed = record { moves-are = refl; better-is = refl }
+
+two-computed : Made (twoIn line 3) 6 true
+unfolding tour-computes line
+two-computed = record { moves-are = refl; better-is = refl }
+
+three-computed : Made (threeIn line 3) 9 false
+unfolding tour-computes line
+three-computed = record { moves-are = refl; better-is = refl }
+
+one-on : Made one 3 true
+one-on = carried free line 0 free-read (λ c k n M. Made (oneIn c n) 3 true) one-computed
+
+two-on : Made two 6 true
+two-on = carried free line 0 free-read (λ c k n M. Made (twoIn c n) 6 true) two-computed
+
+three-on : Made three 9 false
+three-on = carried free line 0 free-read (λ c k n M. Made (threeIn c n) 9 false) three-computed
+
+passes : Passes
+passes = record {
+  one-made = one-on .moves-are;
+  one-better = one-on .better-is;
+  two-made = two-on .moves-are;
+  two-better = two-on .better-is;
+  three-made = three-on .moves-are;
+  three-better = three-on .better-is;
+  all-made = free-ends .moves-are;
+}
+
+-- ---- the pair that binds
+
+-- the start, of four millimetres; three would do, but for the pair
+abbrev keeping : Bool → ℕ → State
+keeping better moves =
+    record { tour = 0 ∷ 1 ∷ 2 ∷ []; cost = mm 4; better = better; moves = moves; cut = false }
+
+before0 : afterIn dots 10 3 0 ≡ keeping true 0
+unfolding tour-computes dots
+before0 = refl
+
+before1 : afterIn dots 10 3 1 ≡ keeping false 1
+unfolding tour-computes dots
+before1 = refl
+
+first-computed : ReversalIllegal dots (keeping true 0) (keeping false 1) 0 2
+unfolding tour-computes dots
+first-computed = record { is-shorter = refl; is-illegal = refl; tour-is = refl; cost-is = refl; counted = refl }
+
+bound-computed : Ends dots (endIn dots 10 3 0) (0 ∷ 1 ∷ 2 ∷ []) 4 1
+unfolding tour-computes dots
+bound-computed = record { tour-is = refl; tour-long = refl; moves-are = refl }
+
+bound-holds : Bound
+bound-holds = record {
+  first =
+      carried (written bound) dots 0 bound-read
+      (λ c k n M. ReversalIllegal c (afterIn c k n 0) (afterIn c k n 1) 0 2)
+      (both (λ v w. ReversalIllegal dots v w 0 2) before0 before1 first-computed);
+  tour-is = ends (written bound) dots 0 bound-read _ _ _ bound-computed .tour-is;
+}
+
+-- ---- answered with a tour, on the grid
+
+free-answered : Answered (aligned 0) 3 5
+unfolding tour-computes
+free-answered = refl
+
+cut-answered : Answered (aligned 5) 3 5
+unfolding tour-computes
+cut-answered = refl
+
+bound-answered : Answered bound 3 3
+unfolding tour-computes
+bound-answered = refl
+
+free-on-grid : OnGrid free
+unfolding tour-computes gridPoints
+free-on-grid = record { home = tt; candidate = each-on (candidatesOn free) tt }
+
+line-answered : LineAnswered
+line-answered = record {
+  free-answered = free-answered;
+  free-on-grid = free-on-grid;
+  cut-answered = cut-answered;
+  bound-answered = bound-answered;
+}
+
+pub claim : Claim
+claim = (line-answered, elsewhere, trials, bound-holds, passes, cut-inside)
