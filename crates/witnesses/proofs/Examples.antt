@@ -30,7 +30,7 @@ use Rattle.witnesses.specs.Examples.{limited, Answered, AnsweredOnGrid, 
 use Rattle.witnesses.specs.Examples.{Claim}
 
 -- what is computed here is computed through these
-list-computes : Unit {0}
+unfoldable pub list-computes : Unit {0}
 unfolding tour-computes gridPoints listOf tourLines refusalLine headLine stopLines stopLine placeLine nameWords
     wayWord outcomeLines decimalOf decimalIn hexOf
 list-computes = tt

@@ -3,24 +3,35 @@
 use mathlib.Core.Path.{_≡_, refl, sym, ap, _∙_, subst}
 use mathlib.Core.Bool.{Bool, true, false}
 use mathlib.Core.List.{List, [], _∷_}
-use Prim.Native.Nat.{ℕ, zero, suc, _<_}
+use Prim.Native.Nat.{ℕ, zero, suc}
 use native.Mathlib.Omega.{arith}
+use lib.Ieee.{Float}
 use lib.ListN.{getD}
+use Rattle.answer.specs.declared.Check.the-variants.{Fine}
 use Rattle.points.specs.Numbers.{huge}
-use Rattle.card_laws.specs.Write.{written}
 use Rattle.fields.specs.Layout.{contoursOf, passesOf, moveLimitOf}
-use Rattle.improve.specs.Search.{Chart, State, lengthIn, pass, begun, searched}
+use Rattle.card.specs.Verdict.{checkOf}
+use Rattle.card_laws.specs.Write.{written}
+use Rattle.card_laws.proofs.Verdicts.{exactly}
 use Rattle.exact.specs.Grid.{gridPoints}
+use Rattle.improve.specs.Search.{Chart, State, lengthIn, pass, begun, searched}
 use Rattle.instance.specs.Search.{candidatesOn, chartOn}
+use Rattle.solve.specs.declared.Outcome.{Outcome}
 use Rattle.solve.specs.Solve.{startIn}
+use Rattle.tour.specs.declared.Toured.the-variants.{Done}
 use Rattle.tour.specs.Search.{startOn, endOn, tourOn}
+use Rattle.tour.specs.Tour.{tourOf}
 use Rattle.tour_laws.proofs.Computes.{tour-computes}
+use Rattle.text.specs.Text.{bytes}
+use Rattle.list.specs.Lines.{tourLines, listOf}
 use Rattle.demands.specs.Demand3.{OnGrid}
+use Rattle.demands.proofs.AskedLaws.{toured-if, fine-nothing}
 use Rattle.witnesses.specs.Examples.{Answered}
-use Rattle.witnesses.specs.Taken.{mm, aligned, bound, free, cut, afterOn, OtherTaken, ReversalTaken, ReversalIllegal}
-use Rattle.witnesses.specs.Taken.{one, two, three, LineAnswered, Elsewhere, Trials, Bound, Passes, CutInside}
-use Rattle.witnesses.specs.Taken.{Claim}
-use Rattle.witnesses.proofs.Examples.{each-on}
+use Rattle.witnesses.specs.Taken.{mm, aligned, bound, free, capped, afterOn}
+use Rattle.witnesses.specs.Taken.{OtherTaken, ReversalTaken, ReversalIllegal, firstPass, secondPass, thirdPass}
+use Rattle.witnesses.specs.Taken.{LineAnswered, Elsewhere, AcceptedTrials, ForbiddenTrial, Passes, CutInside}
+use Rattle.witnesses.specs.Taken.{LinePrinted, Claim}
+use Rattle.witnesses.proofs.Examples.{list-computes, each-on}
 
 -- ---- what the bytes say
 
@@ -60,9 +71,9 @@ free-read : Read free line 0
 unfolding tour-computes line
 free-read = record { distances = refl; passes = refl; contours = refl; limit-is = refl }
 
-cut-read : Read cut line 5
+capped-read : Read capped line 5
 unfolding tour-computes line
-cut-read = record { distances = refl; passes = refl; contours = refl; limit-is = refl }
+capped-read = record { distances = refl; passes = refl; contours = refl; limit-is = refl }
 
 bound-read : Read (written bound) dots 0
 unfolding tour-computes dots
@@ -108,9 +119,9 @@ free-computed : Ends line (endIn line 10 3 0) (1 ∷ 4 ∷ 3 ∷ []) 7 9
 unfolding tour-computes line
 free-computed = record { tour-is = refl; tour-long = refl; moves-are = refl }
 
-cut-computed : Ends line (endIn line 10 3 5) (1 ∷ 3 ∷ 4 ∷ []) 8 5
+capped-computed : Ends line (endIn line 10 3 5) (1 ∷ 3 ∷ 4 ∷ []) 8 5
 unfolding tour-computes line
-cut-computed = record { tour-is = refl; tour-long = refl; moves-are = refl }
+capped-computed = record { tour-is = refl; tour-long = refl; moves-are = refl }
 
 end-is : (s : List ℕ) → endIn (chartOn s) (passesOf s) (contoursOf s) (moveLimitOf s) ≡ endOn s
 unfolding endOn
@@ -125,8 +136,8 @@ ends s chart limit r tour length moves w =
 free-ends : Ends (chartOn free) (endOn free) (1 ∷ 4 ∷ 3 ∷ []) 7 9
 free-ends = ends free line 0 free-read _ _ _ free-computed
 
-cut-ends : Ends (chartOn cut) (endOn cut) (1 ∷ 3 ∷ 4 ∷ []) 8 5
-cut-ends = ends cut line 5 cut-read _ _ _ cut-computed
+capped-ends : Ends (chartOn capped) (endOn capped) (1 ∷ 3 ∷ 4 ∷ []) 8 5
+capped-ends = ends capped line 5 capped-read _ _ _ capped-computed
 
 differ : startOn free ≡ tourOn free → ⊥
 differ e =
@@ -144,7 +155,7 @@ elsewhere = record {
 
 cut-inside : CutInside
 cut-inside =
-    record { moves-are = cut-ends .moves-are; tour-is = cut-ends .tour-is; tour-long = cut-ends .tour-long }
+    record { moves-are = capped-ends .moves-are; tour-is = capped-ends .tour-is; tour-long = capped-ends .tour-long }
 
 -- ---- the trials
 
@@ -208,54 +219,53 @@ sixth =
     carried free line 0 free-read (λ c k n M. ReversalTaken c (afterIn c k n 5) (afterIn c k n 6) 0 2)
     (both (λ v w. ReversalTaken line v w 0 2) after5 after6 sixth-computed)
 
-trials : Trials
+trials : AcceptedTrials
 trials = record { second = second; fourth = fourth; sixth = sixth }
 
 -- ---- the passes
 
-abbrev oneIn : Chart → ℕ → State
-oneIn chart n = pass chart 0 n (begun chart (startIn chart n))
+abbrev firstIn : Chart → ℕ → State
+firstIn chart n = pass chart 0 n (begun chart (startIn chart n))
 
-abbrev twoIn : Chart → ℕ → State
-twoIn chart n = pass chart 0 n (oneIn chart n)
+abbrev secondIn : Chart → ℕ → State
+secondIn chart n = pass chart 0 n (firstIn chart n)
 
-abbrev threeIn : Chart → ℕ → State
-threeIn chart n = pass chart 0 n (twoIn chart n)
+abbrev thirdIn : Chart → ℕ → State
+thirdIn chart n = pass chart 0 n (secondIn chart n)
 
--- after a pass: what it comes to, and whether it accepted a trial
 record Made (v : State) (moves : ℕ) (better : Bool) : Type 0 where
   moves-are : v .moves ≡ moves
   better-is : v .better ≡ better
 
-one-computed : Made (oneIn line 3) 3 true
+first-pass-computed : Made (firstIn line 3) 3 true
 unfolding tour-computes line
-one-computed = record { moves-are = refl; better-is = refl }
+first-pass-computed = record { moves-are = refl; better-is = refl }
 
-two-computed : Made (twoIn line 3) 6 true
+second-pass-computed : Made (secondIn line 3) 6 true
 unfolding tour-computes line
-two-computed = record { moves-are = refl; better-is = refl }
+second-pass-computed = record { moves-are = refl; better-is = refl }
 
-three-computed : Made (threeIn line 3) 9 false
+third-pass-computed : Made (thirdIn line 3) 9 false
 unfolding tour-computes line
-three-computed = record { moves-are = refl; better-is = refl }
+third-pass-computed = record { moves-are = refl; better-is = refl }
 
-one-on : Made one 3 true
-one-on = carried free line 0 free-read (λ c k n M. Made (oneIn c n) 3 true) one-computed
+first-pass : Made firstPass 3 true
+first-pass = carried free line 0 free-read (λ c k n M. Made (firstIn c n) 3 true) first-pass-computed
 
-two-on : Made two 6 true
-two-on = carried free line 0 free-read (λ c k n M. Made (twoIn c n) 6 true) two-computed
+second-pass : Made secondPass 6 true
+second-pass = carried free line 0 free-read (λ c k n M. Made (secondIn c n) 6 true) second-pass-computed
 
-three-on : Made three 9 false
-three-on = carried free line 0 free-read (λ c k n M. Made (threeIn c n) 9 false) three-computed
+third-pass : Made thirdPass 9 false
+third-pass = carried free line 0 free-read (λ c k n M. Made (thirdIn c n) 9 false) third-pass-computed
 
 passes : Passes
 passes = record {
-  one-made = one-on .moves-are;
-  one-better = one-on .better-is;
-  two-made = two-on .moves-are;
-  two-better = two-on .better-is;
-  three-made = three-on .moves-are;
-  three-better = three-on .better-is;
+  first-made = first-pass .moves-are;
+  first-accepts = first-pass .better-is;
+  second-made = second-pass .moves-are;
+  second-accepts = second-pass .better-is;
+  third-made = third-pass .moves-are;
+  third-idle = third-pass .better-is;
   all-made = free-ends .moves-are;
 }
 
@@ -274,20 +284,20 @@ before1 : afterIn dots 10 3 1 ≡ keeping false 1
 unfolding tour-computes dots
 before1 = refl
 
-first-computed : ReversalIllegal dots (keeping true 0) (keeping false 1) 0 2
+only-computed : ReversalIllegal dots (keeping true 0) (keeping false 1) 0 2
 unfolding tour-computes dots
-first-computed = record { is-shorter = refl; is-illegal = refl; tour-is = refl; cost-is = refl; counted = refl }
+only-computed = record { is-shorter = refl; is-illegal = refl; tour-is = refl; cost-is = refl; counted = refl }
 
 bound-computed : Ends dots (endIn dots 10 3 0) (0 ∷ 1 ∷ 2 ∷ []) 4 1
 unfolding tour-computes dots
 bound-computed = record { tour-is = refl; tour-long = refl; moves-are = refl }
 
-bound-holds : Bound
-bound-holds = record {
-  first =
+forbidden : ForbiddenTrial
+forbidden = record {
+  only =
       carried (written bound) dots 0 bound-read
       (λ c k n M. ReversalIllegal c (afterIn c k n 0) (afterIn c k n 1) 0 2)
-      (both (λ v w. ReversalIllegal dots v w 0 2) before0 before1 first-computed);
+      (both (λ v w. ReversalIllegal dots v w 0 2) before0 before1 only-computed);
   tour-is = ends (written bound) dots 0 bound-read _ _ _ bound-computed .tour-is;
 }
 
@@ -297,9 +307,9 @@ free-answered : Answered (aligned 0) 3 5
 unfolding tour-computes
 free-answered = refl
 
-cut-answered : Answered (aligned 5) 3 5
+capped-answered : Answered (aligned 5) 3 5
 unfolding tour-computes
-cut-answered = refl
+capped-answered = refl
 
 bound-answered : Answered bound 3 3
 unfolding tour-computes
@@ -313,9 +323,37 @@ line-answered : LineAnswered
 line-answered = record {
   free-answered = free-answered;
   free-on-grid = free-on-grid;
-  cut-answered = cut-answered;
+  capped-answered = capped-answered;
   bound-answered = bound-answered;
 }
 
+-- ---- printed
+
+-- an answered card is fine
+fine-of : (s room : List ℕ) (table : List Float) (told : Outcome) → tourOf s room table .answer ≡ Done told
+    → checkOf s ≡ Fine
+fine-of s room table told h = exactly s .fine-if (fine-nothing s room table (toured-if s room table told h) .sound)
+
+printed-by : (s tour : List ℕ) (length moves : ℕ) → checkOf s ≡ Fine → Ends (chartOn s) (endOn s) tour length moves
+    → tourLines s tour (record { moves = moves; length = mm length }) ≡ listOf s
+unfolding listOf
+printed-by s tour length moves fine e = rw (fine, e .tour-long, e .tour-is, e .moves-are) refl
+
+free-lines : tourLines free (1 ∷ 4 ∷ 3 ∷ []) (record { moves = 9; length = mm 7 })
+    ≡ bytes "JOB 43 CONTOURS 3\n5 50 1 ccw\n7 70 0 ccw\n6 60 1 ccw\nMOVES 9\nRAPID 401c000000000000\n"
+unfolding list-computes
+free-lines = refl
+
+capped-lines : tourLines capped (1 ∷ 3 ∷ 4 ∷ []) (record { moves = 5; length = mm 8 })
+    ≡ bytes "JOB 43 CONTOURS 3\n5 50 1 ccw\n6 60 1 ccw\n7 70 0 ccw\nMOVES 5\nRAPID 4020000000000000\n"
+unfolding list-computes
+capped-lines = refl
+
+printed : LinePrinted
+printed = record {
+  free-printed = sym (printed-by free _ 7 9 (fine-of free _ _ _ free-answered) free-ends) ∙ free-lines;
+  capped-printed = sym (printed-by capped _ 8 5 (fine-of capped _ _ _ capped-answered) capped-ends) ∙ capped-lines;
+}
+
 pub claim : Claim
-claim = (line-answered, elsewhere, trials, bound-holds, passes, cut-inside)
+claim = (line-answered, elsewhere, trials, forbidden, passes, cut-inside, printed)
