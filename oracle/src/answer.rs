@@ -135,6 +135,15 @@ fn job_41() {
     assert_eq!(printed(&crate::generate::job_41().bytes()), list);
 }
 
+/// The lists that crates/witnesses proves of the card on a line: without a limit, and cut inside the second pass.
+#[test]
+fn aligned() {
+    let list = |limit| printed(&crate::generate::aligned(limit).bytes());
+    let head = "JOB 43 CONTOURS 3\n5 50 1 ccw\n";
+    assert_eq!(list(0), format!("{head}7 70 0 ccw\n6 60 1 ccw\nMOVES 9\nRAPID 401c000000000000\n"));
+    assert_eq!(list(5), format!("{head}6 60 1 ccw\n7 70 0 ccw\nMOVES 5\nRAPID 4020000000000000\n"));
+}
+
 /// Every good card of the generator is good by the second reading, and reads back as it was written.
 #[test]
 fn good_cards_read_back() {

@@ -16,6 +16,27 @@ pub fn job_41() -> Card {
     card
 }
 
+/// The card of crates/witnesses whose search accepts candidates and a reversal, also in its second pass: two slits and a dot
+/// on a line.
+pub fn aligned(limit: u32) -> Card {
+    let on = |x| (x, 0.0);
+    let one = |id, vertices| Contour { id, tag: 10 * id, interior: false, vertices };
+    let contours = vec![one(5, vec![on(2.0), on(10.0)]), one(6, vec![on(1.0), on(8.0)]), one(7, vec![on(9.0)])];
+    let mut card = Card {
+        job: 43,
+        c: 2,
+        passes: 10,
+        limit,
+        home: on(5.0),
+        exterior: AUTO,
+        interior: AUTO,
+        contours,
+        ..Card::default()
+    };
+    card.pairs.push(card.pair(0, 1));
+    card
+}
+
 /// Good cards of every shape.
 pub fn good(r: &Random) -> Card {
     let n = match r.below(10) {
