@@ -1,23 +1,22 @@
--- A card's head and a contour, walked in file order, are what `card` reads of them. Assumes nothing.
-use mathlib.Core.Path.{_≡_, refl, sym, ap, _∙_}
+-- A card's head, a contour and a pair, walked in file order, are what `fields` reads of them. Assumes nothing.
+use mathlib.Core.Path.{_≡_, refl, ap, _∙_}
 use mathlib.Core.List.{List}
 use Prim.Native.Nat.{ℕ, zero, suc, _+_, _*_, min}
-use native.Mathlib.Nat.{add-zero}
 use native.Mathlib.Omega.{arith}
 use lib.ListN.{length}
-use Rattle.block.specs.Field.{byteAt, u16At, u32At, u64At}
-use Rattle.block.proofs.Readings.{cut-byte, cut-u16, cut-u32}
+use Rattle.block.specs.Field.{u64At}
 use Rattle.fields.specs.Limits.{vertexLimit}
-use Rattle.fields.specs.Layout.{payload, idOf, tagOf, vertexCountOf, typeOf, fillerOf, vertexOffset}
+use Rattle.fields.specs.Layout.{payload, vertexCountOf, vertexOffset, pairOffset}
 use Rattle.reader.specs.declared.Width.the-variants.{One, Two, Four, Eight}
 use Rattle.reader.specs.declared.Field.{Field}
 use Rattle.reader.specs.declared.Head.{Head}
 use Rattle.reader.specs.declared.ContourHead.{ContourHead}
 use Rattle.reader.specs.declared.Contour.{Contour}
+use Rattle.reader.specs.declared.Pair.{Pair}
 use Rattle.reader.specs.Fields.{fieldAt}
 use Rattle.reader.specs.Walk.{walk, eights}
-use Rattle.reader.specs.OnCard.{headOf, contourHead, coordinatesFrom, filled, contourRead}
-use Rattle.reader.proofs.WalkLaws.{cut-value, read-at, read-on}
+use Rattle.reader.specs.OnCard.{headOf, contourHead, coordinatesFrom, filled, contourRead, pairRead}
+use Rattle.reader.proofs.WalkLaws.{cut-value, read-at, read-cut, read-on}
 
 -- ---- the head
 
@@ -59,8 +58,7 @@ module _ (s : List ℕ) (job contours pairs candidates passes moves x y exterior
         r₄ .value-is,
         r₅ .value-is,
         r₆ .value-is,
-        r₇
-            .value-is,
+        r₇ .value-is,
         r₈ .value-is,
         r₉ .value-is,
       )
@@ -82,10 +80,10 @@ vertices-walked s k j (suc v) place cut =
     let on = vertices-walked s k (suc j) v (min (mid + 8) (length s)) (omega arith) in
     rw (two, x, y, on)
 
--- the five fields before the vertices, one after the other
-module _ (s : List ℕ) (at : ℕ) (id tag vertices kind filler : Field) where
-  pub contour-head-is : id ≡ fieldAt s at Four → tag ≡ fieldAt s (id .after) Four
-      → vertices ≡ fieldAt s (tag .after) Two
+-- the five fields before the vertices, one after the other, from where the payload was cut off at the end
+module _ (s : List ℕ) (k place : ℕ) (id tag vertices kind filler : Field) where
+  pub contour-head-is : place ≡ min (payload (k + 1) + 0) (length s) → id ≡ fieldAt s place Four
+      → tag ≡ fieldAt s (id .after) Four → vertices ≡ fieldAt s (tag .after) Two
       → kind ≡ fieldAt s (vertices .after) One → filler ≡ fieldAt s (kind .after) One
       → _≡_ {A = ContourHead} (record {
         id = id .value;
@@ -94,21 +92,21 @@ module _ (s : List ℕ) (at : ℕ) (id tag vertices kind filler : Field) where
         kind = kind .value;
         filler = filler .value;
         after = filler .after;
-      }) (contourHead s at)
+      }) (contourHead s k)
   unfolding contourHead
-  contour-head-is e₀ e₁ e₂ e₃ e₄ =
-      let r₀ = read-at s at Four id e₀ in
-      let r₁ = read-on s at (at + 4) Four Four id tag refl r₀ e₁ in
-      let r₂ = read-on s (at + 4) (at + 8) Four Two tag vertices (omega arith) r₁ e₂ in
-      let r₃ = read-on s (at + 8) (at + 10) Two One vertices kind (omega arith) r₂ e₃ in
-      let r₄ = read-on s (at + 10) (at + 11) One One kind filler (omega arith) r₃ e₄ in
-      let after : filler .after ≡ min (at + 12) (length s) = r₄ .after-is ∙ omega arith in
+  contour-head-is cut e₀ e₁ e₂ e₃ e₄ =
+      let p = payload (k + 1) in
+      let r₀ = read-cut s (p + 0) place Four id cut e₀ in
+      let r₁ = read-on s (p + 0) (p + 4) Four Four id tag (omega arith) r₀ e₁ in
+      let r₂ = read-on s (p + 4) (p + 8) Four Two tag vertices (omega arith) r₁ e₂ in
+      let r₃ = read-on s (p + 8) (p + 10) Two One vertices kind (omega arith) r₂ e₃ in
+      let r₄ = read-on s (p + 10) (p + 11) One One kind filler (omega arith) r₃ e₄ in
+      let after : filler .after ≡ min (vertexOffset k 0) (length s) = r₄ .after-is ∙ omega arith in
       rw (r₀ .value-is, r₁ .value-is, r₂ .value-is, r₃ .value-is, r₄ .value-is, after)
 
--- a contour, read from where its payload was cut off at the end
-module _ (s : List ℕ) (k place count : ℕ) (head : ContourHead) (coordinates : List ℕ) where
-  pub contour-is : place ≡ min (payload (k + 1)) (length s) → head ≡ contourHead s place
-      → count ≡ 2 * min (head .vertices) vertexLimit
+-- a contour: its fields before the vertices, then the vertices
+module _ (s : List ℕ) (k count : ℕ) (head : ContourHead) (coordinates : List ℕ) where
+  pub contour-is : head ≡ contourHead s k → count ≡ 2 * min (head .vertices) vertexLimit
       → coordinates ≡ filled (walk s (head .after) (eights count))
       → _≡_ {A = Contour} (record {
         id = head .id;
@@ -119,22 +117,29 @@ module _ (s : List ℕ) (k place count : ℕ) (head : ContourHead) (coordinates 
         coordinates = coordinates;
       }) (contourRead s k)
   unfolding contourRead contourHead
-  contour-is cut e n f =
-      let p = payload (k + 1) in
-      let id : head .id ≡ idOf s k =
-      ap (λ (h : ContourHead). h .id) e ∙ ap (u32At s) cut ∙ cut-value s p Four ∙ ap (u32At s) (sym (add-zero p)) in
-      let tag : head .tag ≡ tagOf s k =
-      ap (λ (h : ContourHead). h .tag) e ∙ ap (λ (a : ℕ). u32At s (a + 4)) cut ∙ cut-u32 s p 4 in
-      let vertices : head .vertices ≡ vertexCountOf s k =
-      ap (λ (h : ContourHead). h .vertices) e ∙ ap (λ (a : ℕ). u16At s (a + 8)) cut ∙ cut-u16 s p 8 in
-      let kind : head .kind ≡ typeOf s k =
-      ap (λ (h : ContourHead). h .kind) e ∙ ap (λ (a : ℕ). byteAt s (a + 10)) cut ∙ cut-byte s p 10 in
-      let filler : head .filler ≡ fillerOf s k =
-      ap (λ (h : ContourHead). h .filler) e ∙ ap (λ (a : ℕ). byteAt s (a + 11)) cut ∙ cut-byte s p 11 in
-      let after : head .after ≡ min (vertexOffset k 0) (length s) =
-      ap (λ (h : ContourHead). h .after) e ∙ omega arith in
+  contour-is e n f =
       let v = min (vertexCountOf s k) vertexLimit in
       let all : coordinates ≡ filled (coordinatesFrom s k 0 v) =
-      f ∙ ap (λ (c : ℕ). filled (walk s (head .after) (eights c))) (n ∙ ap (λ (c : ℕ). 2 * min c vertexLimit) vertices)
-      ∙ ap filled (vertices-walked s k 0 v (head .after) after) in
-      rw (id, tag, vertices, kind, filler, all)
+      f ∙ rw (n, e) (ap filled (vertices-walked s k 0 v (min (vertexOffset k 0) (length s)) refl)) in
+      rw (e, all)
+
+-- ---- a pair
+
+module _ (s : List ℕ) (q place : ℕ) (before-id before-tag after-id after-tag : Field) where
+  pub pair-is : place ≡ min (pairOffset s q) (length s) → before-id ≡ fieldAt s place Four
+      → before-tag ≡ fieldAt s (before-id .after) Four → after-id ≡ fieldAt s (before-tag .after) Four
+      → after-tag ≡ fieldAt s (after-id .after) Four
+      → _≡_ {A = Pair} (record {
+        «before_id» = before-id .value;
+        «before_tag» = before-tag .value;
+        «after_id» = after-id .value;
+        «after_tag» = after-tag .value;
+      }) (pairRead s q)
+  unfolding pairRead
+  pair-is cut e₀ e₁ e₂ e₃ =
+      let p = pairOffset s q in
+      let r₀ = read-cut s (p + 0) place Four before-id (cut ∙ omega arith) e₀ in
+      let r₁ = read-on s (p + 0) (p + 4) Four Four before-id before-tag (omega arith) r₀ e₁ in
+      let r₂ = read-on s (p + 4) (p + 8) Four Four before-tag after-id (omega arith) r₁ e₂ in
+      let r₃ = read-on s (p + 8) (p + 12) Four Four after-id after-tag (omega arith) r₂ e₃ in
+      rw (r₀ .value-is, r₁ .value-is, r₂ .value-is, r₃ .value-is)

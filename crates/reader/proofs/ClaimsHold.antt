@@ -1,51 +1,60 @@
 -- The claims hold: a walk in file order gives what `card` reads. Assumes nothing.
-use mathlib.Core.Path.{_≡_, refl, ap, _∙_}
+use mathlib.Core.Path.{_≡_, refl, sym, ap, _∙_}
 use mathlib.Core.List.{_∷_}
-use Prim.Native.Nat.{_+_, _*_, min}
+use Prim.Native.Nat.{ℕ, _+_, _*_, min}
 use native.Mathlib.Nat.{add-zero}
 use native.Mathlib.Omega.{arith}
 use lib.ListN.{length}
 use Rattle.block.specs.Field.{f64At}
-use Rattle.fields.specs.Layout.{payload, vertexOffset}
+use Rattle.fields.specs.Layout.{payload, vertexOffset, pairOffset}
 use Rattle.fields.specs.Values.{pointAt}
 use Rattle.reader.specs.declared.Width.the-variants.{One, Two, Four, Eight}
 use Rattle.reader.specs.declared.ContourHead.{ContourHead}
 use Rattle.reader.specs.Fields.{fieldAt}
 use Rattle.reader.specs.Walk.{walk, eights}
-use Rattle.reader.specs.OnCard.{headList, contourHead}
-use Rattle.reader.specs.Claims.{HeadInOrder, ContourInOrder, PointOfBits}
-use Rattle.reader.proofs.CardLaws.{head-is, contour-head-is, vertices-walked}
+use Rattle.reader.specs.OnCard.{headOf, contourWidths, pairRead, pairWidths}
+use Rattle.reader.specs.Claims.{HeadInOrder, ContourInOrder, PairInOrder, PointOfBits}
+use Rattle.reader.proofs.WalkLaws.{walk-cut, walk-on, walk-last}
+use Rattle.reader.proofs.CardLaws.{vertices-walked}
 
 pub head-in-order : HeadInOrder
-unfolding walk
+unfolding headOf
 head-in-order s =
-    let job = fieldAt s 8 Four in
-    let contours = fieldAt s (job .after) Two in
-    let pairs = fieldAt s (contours .after) Two in
-    let candidates = fieldAt s (pairs .after) Two in
-    let passes = fieldAt s (candidates .after) Two in
-    let moves = fieldAt s (passes .after) Four in
-    let x = fieldAt s (moves .after) Eight in
-    let y = fieldAt s (x .after) Eight in
-    let exterior = fieldAt s (y .after) One in
-    let interior = fieldAt s (exterior .after) One in
-    ap headList (head-is s job contours pairs candidates passes moves x y exterior interior refl refl refl refl refl
-    refl refl refl refl refl)
+    let p = payload 0 in
+    rw (
+      walk-on s p 0 Four _,
+      walk-on s p 4 Two _,
+      walk-on s p 6 Two _,
+      walk-on s p 8 Two _,
+      walk-on s p 10 Two _,
+      walk-on s p 12 Four _,
+      walk-on s p 16 Eight _,
+      walk-on s p 24 Eight _,
+      walk-on s p 32 One _,
+      walk-last s (p + 33) One,
+    )
 
 pub contour-in-order : ContourInOrder
-unfolding walk contourHead
 contour-in-order s k v =
-    let id = fieldAt s (payload (k + 1)) Four in
-    let tag = fieldAt s (id .after) Four in
-    let vertices = fieldAt s (tag .after) Two in
-    let kind = fieldAt s (vertices .after) One in
-    let filler = fieldAt s (kind .after) One in
     let p = payload (k + 1) in
-    let after : min (p + 12) (length s) ≡ min (vertexOffset k 0) (length s) = omega arith in
-    let head = contour-head-is s p id tag vertices kind filler refl refl refl refl refl in
-    ap (λ (h : ContourHead). h .id ∷ h .tag ∷ h .vertices ∷ h .kind ∷ h .filler ∷ walk s (h .after) (eights (2 * v)))
-    head
-    ∙ rw (vertices-walked s k 0 v (min (p + 12) (length s)) after, add-zero p)
+    let after : p + 12 ≡ vertexOffset k 0 = omega arith in
+    ap (λ (x : ℕ). walk s x (contourWidths v)) (sym (add-zero p))
+    ∙ rw (
+      walk-on s p 0 Four _,
+      walk-on s p 4 Four _,
+      walk-on s p 8 Two _,
+      walk-on s p 10 One _,
+      walk-on s p 11 One _,
+      ← walk-cut s (p + 12) (eights (2 * v)),
+      vertices-walked s k 0 v (min (p + 12) (length s)) (omega arith),
+    )
+
+pub pair-in-order : PairInOrder
+unfolding pairRead
+pair-in-order s q =
+    let p = pairOffset s q in
+    ap (λ (x : ℕ). walk s x pairWidths) (sym (add-zero p))
+    ∙ rw (walk-on s p 0 Four _, walk-on s p 4 Four _, walk-on s p 8 Four _, walk-last s (p + 12) Four)
 
 pub point-of-bits : PointOfBits
 unfolding pointAt f64At

@@ -1,6 +1,6 @@
--- What a walk that holds a reader needs of its calls of `new`, `moved` and `next`: what each is passed, that what is
--- owned gives what it asks, and what is known of its answer. A reader, a number and a width can be copied, so that each
--- call is passed a copy; numbers and widths own facts alone, which are made anew. Assumes nothing.
+-- What a walk that makes a reader needs of its calls of `new`, `moved` and `next`: what each is passed, that what is
+-- owned gives what it asks, and what is known of its answer. A slice can be copied, so that `new` is passed a copy;
+-- numbers and widths own facts alone, which are made anew. Assumes nothing.
 use mathlib.Core.Path.{_≡_, refl, ap, _∙_}
 use Prim.Native.Nat.{ℕ, _<_, _^_}
 use mathlib.Core.List.{List, [], _∷_}
@@ -25,20 +25,16 @@ use denote.Signature.{namedLft}
 use denote.Slice.{sliceVal, ShrSlice, shr-slice-copy}
 use denote.Steps.{owned, nothing}
 use denote.Enum.Laws as EL
-use denote.Struct.Laws as LL
 use denote.Triple.Statement.{Contract}
 use denote.Triple.Spec.{tripleOf}
 use denote.Triple.Clauses.{ensured, lasts}
 use Rattle.reader.specs.declared.Reader.{Reader}
 use Rattle.reader.specs.declared.Width.{Width}
-use Rattle.reader.specs.declared.Width.the-variants.{One, Two, Four, Eight}
 use Rattle.reader.specs.declared.Field.{Field}
 use Rattle.reader.specs.Fields.{fieldAt}
 use Rattle.reader.proofs.Reader as T
 use Rattle.reader.proofs.Width as Wd
 use Rattle.reader.proofs.Width.Laws as Wd′
-use Rattle.reader.proofs.Field as F
-use Rattle.reader.proofs.Field.Laws as F′
 use Rattle.reader.proofs.new as new
 use Rattle.reader.proofs.moved as moved
 use Rattle.reader.proofs.next as next
@@ -51,19 +47,6 @@ width-vals w = Wd′.lowered w ∷ []
 
 abbrev pub IsWidth : Width → Type 0
 IsWidth w = Is Wd.the-row w (width-vals w)
-
-pub is-width : (w : Width) → IsWidth w
-is-width One = EL.owes Wd.the-type Wd′.the-laws One tt
-is-width Two = EL.owes Wd.the-type Wd′.the-laws Two tt
-is-width Four = EL.owes Wd.the-type Wd′.the-laws Four tt
-is-width Eight = EL.owes Wd.the-type Wd′.the-laws Eight tt
-
--- a field's two numbers fit
-pub value-fits : (f : Field) (vs : List Val) → Is F.the-row f vs → f .value < 2 ^ 64
-value-fits f vs is = LL.owed F.the-type F′.the-laws f vs is .0 .1
-
-pub after-fits : (f : Field) (vs : List Val) → Is F.the-row f vs → f .after < 2 ^ 64
-after-fits f vs is = LL.owed F.the-type F′.the-laws f vs is .1 .0 .1
 
 -- ---- types
 

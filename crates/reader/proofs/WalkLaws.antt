@@ -53,6 +53,26 @@ read-on s a b w v f g at h e = read-cut s b (f .after) v g (h .after-is ∙ ap (
 
 -- ---- a walk
 
+-- from a place that was cut off at the end it finds what it finds from the place itself
+pub walk-cut : (s : List ℕ) (at : ℕ) (ws : List Width) → walk s (min at (length s)) ws ≡ walk s at ws
+unfolding walk
+walk-cut s at [] = refl
+walk-cut s at (w ∷ ws) =
+    let after : min (min at (length s) + bytesOf w) (length s) ≡ min (at + bytesOf w) (length s) = omega arith in
+    rw (cut-value s at w, after)
+
+-- the field at offset a from p, then the rest
+pub walk-on : (s : List ℕ) (p a : ℕ) (w : Width) (ws : List Width)
+    → walk s (p + a) (w ∷ ws) ≡ valueAt s (p + a) w ∷ walk s (p + (a + bytesOf w)) ws
+unfolding walk
+walk-on s p a w ws =
+    let on : p + a + bytesOf w ≡ p + (a + bytesOf w) = omega arith in
+    ap (_∷_ (valueAt s (p + a) w)) (walk-cut s (p + a + bytesOf w) ws ∙ ap (λ (x : ℕ). walk s x ws) on)
+
+pub walk-last : (s : List ℕ) (at : ℕ) (w : Width) → walk s at (w ∷ []) ≡ valueAt s at w ∷ []
+unfolding walk
+walk-last s at w = refl
+
 pub walk-length : (s : List ℕ) (at : ℕ) (ws : List Width) → length (walk s at ws) ≡ length ws
 unfolding walk
 walk-length s at [] = refl

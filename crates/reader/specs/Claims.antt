@@ -5,10 +5,12 @@ use Prim.Native.Nat.{ℕ, _+_}
 use lib.Ieee.{binary64, ofBits}
 use Rattle.answer.specs.declared.Point.{Point}
 use Rattle.block.specs.Field.{u64At}
-use Rattle.fields.specs.Layout.{payload, idOf, tagOf, vertexCountOf, typeOf, fillerOf}
+use Rattle.fields.specs.Layout.{payload, idOf, tagOf, vertexCountOf, typeOf, fillerOf, pairOffset}
 use Rattle.fields.specs.Values.{pointAt}
 use Rattle.reader.specs.Walk.{walk}
-use Rattle.reader.specs.OnCard.{headOf, headWidths, headList, coordinatesFrom, contourWidths}
+use Rattle.reader.specs.OnCard.{headOf, headWidths, headList, coordinatesFrom, contourWidths, pairRead}
+use Rattle.reader.specs.OnCard.{pairWidths}
+use Rattle.reader.specs.FileOrder.{cardStretches, walkAll, Forward, pairList, cardRead}
 
 -- the head
 abbrev pub HeadInOrder : Type 0
@@ -19,6 +21,18 @@ abbrev pub ContourInOrder : Type 0
 ContourInOrder = (s : List ℕ) (k v : ℕ)
     → walk s (payload (k + 1)) (contourWidths v) ≡ idOf s k ∷ tagOf s k ∷ vertexCountOf s k ∷ typeOf s k
     ∷ fillerOf s k ∷ coordinatesFrom s k 0 v
+
+-- a pair
+abbrev pub PairInOrder : Type 0
+PairInOrder = (s : List ℕ) (q : ℕ) → walk s (pairOffset s q) pairWidths ≡ pairList (pairRead s q)
+
+-- a whole card: what the reader answers of its head, of each contour and of each pair is one walk over the card
+abbrev pub CardInOrder : Type 0
+CardInOrder = (s : List ℕ) → walkAll s (cardStretches s) ≡ cardRead s
+
+-- and that walk goes on to the end of the file and never back
+abbrev pub CardForward : Type 0
+CardForward = (s : List ℕ) → Forward 0 (cardStretches s)
 
 -- a point, home or a vertex, is the two numbers whose bits are walked
 abbrev pub PointOfBits : Type 0

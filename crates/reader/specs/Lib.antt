@@ -1,4 +1,5 @@
 pub mod Fields
 pub mod Walk
 pub mod OnCard
+pub mod FileOrder
 pub mod Claims

@@ -1,17 +1,19 @@
--- A card's head and a contour, field by field as `fields` reads them, and the widths of their fields in file order.
--- Assumes nothing.
+-- A card's head, a contour and a pair, field by field as `fields` reads them, and the widths of their fields in file
+-- order. Assumes nothing.
 use mathlib.Core.List.{List, [], _∷_, _++_}
 use Prim.Native.Nat.{ℕ, zero, suc, _+_, _*_, _-_, min}
 use lib.ListN.{length, replicate}
-use Rattle.block.specs.Field.{byteAt, u16At, u32At, u64At}
+use Rattle.block.specs.Field.{u64At}
 use Rattle.fields.specs.Limits.{vertexLimit}
 use Rattle.fields.specs.Layout.{jobOf, contoursOf, pairsOf, perContourOf, passesOf, moveLimitOf, homeOffset, exteriorOf}
 use Rattle.fields.specs.Layout.{interiorOf, idOf, tagOf, vertexCountOf, typeOf, fillerOf, vertexOffset}
+use Rattle.fields.specs.Layout.{beforeIdOf, beforeTagOf, afterIdOf, afterTagOf}
 use Rattle.reader.specs.declared.Width.{Width}
 use Rattle.reader.specs.declared.Width.the-variants.{One, Two, Four, Eight}
 use Rattle.reader.specs.declared.Head.{Head}
 use Rattle.reader.specs.declared.ContourHead.{ContourHead}
 use Rattle.reader.specs.declared.Contour.{Contour}
+use Rattle.reader.specs.declared.Pair.{Pair}
 use Rattle.reader.specs.Walk.{eights}
 
 -- ---- the head
@@ -42,15 +44,15 @@ headList h =
 
 -- ---- a contour
 
--- the five fields that stand before the vertices, from a place on, and the place after them
+-- the five fields of contour k that stand before its vertices, and the place after them
 unfoldable pub contourHead : List ℕ → ℕ → ContourHead
-contourHead s at = record {
-  id = u32At s at;
-  tag = u32At s (at + 4);
-  vertices = u16At s (at + 8);
-  kind = byteAt s (at + 10);
-  filler = byteAt s (at + 11);
-  after = min (at + 12) (length s);
+contourHead s k = record {
+  id = idOf s k;
+  tag = tagOf s k;
+  vertices = vertexCountOf s k;
+  kind = typeOf s k;
+  filler = fillerOf s k;
+  after = min (vertexOffset k 0) (length s);
 }
 
 -- the coordinates of so many vertices of contour k, from vertex j on
@@ -78,3 +80,17 @@ contourRead s k = record {
 -- the five fields, then two coordinates a vertex
 abbrev pub contourWidths : ℕ → List Width
 contourWidths v = Four ∷ Four ∷ Two ∷ One ∷ One ∷ eights (2 * v)
+
+-- ---- a pair
+
+-- pair q as it is read
+unfoldable pub pairRead : List ℕ → ℕ → Pair
+pairRead s q = record {
+  «before_id» = beforeIdOf s q;
+  «before_tag» = beforeTagOf s q;
+  «after_id» = afterIdOf s q;
+  «after_tag» = afterTagOf s q;
+}
+
+abbrev pub pairWidths : List Width
+pairWidths = Four ∷ Four ∷ Four ∷ Four ∷ []

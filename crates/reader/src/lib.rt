@@ -5,11 +5,11 @@ ghost use mathlib.Core.Path.{_≡_};
 ghost use Prim.Native.Nat.{_+_, _*_, _-_, _≤_, min};
 ghost use lib.ListN.{length};
 ghost use Rattle.fields.specs.Limits.{vertexLimit};
-ghost use Rattle.fields.specs.Layout.{payload};
+ghost use Rattle.fields.specs.Layout.{pairOffset};
 ghost use Rattle.reader.specs.Fields.{fieldAt};
 ghost use Rattle.reader.specs.Walk.{walk, eights};
-ghost use Rattle.reader.specs.OnCard.{filled, headOf, contourHead, contourRead};
-use block::BLOCK;
+ghost use Rattle.reader.specs.OnCard.{filled, headOf, contourHead, contourRead, pairRead};
+use fields::PAIRS_A_BLOCK;
 use fields::PAYLOAD_AT;
 use fields::VERTICES;
 
@@ -148,6 +148,16 @@ pub struct Head {
     pub interior: u64,
 }
 
+// A contour's fields before its vertices, and the place after them.
+pub struct ContourHead {
+    pub id: u64,
+    pub tag: u64,
+    pub vertices: u64,
+    pub kind: u64,
+    pub filler: u64,
+    pub after: usize,
+}
+
 // A contour: its fields, and its vertices' coordinates as bits, x and y in turn, those without a vertex zero.
 pub struct Contour {
     pub id: u64,
@@ -158,31 +168,28 @@ pub struct Contour {
     pub coordinates: [u64; COORDINATES],
 }
 
-// A contour's fields before its vertices, and the place after them.
-struct ContourHead {
-    id: u64,
-    tag: u64,
-    vertices: u64,
-    kind: u64,
-    filler: u64,
-    after: usize,
+// A pair: the id and the tag of the contour that comes before, and those of the one after it.
+pub struct Pair {
+    pub before_id: u64,
+    pub before_tag: u64,
+    pub after_id: u64,
+    pub after_tag: u64,
 }
 
-// The head, by one reader that is moved from field to field.
+// The head.
 pub fn read_head(card: &[u8]) -> Head
     ensures { λ r. ⌜ r ≡ headOf (now (card .entry)) ⌝ }
 {
-    let r = new(card);
-    let job = next(moved(r, PAYLOAD_AT), Width::Four);
-    let contours = next(moved(r, job.after), Width::Two);
-    let pairs = next(moved(r, contours.after), Width::Two);
-    let candidates = next(moved(r, pairs.after), Width::Two);
-    let passes = next(moved(r, candidates.after), Width::Two);
-    let moves = next(moved(r, passes.after), Width::Four);
-    let x = next(moved(r, moves.after), Width::Eight);
-    let y = next(moved(r, x.after), Width::Eight);
-    let exterior = next(moved(r, y.after), Width::One);
-    let interior = next(moved(r, exterior.after), Width::One);
+    let job = read_field(card, PAYLOAD_AT, Width::Four);
+    let contours = read_field(card, job.after, Width::Two);
+    let pairs = read_field(card, contours.after, Width::Two);
+    let candidates = read_field(card, pairs.after, Width::Two);
+    let passes = read_field(card, candidates.after, Width::Two);
+    let moves = read_field(card, passes.after, Width::Four);
+    let x = read_field(card, moves.after, Width::Eight);
+    let y = read_field(card, x.after, Width::Eight);
+    let exterior = read_field(card, y.after, Width::One);
+    let interior = read_field(card, exterior.after, Width::One);
     Head {
         job: job.value,
         contours: contours.value,
@@ -197,26 +204,15 @@ pub fn read_head(card: &[u8]) -> Head
     }
 }
 
-// Where contour k's payload begins, or the end.
-fn contour_at(card: &[u8], k: usize) -> usize
-    ensures { λ r. ⌜ r ≡ min (payload (k + 1)) (length (now (card .entry))) ⌝ }
+// Contour k's fields before its vertices: enough for who needs no vertex.
+pub fn contour_head(card: &[u8], k: usize) -> ContourHead
+    ensures { λ r. ⌜ r ≡ contourHead (now (card .entry)) k ⌝ }
 {
-    if card.len() / BLOCK <= k {
-        return card.len();
-    }
-    past(card, BLOCK * (k + 1), PAYLOAD_AT)
-}
-
-// A contour's head that begins at a place, by one reader.
-fn contour_head(card: &[u8], at: usize) -> ContourHead
-    ensures { λ r. ⌜ r ≡ contourHead (now (card .entry)) at ⌝ }
-{
-    let r = new(card);
-    let id = next(moved(r, at), Width::Four);
-    let tag = next(moved(r, id.after), Width::Four);
-    let vertices = next(moved(r, tag.after), Width::Two);
-    let kind = next(moved(r, vertices.after), Width::One);
-    let filler = next(moved(r, kind.after), Width::One);
+    let id = read_field(card, fields::contour_offset(card, k, 0), Width::Four);
+    let tag = read_field(card, id.after, Width::Four);
+    let vertices = read_field(card, tag.after, Width::Two);
+    let kind = read_field(card, vertices.after, Width::One);
+    let filler = read_field(card, kind.after, Width::One);
     ContourHead {
         id: id.value,
         tag: tag.value,
@@ -258,7 +254,7 @@ fn coordinates(card: &[u8], at: usize, count: usize) -> [u64; COORDINATES]
 pub fn read_contour(card: &[u8], k: usize) -> Contour
     ensures { λ r. ⌜ r ≡ contourRead (now (card .entry)) k ⌝ }
 {
-    let head = contour_head(card, contour_at(card, k));
+    let head = contour_head(card, k);
     Contour {
         id: head.id,
         tag: head.tag,
@@ -266,5 +262,29 @@ pub fn read_contour(card: &[u8], k: usize) -> Contour
         kind: head.kind,
         filler: head.filler,
         coordinates: coordinates(card, head.after, kept(head.vertices)),
+    }
+}
+
+// Where pair q begins, or the end: the blocks of pairs follow those of contours, one after the other.
+fn pair_at(card: &[u8], q: usize) -> usize
+    ensures { λ r. ⌜ r ≡ min (pairOffset (now (card .entry)) q) (length (now (card .entry))) ⌝ }
+{
+    let k = fields::contours(card) + q / PAIRS_A_BLOCK;
+    fields::contour_offset(card, k, 16 * (q % PAIRS_A_BLOCK))
+}
+
+// Pair q.
+pub fn read_pair(card: &[u8], q: usize) -> Pair
+    ensures { λ r. ⌜ r ≡ pairRead (now (card .entry)) q ⌝ }
+{
+    let before_id = read_field(card, pair_at(card, q), Width::Four);
+    let before_tag = read_field(card, before_id.after, Width::Four);
+    let after_id = read_field(card, before_tag.after, Width::Four);
+    let after_tag = read_field(card, after_id.after, Width::Four);
+    Pair {
+        before_id: before_id.value,
+        before_tag: before_tag.value,
+        after_id: after_id.value,
+        after_tag: after_tag.value,
     }
 }

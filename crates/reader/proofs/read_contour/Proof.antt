@@ -5,11 +5,9 @@ use Rattle.reader.proofs.read_contour.Statement.{statement}
 use Rattle.reader.proofs.read_contour.Tie as tie
 
 returns : tie.Need-returns
-returns c = let h = c .before .before in
-    contour-is _ _ _ _ _ _ (h .before .contour-at .ensures) (h .contour-head .ensures) (c .before .kept .ensures)
-    (c .coordinates .ensures)
+returns c =
+    contour-is _ _ _ _ _ (c .before .before .contour-head .ensures) (c .before .kept .ensures) (c .coordinates .ensures)
 
 pub read-contour-spec : {M : Type 1} → statement M
 read-contour-spec =
-    tie.close
-    (tie.spec (λ c κs. search needs) (λ c κs. search needs) (λ c κs. search needs) (λ c κs. search needs) returns)
+    tie.close (tie.spec (λ c κs. search needs) (λ c κs. search needs) (λ c κs. search needs) returns)

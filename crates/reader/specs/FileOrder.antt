@@ -1,0 +1,79 @@
+-- A whole card's fields in the order of the file: the head's, then each contour's, then each pair's. Assumes nothing.
+use mathlib.Core.List.{List, [], _∷_, _++_}
+use Prim.Native.Nat.{ℕ, zero, suc, _+_, _*_, _≤_, min}
+use lib.ListN.{take}
+use Rattle.fields.specs.Limits.{vertexLimit}
+use Rattle.fields.specs.Layout.{payload, contoursOf, pairsOf, vertexCountOf, pairOffset}
+use Rattle.reader.specs.declared.Width.{Width}
+use Rattle.reader.specs.declared.Contour.{Contour}
+use Rattle.reader.specs.declared.Pair.{Pair}
+use Rattle.reader.specs.Fields.{bytesOf}
+use Rattle.reader.specs.Walk.{walk}
+use Rattle.reader.specs.OnCard.{headOf, headList, headWidths, contourRead, contourWidths, pairRead, pairWidths}
+
+-- ---- where a walk goes
+
+-- fields without a gap between them: where the first begins, and how wide each is
+pub record Stretch : Type 0 where
+  pub begins : ℕ
+  pub widths : List Width
+
+-- so many contours, from contour k on
+unfoldable pub contourStretches : List ℕ → ℕ → ℕ → List Stretch
+contourStretches s k zero = []
+contourStretches s k (suc n) =
+    record { begins = payload (k + 1); widths = contourWidths (min (vertexCountOf s k) vertexLimit) }
+    ∷ contourStretches s (suc k) n
+
+-- so many pairs, from pair q on
+unfoldable pub pairStretches : List ℕ → ℕ → ℕ → List Stretch
+pairStretches s q zero = []
+pairStretches s q (suc m) = record { begins = pairOffset s q; widths = pairWidths } ∷ pairStretches s (suc q) m
+
+-- a card
+unfoldable pub cardStretches : List ℕ → List Stretch
+unfolding contourStretches pairStretches
+cardStretches s =
+    record { begins = payload 0; widths = headWidths }
+    ∷ (contourStretches s 0 (contoursOf s) ++ pairStretches s 0 (pairsOf s))
+
+-- one walk over all of them
+unfoldable pub walkAll : List ℕ → List Stretch → List ℕ
+walkAll s [] = []
+walkAll s (t ∷ ts) = walk s (t .begins) (t .widths) ++ walkAll s ts
+
+-- ---- that it never goes back
+
+unfoldable pub bytesIn : List Width → ℕ
+bytesIn [] = 0
+bytesIn (w ∷ ws) = bytesOf w + bytesIn ws
+
+-- each stretch begins where the one before it ended, or later
+unfoldable pub Forward : ℕ → List Stretch → Type 0
+unfolding bytesIn
+Forward end [] = Unit
+Forward end (t ∷ ts) = (end ≤ t .begins) × Forward (t .begins + bytesIn (t .widths)) ts
+
+-- ---- what the reader answers, in that order
+
+-- a contour's fields and the coordinates of the vertices that it has
+abbrev pub contourList : Contour → List ℕ
+contourList c =
+    c .id ∷ c .tag ∷ c .vertices ∷ c .kind ∷ c .filler ∷ take (2 * min (c .vertices) vertexLimit) (c .coordinates)
+
+abbrev pub pairList : Pair → List ℕ
+pairList p = p .«before_id» ∷ p .«before_tag» ∷ p .«after_id» ∷ p .«after_tag» ∷ []
+
+-- so many contours, from contour k on, and so many pairs, from pair q on
+unfoldable pub contoursRead : List ℕ → ℕ → ℕ → List ℕ
+contoursRead s k zero = []
+contoursRead s k (suc n) = contourList (contourRead s k) ++ contoursRead s (suc k) n
+
+unfoldable pub pairsRead : List ℕ → ℕ → ℕ → List ℕ
+pairsRead s q zero = []
+pairsRead s q (suc m) = pairList (pairRead s q) ++ pairsRead s (suc q) m
+
+-- the head, each contour, each pair
+unfoldable pub cardRead : List ℕ → List ℕ
+unfolding contoursRead pairsRead
+cardRead s = headList (headOf s) ++ (contoursRead s 0 (contoursOf s) ++ pairsRead s 0 (pairsOf s))
