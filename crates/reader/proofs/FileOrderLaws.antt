@@ -85,7 +85,7 @@ forward-contours s k (suc n) end rest h on =
     let v = min (vertexCountOf s k) vertexLimit in (
       h,
       forward-contours s (suc k) n (payload (k + 1) + bytesIn (contourWidths v)) rest (contour-ends k v (omega arith))
-      (λ at l. on at (omega arith)),
+          (λ at l. on at (omega arith)),
     )
 
 -- a pair ends where the next begins, or before
@@ -102,5 +102,5 @@ unfolding cardStretches Forward
 card-forward s = (
   omega arith,
   forward-contours s 0 (contoursOf s) 42 (pairStretches s 0 (pairsOf s)) (omega arith)
-  (λ at h. forward-pairs s 0 (pairsOf s) at (omega arith)),
+      (λ at h. forward-pairs s 0 (pairsOf s) at (omega arith)),
 )
