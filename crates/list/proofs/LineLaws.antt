@@ -16,7 +16,8 @@ use Rattle.candidates.specs.Direction.{directionOf}
 use Rattle.fields.specs.Layout.{jobOf, contoursOf, idOf, tagOf, typeOf, exteriorOf, interiorOf}
 use Rattle.fields.specs.Values.{asType, asPreference}
 use Rattle.reader.specs.declared.Head.{Head}
-use Rattle.reader.specs.OnCard.{headOf}
+use Rattle.reader.specs.declared.ContourHead.{ContourHead}
+use Rattle.reader.specs.OnCard.{headOf, contourHead}
 use Rattle.card.specs.Verdict.{checkOf}
 use Rattle.instance.specs.declared.Instance.{Instance}
 use Rattle.instance.specs.Gather.{wayOf}
@@ -31,6 +32,11 @@ use Rattle.list.specs.Lines.{headLine, wayWord, nameWords, placeLine, st
 use Rattle.list.specs.Lines.{tourLines, refusalLine}
 use Rattle.text.proofs.PageLaws.{put-then, put-same}
 
+-- how many contours the head says
+pub contours-read : (s : List ℕ) (h : Head) → h ≡ headOf s → h .contours ≡ contoursOf s
+unfolding headOf
+contours-read s h e = ap (λ (x : Head). x .contours) e
+
 pub head-put : (s : List ℕ) (h : Head) (p q r t : Page) → h ≡ headOf s
     → q ≡ put (bytes "JOB " ++ decimalOf (h .job)) p → r ≡ put (bytes " CONTOURS " ++ decimalOf (h .contours)) q
     → t ≡ put (bytes "\n") r
@@ -38,8 +44,7 @@ pub head-put : (s : List ℕ) (h : Head) (p q r t : Page) → h ≡ headOf s
 unfolding headLine headOf
 head-put s h p q r t a e f g =
     let j : h .job ≡ jobOf s = ap (λ (x : Head). x .job) a in
-    let n : h .contours ≡ contoursOf s = ap (λ (x : Head). x .contours) a in
-    rw (← j, ← n) (put-then _ _ p r t (put-then _ _ p q r e f) g)
+    rw (← j, ← contours-read s h a) (put-then _ _ p r t (put-then _ _ p q r e f) g)
 
 pub way-is : (s : List ℕ) (k : ℕ) (kind : ContourType) (exterior interior : CutDirectionPreference) (r : CutDirection)
     → kind ≡ asType (typeOf s k) → exterior ≡ asPreference (exteriorOf s) → interior ≡ asPreference (interiorOf s)
@@ -54,10 +59,13 @@ pub cw-put : (d : CutDirection) (p q : Page) → d ≡ Cw → q ≡ put (bytes "
 unfolding wayWord
 cw-put d p q e f = rw e f
 
-pub name-put : (s : List ℕ) (k id tag : ℕ) (p q r : Page) → id ≡ idOf s k → tag ≡ tagOf s k → q ≡ put (decimalOf id) p
-    → r ≡ put (bytes " " ++ decimalOf tag) q → r ≡ put (nameWords s k) p
-unfolding nameWords
-name-put s k id tag p q r a b e f = rw (← a, ← b) (put-then _ _ p q r e f)
+pub name-put : (s : List ℕ) (k : ℕ) (h : ContourHead) (p q r : Page) → h ≡ contourHead s k
+    → q ≡ put (decimalOf (h .id)) p → r ≡ put (bytes " " ++ decimalOf (h .tag)) q → r ≡ put (nameWords s k) p
+unfolding nameWords contourHead
+name-put s k h p q r a e f =
+    let i : h .id ≡ idOf s k = ap (λ (x : ContourHead). x .id) a in
+    let t : h .tag ≡ tagOf s k = ap (λ (x : ContourHead). x .tag) a in
+    rw (← i, ← t) (put-then _ _ p q r e f)
 
 pub place-put : (s : List ℕ) (place : Local) (d : CutDirection) (p q r t : Page) → d ≡ wayOf s (place .contour)
     → q ≡ put (nameWords s (place .contour)) p → r ≡ put (bytes " " ++ decimalOf (place .within)) q

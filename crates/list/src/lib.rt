@@ -63,10 +63,9 @@ fn put_way(page: &mut [u8], at: usize, direction: CutDirection) -> usize
 fn put_name(card: &[u8], k: usize, page: &mut [u8], at: usize) -> usize
     ensures { λ r. ⌜ paged r (now (page .exit)) ≡ put (nameWords (now (card .entry)) k) (paged at (now (page .entry))) ⌝ }
 {
-    let id = fields::id(card, k) as u64;
-    let tag = fields::tag(card, k) as u64;
-    let next = text::put_decimal(page, at, id);
-    text::put_number(page, next, b" ", tag)
+    let name = reader::contour_head(card, k);
+    let next = text::put_decimal(page, at, name.id);
+    text::put_number(page, next, b" ", name.tag)
 }
 
 // A stop: the contour's id and tag, the candidate's number within it, and which way round it is cut.
@@ -139,7 +138,7 @@ pub fn write_list(card: &[u8], page: &mut [u8]) -> usize
     match tour::tour(card, &mut room, &mut distances) {
         Toured::Refused(r) => put_refusal(r, page),
         Toured::Done(o) => {
-            let n = fields::contours(card);
+            let n = reader::read_head(card).contours as usize;
             put_tour(card, &room[..n], o, page)
         }
     }

@@ -1,6 +1,6 @@
 // The thin reader: a slice and a place in it. Its functions take the struct apart and leave the work to a function on the slice and
 // the number. A field is read at any place: a byte past the end reads 0, and the place after a field is never beyond the end. With it a
-// card's head and its contours are walked field by field, in file order.
+// card's head, its contours and its pairs are walked field by field, in file order.
 ghost use mathlib.Core.Path.{_≡_};
 ghost use Prim.Native.Nat.{_+_, _*_, _-_, _≤_, min};
 ghost use lib.ListN.{length};

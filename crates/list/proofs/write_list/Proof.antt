@@ -7,6 +7,7 @@ use Rattle.closure.specs.Limits.{CONTOURS}
 use Rattle.table.specs.Distances.{entryLimit}
 use Rattle.text.proofs.PageLaws.{written}
 use Rattle.list.proofs.DoorLaws.{refused-listed, done-fine, tour-within, tour-whole, done-listed}
+use Rattle.list.proofs.LineLaws.{contours-read}
 use borrow.Author.Needs.{needs}
 use Rattle.list.proofs.write_list.Statement.{statement}
 use Rattle.list.proofs.write_list.Tie as tie
@@ -21,12 +22,12 @@ entries = length-replicate entryLimit (ofBits binary64 0)
 array-share-prefix-room : tie.Need-array-share-prefix-room
 array-share-prefix-room c =
     tour-within _ _ _ seats entries _ _ _ (c .before .before .before .before .before .before .tour .ensures) _
-    (c .before .before .o .given .1) _ (c .contours .ensures)
+    (c .before .before .o .given .1) _ (contours-read _ _ (c .read-head .ensures))
 
 slice-aggregate-put-tour : tie.Need-slice-aggregate-put-tour
 slice-aggregate-put-tour c =
     tour-whole _ _ _ seats entries _ _ _ (c .before .before .before .before .before .before .before .tour .ensures) _
-    (c .before .before .before .o .given .1) _ (c .before .contours .ensures)
+    (c .before .before .before .o .given .1) _ (contours-read _ _ (c .before .read-head .ensures))
 
 put-tour-requires : tie.Need-put-tour-requires
 put-tour-requires c κs =
@@ -44,7 +45,7 @@ returns-2 c =
     written _ _ _ _ _ (c .before .before .put-tour .ensures)
     (done-listed _ _ _ seats entries _ _ _ (c .before .before .before .before .before .before .before .before .before
     .before .before .tour .ensures) _ (c .before .before .before .before .before .before .before .o .given .1) _
-    (c .before .before .before .before .before .contours .ensures))
+    (contours-read _ _ (c .before .before .before .before .before .read-head .ensures)))
 
 pub write-list-spec : {M : Type 1} → statement M
 write-list-spec =
