@@ -9,8 +9,8 @@ use Rattle.fields.specs.Limits.{vertexLimit}
 use Rattle.fields.specs.Layout.{payload, contoursOf, pairsOf, vertexCountOf, pairOffset}
 use Rattle.reader.specs.Walk.{walk, eights}
 use Rattle.reader.specs.OnCard.{contourRead, coordinatesFrom, filled, contourWidths}
-use Rattle.reader.specs.FileOrder.{Stretch, contourStretches, pairStretches, cardStretches, walkAll, bytesIn, Forward}
-use Rattle.reader.specs.FileOrder.{contourList, contoursRead, pairsRead, cardRead}
+use Rattle.reader.specs.FileOrder.{Stretch, contourStretches, pairStretches, cardStretches, walkAll, bytesIn}
+use Rattle.reader.specs.FileOrder.{Forward, contourList, contoursRead, pairsRead, cardRead}
 use Rattle.reader.specs.Claims.{CardInOrder, CardForward}
 use Rattle.reader.proofs.ClaimsHold.{head-in-order, contour-in-order, pair-in-order}
 

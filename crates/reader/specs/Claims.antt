@@ -1,4 +1,5 @@
--- What is claimed of a walk: in file order it gives what `fields` reads, on any bytes. Assumes nothing.
+-- What is claimed of a walk: in file order it gives what `fields` reads, of the whole card too, on any bytes. Assumes
+-- nothing.
 use mathlib.Core.Path.{_≡_}
 use mathlib.Core.List.{List, _∷_}
 use Prim.Native.Nat.{ℕ, _+_}
@@ -30,7 +31,7 @@ PairInOrder = (s : List ℕ) (q : ℕ) → walk s (pairOffset s q) pairWidths �
 abbrev pub CardInOrder : Type 0
 CardInOrder = (s : List ℕ) → walkAll s (cardStretches s) ≡ cardRead s
 
--- and that walk goes on to the end of the file and never back
+-- and that walk never goes back
 abbrev pub CardForward : Type 0
 CardForward = (s : List ℕ) → Forward 0 (cardStretches s)
 

@@ -18,7 +18,7 @@ pub record Stretch : Type 0 where
   pub begins : ℕ
   pub widths : List Width
 
--- so many contours, from contour k on
+-- so many contours, from contour k on, each with its first vertices if it names more than a contour may have
 unfoldable pub contourStretches : List ℕ → ℕ → ℕ → List Stretch
 contourStretches s k zero = []
 contourStretches s k (suc n) =
@@ -30,7 +30,7 @@ unfoldable pub pairStretches : List ℕ → ℕ → ℕ → List Stretch
 pairStretches s q zero = []
 pairStretches s q (suc m) = record { begins = pairOffset s q; widths = pairWidths } ∷ pairStretches s (suc q) m
 
--- a card
+-- a card: the head, each contour, each pair
 unfoldable pub cardStretches : List ℕ → List Stretch
 unfolding contourStretches pairStretches
 cardStretches s =
@@ -44,11 +44,12 @@ walkAll s (t ∷ ts) = walk s (t .begins) (t .widths) ++ walkAll s ts
 
 -- ---- that it never goes back
 
+-- the bytes that fields of these widths take
 unfoldable pub bytesIn : List Width → ℕ
 bytesIn [] = 0
 bytesIn (w ∷ ws) = bytesOf w + bytesIn ws
 
--- each stretch begins where the one before it ended, or later
+-- each stretch begins where the one before it ended, or later; the first not before `end`
 unfoldable pub Forward : ℕ → List Stretch → Type 0
 unfolding bytesIn
 Forward end [] = Unit
@@ -73,7 +74,7 @@ unfoldable pub pairsRead : List ℕ → ℕ → ℕ → List ℕ
 pairsRead s q zero = []
 pairsRead s q (suc m) = pairList (pairRead s q) ++ pairsRead s (suc q) m
 
--- the head, each contour, each pair
+-- the whole card
 unfoldable pub cardRead : List ℕ → List ℕ
 unfolding contoursRead pairsRead
 cardRead s = headList (headOf s) ++ (contoursRead s 0 (contoursOf s) ++ pairsRead s 0 (pairsOf s))
