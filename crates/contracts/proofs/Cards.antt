@@ -40,7 +40,9 @@ of-reader = record {
   left-at = told _ (λ κs a u v. refl) (λ κs a x p. p);
   read-field = told _ (λ κs a u v. refl) (λ κs a x p. p);
   read-head = told _ (λ κs a u v. refl) (λ κs a x p. p);
+  contour-head = told _ (λ κs a u v. refl) (λ κs a x p. p);
   read-contour = told _ (λ κs a u v. refl) (λ κs a x p. p);
+  read-pair = told _ (λ κs a u v. refl) (λ κs a x p. p);
 }
 
 of-reader-by-hand : OfReaderByHand

@@ -11,7 +11,7 @@ use Rattle.card.specs.Stages.{positionOf}
 use Rattle.card.specs.Names.{namedOf}
 use Rattle.card.specs.Verdict.{checkOf}
 use Rattle.reader.specs.Fields.{fieldAt}
-use Rattle.reader.specs.OnCard.{headOf, contourRead}
+use Rattle.reader.specs.OnCard.{headOf, contourHead, contourRead, pairRead}
 use denote.Ref.{now}
 use Rattle.fields.proofs as Fields
 use Rattle.card.proofs as Card
@@ -78,8 +78,12 @@ pub record OfReader : Type 0 where
       (λ _ s at width f. f ≡ fieldAt (now s) at width)
   pub read-head : Says Reader.read_head.ended Reader.read_head.Reads.Asked Reader.read_head.Reads.Learnt
       (λ _ card r. r ≡ headOf (now card))
+  pub contour-head : Says Reader.contour_head.ended Reader.contour_head.Reads.Asked Reader.contour_head.Reads.Learnt
+      (λ _ card k r. r ≡ contourHead (now card) k)
   pub read-contour : Says Reader.read_contour.ended Reader.read_contour.Reads.Asked Reader.read_contour.Reads.Learnt
       (λ _ card k r. r ≡ contourRead (now card) k)
+  pub read-pair : Says Reader.read_pair.ended Reader.read_pair.Reads.Asked Reader.read_pair.Reads.Learnt
+      (λ _ card q r. r ≡ pairRead (now card) q)
 
 -- reader, by hand
 pub record OfReaderByHand : Type 2 where

@@ -11,6 +11,8 @@ use lib.Dec.{ltb}
 use lib.Ieee.{Float}
 use lib.ListN.{length, getD, set, take, drop, length-append, List·getD-append}
 use lib.Seq.{take-at, getD-append-add}
+use Rattle.root.proofs.IeeeLaws.{claim as ieee}
+use Rattle.points.specs.Distance.{squares, distanceSqOf, distanceOf}
 use Rattle.bytes.specs.Bytes.{rev}
 use Rattle.answer.specs.declared.Point.{Point}
 use Rattle.answer.specs.declared.Check.the-variants.{Fine}
@@ -49,8 +51,8 @@ use Rattle.tour.specs.declared.Toured.the-variants.{Done}
 use Rattle.instance.specs.Search.{homeOn, candidatesOn, countOn, ownersOn, chartOn}
 use Rattle.tour.specs.Search.{startOn, endOn, tourOn, outcomeOn}
 use Rattle.tour.specs.Tour.{Left, tourOf}
-use Rattle.demands.specs.Demand2.{ownOn, Numbered, Sized, Apart, Has, Paired, longOn, Measured, Terms, Leaves}
-use Rattle.demands.specs.Demand2.{Trials, begunOn, searchOn, Between, othersOn, passesOn, allOn, Making, Turns}
+use Rattle.demands.specs.Demand2.{ownOn, Numbered, Sized, Rooted, Apart, Has, Paired, longOn, Measured, Terms}
+use Rattle.demands.specs.Demand2.{Leaves, Trials, begunOn, searchOn, Between, othersOn, passesOn, allOn, Making, Turns}
 use Rattle.demands.specs.Demand2.{Rows, Passes, Order, Same, Begins, Cut, Claim}
 use Rattle.demands.proofs.AskedLaws.{toured-if, done-fine, fine-nothing}
 use Rattle.demands.proofs.NextLaws.{starts}
@@ -115,6 +117,10 @@ sized s = record {
   homes = homes-length (candidatesOn s) (homeOn s);
   table = distances-length (candidatesOn s) (ownersOn s);
 }
+
+rooted : Rooted
+unfolding distanceOf distanceSqOf squares
+rooted = record { distance = λ a b. refl; root = ieee }
 
 apart : (s : List ℕ) (a b : ℕ) → a < countOn s → b < countOn s → Apart s a b
 apart s a b ha hb = record {
@@ -386,6 +392,7 @@ claim s room table told h =
     record {
       numbered = numbered s fine;
       sized = sized s;
+      rooted = rooted;
       from-home = homes-at (candidatesOn s) (homeOn s);
       apart = apart s;
       pairs = pairs s fine;

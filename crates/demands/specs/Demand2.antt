@@ -1,14 +1,18 @@
 -- Demand 2: on an accepted card the candidates, the table, the tour, the number of trials and the length are those of
--- the search as it is defined; a move limit cuts that search after so many trials and changes nothing else; and the
--- length told is evaluated from the tour handed out. tourOf is what `tour::tour` promises. Assumes nothing.
+-- the search as it is defined; a move limit cuts that search after so many trials and changes nothing else; the length
+-- told is evaluated from the tour handed out; and square roots are IEEE 754's. tourOf is what `tour::tour` promises.
+-- Assumes nothing.
 use mathlib.Core.Path.{_≡_}
 use mathlib.Core.Bool.{Bool, true, false}
 use mathlib.Core.Logic.{_⊎_, _↔_}
 use mathlib.Core.List.{List, [], _∷_, map, _++_, reverse}
 use Prim.Native.Nat.{ℕ, suc, _+_, _*_, _-_, _≤_, _<_, min}
 use lib.Dec.{T}
-use lib.Ieee.{Float, binary64, ofBits, lt, le, add, sub}
+use lib.Ieee.{Float, binary64, ofBits, lt, le, add, sub, mul}
 use lib.ListN.{length, getD, set, take, drop}
+use Rattle.answer.specs.declared.Point.{Point}
+use Rattle.root.specs.Root.{sqrtOf}
+use Rattle.root.specs.Ieee as ieee
 use Rattle.points.specs.Numbers.{zero64, huge}
 use Rattle.points.specs.Distance.{distanceOf}
 use Rattle.candidates.specs.declared.Candidate.{Candidate}
@@ -57,6 +61,15 @@ pub record Numbered (s : List ℕ) : Type 0 where
 pub record Sized (s : List ℕ) : Type 0 where
   pub homes : length (homesOn s) ≡ countOn s
   pub table : length (tableOn s) ≡ countOn s * countOn s
+
+-- a distance: the differences, their squares, the sum and the root of it, each rounded once; and that root is the one
+-- that IEEE 754 asks for, and no other
+pub record Rooted : Type 0 where
+  pub distance : (a b : Point)
+      → let dx = sub binary64 (b .x) (a .x) in
+      let dy = sub binary64 (b .y) (a .y) in
+      distanceOf a b ≡ sqrtOf (add binary64 (mul binary64 dx dx) (mul binary64 dy dy))
+  pub root : ieee.Claim
 
 -- from home to candidate a's point
 abbrev pub FromHome : List ℕ → ℕ → Type 0
@@ -345,6 +358,7 @@ pub record Told (s room : List ℕ) (table : List Float) (told : Outcome) : Type
 pub record Follows (s room : List ℕ) (table : List Float) (told : Outcome) : Type 0 where
   pub numbered : Numbered s
   pub sized : Sized s
+  pub rooted : Rooted
   pub from-home : (a : ℕ) → a < countOn s → FromHome s a
   pub apart : (a b : ℕ) → a < countOn s → b < countOn s → Apart s a b
   pub pairs : Paired s
