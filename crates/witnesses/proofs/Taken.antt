@@ -14,7 +14,8 @@ use Rattle.card.specs.Verdict.{checkOf}
 use Rattle.card_laws.specs.Write.{written}
 use Rattle.card_laws.proofs.Verdicts.{exactly}
 use Rattle.exact.specs.Grid.{gridPoints}
-use Rattle.improve.specs.Search.{Chart, State, lengthIn, pass, begun, searched}
+use Rattle.improve.specs.Search.{Chart, State, lengthIn, fresh, begun, searched}
+use Rattle.improve.specs.Trials.{allMade, others, turnTrials, turnsTrials, rowTrials, passTrials}
 use Rattle.instance.specs.Search.{candidatesOn, chartOn}
 use Rattle.solve.specs.declared.Outcome.{Outcome}
 use Rattle.solve.specs.Solve.{startIn}
@@ -224,29 +225,38 @@ trials = record { second = second; fourth = fourth; sixth = sixth }
 
 -- ---- the passes
 
+-- a pass, by its trials
+abbrev passedIn : Chart → ℕ → State → State
+passedIn chart n v = allMade chart (passTrials chart n (fresh v)) (fresh v)
+
+-- what its trials are computed through
+unfoldable pass-computes : Unit {0}
+unfolding tour-computes line passTrials turnsTrials turnTrials rowTrials others allMade
+pass-computes = tt
+
 abbrev firstIn : Chart → ℕ → State
-firstIn chart n = pass chart 0 n (begun chart (startIn chart n))
+firstIn chart n = passedIn chart n (begun chart (startIn chart n))
 
 abbrev secondIn : Chart → ℕ → State
-secondIn chart n = pass chart 0 n (firstIn chart n)
+secondIn chart n = passedIn chart n (firstIn chart n)
 
 abbrev thirdIn : Chart → ℕ → State
-thirdIn chart n = pass chart 0 n (secondIn chart n)
+thirdIn chart n = passedIn chart n (secondIn chart n)
 
 record Made (v : State) (moves : ℕ) (better : Bool) : Type 0 where
   moves-are : v .moves ≡ moves
   better-is : v .better ≡ better
 
 first-pass-computed : Made (firstIn line 3) 3 true
-unfolding tour-computes line
+unfolding pass-computes
 first-pass-computed = record { moves-are = refl; better-is = refl }
 
 second-pass-computed : Made (secondIn line 3) 6 true
-unfolding tour-computes line
+unfolding pass-computes
 second-pass-computed = record { moves-are = refl; better-is = refl }
 
 third-pass-computed : Made (thirdIn line 3) 9 false
-unfolding tour-computes line
+unfolding pass-computes
 third-pass-computed = record { moves-are = refl; better-is = refl }
 
 first-pass : Made firstPass 3 true

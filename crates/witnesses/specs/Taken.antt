@@ -14,12 +14,12 @@ use Rattle.answer.specs.declared.Point.{Point}
 use Rattle.card_laws.specs.Card.{Card, Contour}
 use Rattle.card_laws.specs.Write.{written}
 use Rattle.card_laws.specs.Examples.{waits}
-use Rattle.improve.specs.Search.{Chart, State, lengthIn, legal, shorter, reversed}
+use Rattle.improve.specs.Search.{Chart, State, lengthIn, legal, shorter, reversed, fresh}
 use Rattle.instance.specs.Search.{chartOn}
 use Rattle.tour.specs.Search.{startOn, tourOn, outcomeOn}
 use Rattle.text.specs.Text.{bytes}
 use Rattle.list.specs.Lines.{listOf}
-use Rattle.demands.specs.Demand2.{passOn, begunOn, searchOn}
+use Rattle.demands.specs.Demand2.{madeOn, passOn, begunOn, searchOn}
 use Rattle.demands.specs.Demand3.{OnGrid}
 use Rattle.witnesses.specs.Examples.{Answered}
 
@@ -134,14 +134,18 @@ pub record ForbiddenTrial : Type 0 where
 
 -- ---- passes
 
+-- where a pass leads from v on: its trials, made
+abbrev pub passed : State → State
+passed v = madeOn free (passOn free (fresh v)) (fresh v)
+
 abbrev pub firstPass : State
-firstPass = passOn free 0 (begunOn free)
+firstPass = passed (begunOn free)
 
 abbrev pub secondPass : State
-secondPass = passOn free 0 firstPass
+secondPass = passed firstPass
 
 abbrev pub thirdPass : State
-thirdPass = passOn free 0 secondPass
+thirdPass = passed secondPass
 
 -- each makes three trials; the first two accept some, the third none, and with it the search ends
 pub record Passes : Type 0 where
