@@ -3,7 +3,8 @@
 -- back with 12 exactly when there is no order in which it could be cut. s is the card, any bytes whatever; room and
 -- table are lent for the tour and for the distances, of any size. checkOf is what `card::check` promises and tourOf
 -- what `tour::tour` does; the rows of the table are in card_laws/specs/Table, the orders in card_laws/specs/Orders, the
--- other doors in Doors. Assumes nothing.
+-- other doors in Doors. It shuts out a program that sends every card back: a refusal is given only where the table says
+-- so (Checked .fine, Asked .done). Assumes nothing.
 use mathlib.Core.Path.{_≡_}
 use mathlib.Core.Logic.{_↔_}
 use mathlib.Core.List.{List}
