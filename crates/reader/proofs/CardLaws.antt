@@ -9,58 +9,51 @@ use Rattle.fields.specs.Limits.{vertexLimit}
 use Rattle.fields.specs.Layout.{payload, vertexCountOf, vertexOffset, pairOffset}
 use Rattle.reader.specs.declared.Width.the-variants.{One, Two, Four, Eight}
 use Rattle.reader.specs.declared.Field.{Field}
+use Rattle.reader.specs.declared.Walked.{Walked}
 use Rattle.reader.specs.declared.Head.{Head}
 use Rattle.reader.specs.declared.ContourHead.{ContourHead}
 use Rattle.reader.specs.declared.Contour.{Contour}
 use Rattle.reader.specs.declared.Pair.{Pair}
 use Rattle.reader.specs.Fields.{fieldAt}
-use Rattle.reader.specs.Walk.{walk, eights}
+use Rattle.reader.specs.Walk.{walk, eights, fourFrom}
 use Rattle.reader.specs.OnCard.{headOf, contourHead, coordinatesFrom, filled, contourRead, pairRead}
-use Rattle.reader.proofs.WalkLaws.{cut-value, read-at, read-cut, read-on}
+use Rattle.reader.proofs.WalkLaws.{cut-value, read-at, read-cut, read-on, read-four}
 
 -- ---- the head
 
-module _ (s : List ℕ) (job contours pairs candidates passes moves x y exterior interior : Field) where
-  pub head-is : job ≡ fieldAt s 8 Four → contours ≡ fieldAt s (job .after) Two → pairs ≡ fieldAt s (contours .after) Two
-      → candidates ≡ fieldAt s (pairs .after) Two → passes ≡ fieldAt s (candidates .after) Two
-      → moves ≡ fieldAt s (passes .after) Four
-      → x ≡ fieldAt s (moves .after) Eight → y ≡ fieldAt s (x .after) Eight
-      → exterior ≡ fieldAt s (y .after) One → interior ≡ fieldAt s (exterior .after) One
+module _ (s : List ℕ) (front middle : Walked) (exterior interior : Field) where
+  pub head-is : front ≡ fourFrom s 8 Four Two Two Two → middle ≡ fourFrom s (front .after) Two Four Eight Eight
+      → exterior ≡ fieldAt s (middle .after) One → interior ≡ fieldAt s (exterior .after) One
       → _≡_ {A = Head} (record {
-        job = job .value;
-        contours = contours .value;
-        pairs = pairs .value;
-        candidates = candidates .value;
-        passes = passes .value;
-        moves = moves .value;
-        x = x .value;
-        y = y .value;
+        job = front .first;
+        contours = front .second;
+        pairs = front .third;
+        candidates = front .fourth;
+        passes = middle .first;
+        moves = middle .second;
+        x = middle .third;
+        y = middle .fourth;
         exterior = exterior .value;
         interior = interior .value;
       }) (headOf s)
   unfolding headOf
-  head-is e₀ e₁ e₂ e₃ e₄ e₅ e₆ e₇ e₈ e₉ =
-      let r₀ = read-at s 8 Four job e₀ in
-      let r₁ = read-on s 8 12 Four Two job contours refl r₀ e₁ in
-      let r₂ = read-on s 12 14 Two Two contours pairs refl r₁ e₂ in
-      let r₃ = read-on s 14 16 Two Two pairs candidates refl r₂ e₃ in
-      let r₄ = read-on s 16 18 Two Two candidates passes refl r₃ e₄ in
-      let r₅ = read-on s 18 20 Two Four passes moves refl r₄ e₅ in
-      let r₆ = read-on s 20 24 Four Eight moves x refl r₅ e₆ in
-      let r₇ = read-on s 24 32 Eight Eight x y refl r₆ e₇ in
-      let r₈ = read-on s 32 40 Eight One y exterior refl r₇ e₈ in
-      let r₉ = read-on s 40 41 One One exterior interior refl r₈ e₉ in
+  head-is e₀ e₁ e₂ e₃ =
+      let r₀ = read-four s 8 12 14 16 18 8 Four Two Two Two front refl refl refl refl (read-at s 8 Four _ refl) e₀ in
+      let r₁ = read-four s 18 20 24 32 40 (front .after) Two Four Eight Eight middle refl refl refl refl
+      (read-cut s 18 (front .after) Two _ (r₀ .after-is) refl) e₁ in
+      let r₂ = read-cut s 40 (middle .after) One exterior (r₁ .after-is) e₂ in
+      let r₃ = read-on s 40 41 One One exterior interior refl r₂ e₃ in
       rw (
-        r₀ .value-is,
-        r₁ .value-is,
+        r₀ .first-is,
+        r₀ .second-is,
+        r₀ .third-is,
+        r₀ .fourth-is,
+        r₁ .first-is,
+        r₁ .second-is,
+        r₁ .third-is,
+        r₁ .fourth-is,
         r₂ .value-is,
         r₃ .value-is,
-        r₄ .value-is,
-        r₅ .value-is,
-        r₆ .value-is,
-        r₇ .value-is,
-        r₈ .value-is,
-        r₉ .value-is,
       )
 
 -- ---- a contour
@@ -81,28 +74,25 @@ vertices-walked s k j (suc v) place cut =
     rw (two, x, y, on)
 
 -- the five fields before the vertices, one after the other, from where the payload was cut off at the end
-module _ (s : List ℕ) (k place : ℕ) (id tag vertices kind filler : Field) where
-  pub contour-head-is : place ≡ min (payload (k + 1) + 0) (length s) → id ≡ fieldAt s place Four
-      → tag ≡ fieldAt s (id .after) Four → vertices ≡ fieldAt s (tag .after) Two
-      → kind ≡ fieldAt s (vertices .after) One → filler ≡ fieldAt s (kind .after) One
+module _ (s : List ℕ) (k place : ℕ) (four : Walked) (filler : Field) where
+  pub contour-head-is : place ≡ min (payload (k + 1) + 0) (length s) → four ≡ fourFrom s place Four Four Two One
+      → filler ≡ fieldAt s (four .after) One
       → _≡_ {A = ContourHead} (record {
-        id = id .value;
-        tag = tag .value;
-        vertices = vertices .value;
-        kind = kind .value;
+        id = four .first;
+        tag = four .second;
+        vertices = four .third;
+        kind = four .fourth;
         filler = filler .value;
         after = filler .after;
       }) (contourHead s k)
   unfolding contourHead
-  contour-head-is cut e₀ e₁ e₂ e₃ e₄ =
+  contour-head-is cut e₀ e₁ =
       let p = payload (k + 1) in
-      let r₀ = read-cut s (p + 0) place Four id cut e₀ in
-      let r₁ = read-on s (p + 0) (p + 4) Four Four id tag (omega arith) r₀ e₁ in
-      let r₂ = read-on s (p + 4) (p + 8) Four Two tag vertices (omega arith) r₁ e₂ in
-      let r₃ = read-on s (p + 8) (p + 10) Two One vertices kind (omega arith) r₂ e₃ in
-      let r₄ = read-on s (p + 10) (p + 11) One One kind filler (omega arith) r₃ e₄ in
-      let after : filler .after ≡ min (vertexOffset k 0) (length s) = r₄ .after-is ∙ omega arith in
-      rw (r₀ .value-is, r₁ .value-is, r₂ .value-is, r₃ .value-is, r₄ .value-is, after)
+      let r₀ = read-four s (p + 0) (p + 4) (p + 8) (p + 10) (p + 11) place Four Four Two One four (omega arith)
+      (omega arith) (omega arith) (omega arith) (read-cut s (p + 0) place Four _ cut refl) e₀ in
+      let r₁ = read-cut s (p + 11) (four .after) One filler (r₀ .after-is) e₁ in
+      let after : filler .after ≡ min (vertexOffset k 0) (length s) = r₁ .after-is ∙ omega arith in
+      rw (r₀ .first-is, r₀ .second-is, r₀ .third-is, r₀ .fourth-is, r₁ .value-is, after)
 
 -- a contour: its fields before the vertices, then the vertices
 module _ (s : List ℕ) (k count : ℕ) (head : ContourHead) (coordinates : List ℕ) where
@@ -125,21 +115,17 @@ module _ (s : List ℕ) (k count : ℕ) (head : ContourHead) (coordinates : List
 
 -- ---- a pair
 
-module _ (s : List ℕ) (q place : ℕ) (before-id before-tag after-id after-tag : Field) where
-  pub pair-is : place ≡ min (pairOffset s q) (length s) → before-id ≡ fieldAt s place Four
-      → before-tag ≡ fieldAt s (before-id .after) Four → after-id ≡ fieldAt s (before-tag .after) Four
-      → after-tag ≡ fieldAt s (after-id .after) Four
+module _ (s : List ℕ) (q place : ℕ) (four : Walked) where
+  pub pair-is : place ≡ min (pairOffset s q) (length s) → four ≡ fourFrom s place Four Four Four Four
       → _≡_ {A = Pair} (record {
-        «before_id» = before-id .value;
-        «before_tag» = before-tag .value;
-        «after_id» = after-id .value;
-        «after_tag» = after-tag .value;
+        «before_id» = four .first;
+        «before_tag» = four .second;
+        «after_id» = four .third;
+        «after_tag» = four .fourth;
       }) (pairRead s q)
   unfolding pairRead
-  pair-is cut e₀ e₁ e₂ e₃ =
+  pair-is cut e =
       let p = pairOffset s q in
-      let r₀ = read-cut s (p + 0) place Four before-id (cut ∙ omega arith) e₀ in
-      let r₁ = read-on s (p + 0) (p + 4) Four Four before-id before-tag (omega arith) r₀ e₁ in
-      let r₂ = read-on s (p + 4) (p + 8) Four Four before-tag after-id (omega arith) r₁ e₂ in
-      let r₃ = read-on s (p + 8) (p + 12) Four Four after-id after-tag (omega arith) r₂ e₃ in
-      rw (r₀ .value-is, r₁ .value-is, r₂ .value-is, r₃ .value-is)
+      let r = read-four s (p + 0) (p + 4) (p + 8) (p + 12) (p + 16) place Four Four Four Four four (omega arith)
+      (omega arith) (omega arith) (omega arith) (read-cut s (p + 0) place Four _ (cut ∙ omega arith) refl) e in
+      rw (r .first-is, r .second-is, r .third-is, r .fourth-is)

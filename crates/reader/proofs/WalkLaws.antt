@@ -15,7 +15,8 @@ use Rattle.reader.specs.declared.Width.{Width}
 use Rattle.reader.specs.declared.Width.the-variants.{One, Two, Four, Eight}
 use Rattle.reader.specs.declared.Field.{Field}
 use Rattle.reader.specs.Fields.{bytesOf, valueAt, fieldAt}
-use Rattle.reader.specs.Walk.{walk, eights}
+use Rattle.reader.specs.declared.Walked.{Walked}
+use Rattle.reader.specs.Walk.{walk, eights, walkEnd, fourFrom}
 use Rattle.reader.specs.OnCard.{filled}
 
 -- ---- one field
@@ -50,6 +51,53 @@ read-at s a w f e = record { value-is = ap (λ (x : Field). x .value) e; after-i
 pub read-on : (s : List ℕ) (a b : ℕ) (w v : Width) (f g : Field) → a + bytesOf w ≡ b → Read s a w f
     → g ≡ fieldAt s (f .after) v → Read s b v g
 read-on s a b w v f g at h e = read-cut s b (f .after) v g (h .after-is ∙ ap (λ (p : ℕ). min p (length s)) at) e
+
+-- ---- four fields
+
+-- four fields, with the place after the last alone
+abbrev pub in-four : Field → Field → Field → Field → Walked
+in-four f g h i = record {
+  first = f .value;
+  second = g .value;
+  third = h .value;
+  fourth = i .value;
+  after = i .after;
+}
+
+pub four-is : (s : List ℕ) (at : ℕ) (a b c d : Width) (f g h i : Field) → f ≡ fieldAt s at a
+    → g ≡ fieldAt s (f .after) b → h ≡ fieldAt s (g .after) c → i ≡ fieldAt s (h .after) d
+    → in-four f g h i ≡ fourFrom s at a b c d
+unfolding fourFrom walk walkEnd
+four-is s at a b c d f g h i e₀ e₁ e₂ e₃ = rw (e₃, e₂, e₁, e₀)
+
+-- r is the four fields of these widths at the places a, b, c and d, and after them comes e
+pub record ReadFour (s : List ℕ) (a b c d e : ℕ) (w x y z : Width) (r : Walked) : Type 0 where
+  pub first-is : r .first ≡ valueAt s a w
+  pub second-is : r .second ≡ valueAt s b x
+  pub third-is : r .third ≡ valueAt s c y
+  pub fourth-is : r .fourth ≡ valueAt s d z
+  pub after-is : r .after ≡ min e (length s)
+
+-- the first of them was read at the place, or where the place was cut off
+pub read-four : (s : List ℕ) (a b c d e place : ℕ) (w x y z : Width) (r : Walked) → a + bytesOf w ≡ b
+    → b + bytesOf x ≡ c → c + bytesOf y ≡ d → d + bytesOf z ≡ e → Read s a w (fieldAt s place w)
+    → r ≡ fourFrom s place w x y z → ReadFour s a b c d e w x y z r
+unfolding fourFrom walk walkEnd
+read-four s a b c d e place w x y z r ab bc cd de r₀ is =
+    let f = fieldAt s place w in
+    let g = fieldAt s (f .after) x in
+    let h = fieldAt s (g .after) y in
+    let i = fieldAt s (h .after) z in
+    let r₁ = read-on s a b w x f g ab r₀ refl in
+    let r₂ = read-on s b c x y g h bc r₁ refl in
+    let r₃ = read-on s c d y z h i cd r₂ refl in
+    record {
+      first-is = ap (λ (v : Walked). v .first) is ∙ r₀ .value-is;
+      second-is = ap (λ (v : Walked). v .second) is ∙ r₁ .value-is;
+      third-is = ap (λ (v : Walked). v .third) is ∙ r₂ .value-is;
+      fourth-is = ap (λ (v : Walked). v .fourth) is ∙ r₃ .value-is;
+      after-is = ap (λ (v : Walked). v .after) is ∙ r₃ .after-is ∙ ap (λ (p : ℕ). min p (length s)) de;
+    }
 
 -- ---- a walk
 

@@ -1,13 +1,13 @@
 // The thin reader: a slice and a place in it. Its functions take the struct apart and leave the work to a function on the slice and
-// the number. A field is read at any place: a byte past the end reads 0, and the place after a field is never beyond the end. With it a
-// card's head, its contours and its pairs are walked field by field, in file order.
+// the number. A field is read at any place: a byte past the end reads 0, and the place after a field is never beyond the end. A reader
+// that goes from field to field walks a card's head, its contours and its pairs, in file order.
 ghost use mathlib.Core.Path.{_≡_};
 ghost use Prim.Native.Nat.{_+_, _*_, _-_, _≤_, min};
 ghost use lib.ListN.{length};
 ghost use Rattle.fields.specs.Limits.{vertexLimit};
 ghost use Rattle.fields.specs.Layout.{pairOffset};
 ghost use Rattle.reader.specs.Fields.{fieldAt};
-ghost use Rattle.reader.specs.Walk.{walk, eights};
+ghost use Rattle.reader.specs.Walk.{walk, eights, fourFrom};
 ghost use Rattle.reader.specs.OnCard.{filled, headOf, contourHead, contourRead, pairRead};
 use fields::PAIRS_A_BLOCK;
 use fields::PAYLOAD_AT;
@@ -132,6 +132,36 @@ pub fn read_field(s: &[u8], at: usize, width: Width) -> Field
     next(moved(new(s), at), width)
 }
 
+// Four fields' values, and the place after the last.
+struct Walked {
+    first: u64,
+    second: u64,
+    third: u64,
+    fourth: u64,
+    after: usize,
+}
+
+// Four fields that follow each other, by one reader that goes from field to field.
+fn read_four(s: &[u8], at: usize, a: Width, b: Width, c: Width, d: Width) -> Walked
+    ensures { λ r. ⌜ r ≡ fourFrom (now (s .entry)) at a b c d ⌝ }
+{
+    let mut r = moved(new(s), at);
+    let first = next(r, a);
+    r = moved(r, first.after);
+    let second = next(r, b);
+    r = moved(r, second.after);
+    let third = next(r, c);
+    r = moved(r, third.after);
+    let fourth = next(r, d);
+    Walked {
+        first: first.value,
+        second: second.value,
+        third: third.value,
+        fourth: fourth.value,
+        after: fourth.after,
+    }
+}
+
 // ---- a card, in file order
 
 // A card's head: its fields as numbers, home's coordinates as the bits of theirs.
@@ -180,25 +210,33 @@ pub struct Pair {
 pub fn read_head(card: &[u8]) -> Head
     ensures { λ r. ⌜ r ≡ headOf (now (card .entry)) ⌝ }
 {
-    let job = read_field(card, PAYLOAD_AT, Width::Four);
-    let contours = read_field(card, job.after, Width::Two);
-    let pairs = read_field(card, contours.after, Width::Two);
-    let candidates = read_field(card, pairs.after, Width::Two);
-    let passes = read_field(card, candidates.after, Width::Two);
-    let moves = read_field(card, passes.after, Width::Four);
-    let x = read_field(card, moves.after, Width::Eight);
-    let y = read_field(card, x.after, Width::Eight);
-    let exterior = read_field(card, y.after, Width::One);
+    let front = read_four(
+        card,
+        PAYLOAD_AT,
+        Width::Four,
+        Width::Two,
+        Width::Two,
+        Width::Two,
+    );
+    let middle = read_four(
+        card,
+        front.after,
+        Width::Two,
+        Width::Four,
+        Width::Eight,
+        Width::Eight,
+    );
+    let exterior = read_field(card, middle.after, Width::One);
     let interior = read_field(card, exterior.after, Width::One);
     Head {
-        job: job.value,
-        contours: contours.value,
-        pairs: pairs.value,
-        candidates: candidates.value,
-        passes: passes.value,
-        moves: moves.value,
-        x: x.value,
-        y: y.value,
+        job: front.first,
+        contours: front.second,
+        pairs: front.third,
+        candidates: front.fourth,
+        passes: middle.first,
+        moves: middle.second,
+        x: middle.third,
+        y: middle.fourth,
         exterior: exterior.value,
         interior: interior.value,
     }
@@ -208,16 +246,14 @@ pub fn read_head(card: &[u8]) -> Head
 pub fn contour_head(card: &[u8], k: usize) -> ContourHead
     ensures { λ r. ⌜ r ≡ contourHead (now (card .entry)) k ⌝ }
 {
-    let id = read_field(card, fields::contour_offset(card, k, 0), Width::Four);
-    let tag = read_field(card, id.after, Width::Four);
-    let vertices = read_field(card, tag.after, Width::Two);
-    let kind = read_field(card, vertices.after, Width::One);
-    let filler = read_field(card, kind.after, Width::One);
+    let at = fields::contour_offset(card, k, 0);
+    let four = read_four(card, at, Width::Four, Width::Four, Width::Two, Width::One);
+    let filler = read_field(card, four.after, Width::One);
     ContourHead {
-        id: id.value,
-        tag: tag.value,
-        vertices: vertices.value,
-        kind: kind.value,
+        id: four.first,
+        tag: four.second,
+        vertices: four.third,
+        kind: four.fourth,
         filler: filler.value,
         after: filler.after,
     }
@@ -277,14 +313,12 @@ fn pair_at(card: &[u8], q: usize) -> usize
 pub fn read_pair(card: &[u8], q: usize) -> Pair
     ensures { λ r. ⌜ r ≡ pairRead (now (card .entry)) q ⌝ }
 {
-    let before_id = read_field(card, pair_at(card, q), Width::Four);
-    let before_tag = read_field(card, before_id.after, Width::Four);
-    let after_id = read_field(card, before_tag.after, Width::Four);
-    let after_tag = read_field(card, after_id.after, Width::Four);
+    let at = pair_at(card, q);
+    let four = read_four(card, at, Width::Four, Width::Four, Width::Four, Width::Four);
     Pair {
-        before_id: before_id.value,
-        before_tag: before_tag.value,
-        after_id: after_id.value,
-        after_tag: after_tag.value,
+        before_id: four.first,
+        before_tag: four.second,
+        after_id: four.third,
+        after_tag: four.fourth,
     }
 }

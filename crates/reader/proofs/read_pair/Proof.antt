@@ -5,16 +5,7 @@ use Rattle.reader.proofs.read_pair.Statement.{statement}
 use Rattle.reader.proofs.read_pair.Tie as tie
 
 returns : tie.Need-returns
-returns c =
-    let c₂ = c .before .before in
-    pair-is _ _ _ _ _ _ _
-    (c₂ .before .before .pair-at .ensures)
-    (c₂ .before .read-field .ensures) (c₂ .read-field2 .ensures) (c .before .read-field3 .ensures)
-    (c .read-field4 .ensures)
+returns c = pair-is _ _ _ _ (c .before .pair-at .ensures) (c .read-four .ensures)
 
 pub read-pair-spec : {M : Type 1} → statement M
-read-pair-spec =
-    tie.close
-    (tie.spec
-    (λ c κs. search needs) (λ c κs. search needs) (λ c κs. search needs) (λ c κs. search needs) (λ c κs. search needs)
-    returns)
+read-pair-spec = tie.close (tie.spec (λ c κs. search needs) (λ c κs. search needs) returns)
