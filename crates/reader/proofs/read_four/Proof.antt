@@ -1,6 +1,7 @@
 -- `reader::read_four` meets its contract: a walk of its MIR, by hand. One reader is held in a local, asked for a field,
--- moved to the place after it, and asked for the next. The steps of a field are rules of `ReaderCalls`; local i stands
--- at 41 − 2 · i of the context throughout. Assumes nothing.
+-- moved to the place after it, and asked for the next; the steps of a field are two rules of `ReaderCalls`. Once there
+-- is a reader, local i stands at entry 41 − 2 · i of the context; those two rules count from behind what the reader
+-- owns and the token, so that it is 39 − 2 · i there. Assumes nothing.
 use mathlib.Core.Path.{_≡_, refl}
 use Prim.Native.Nat.{ℕ, _<_, _^_}
 use mathlib.Core.List.{List, [], _∷_}
@@ -17,7 +18,7 @@ use contract.Monad.{Fun}
 use contract.Running.{givenOf, tables, tablesOf}
 use types.Kit.{Given, ‵, _⊛_, ⋆, _$_, _∵_, !, qed, by, move, drop, split, fsplit, fjoin, suffices, frame, done}
 use types.Part.{whole, sub, look-in, agg}
-use types.Run.{look, init, store, forget, stop, fld, from, load, of-opd, and-then, no-more, assigns, land, returns}
+use types.Run.{look, init, forget, stop, fld, from, load, and-then, no-more, assigns, land, returns}
 use types.Run.{enter, alloc1, alloc0, params1, pass1, pass0, free1, free0}
 use sound.WpLaws.{FmC, fmOf, WpFn-mono}
 use denote.RattleType.{owns}
@@ -42,11 +43,9 @@ use Rattle.reader.specs.declared.Walked.{Walked}
 use Rattle.reader.specs.Walk.{fourFrom}
 use Rattle.reader.proofs.WalkLaws.{in-four, four-is}
 use Rattle.reader.proofs.ReaderCalls.{width-vals, IsWidth, value-fits, after-fits, slice-val, Lent, New, Moved}
-use Rattle.reader.proofs.ReaderCalls.{Next, local, makes-new, moves-on, asks-next}
+use Rattle.reader.proofs.ReaderCalls.{Next, local, makes-new, moves-on, takes, goes-on}
 use Rattle.reader.proofs.Width as Wd
 use Rattle.reader.proofs.Width.Laws as Wd′
-use Rattle.reader.proofs.Field.Laws as F′
-use Rattle.reader.proofs.Field as F
 use Rattle.reader.proofs.Walked as S
 use Rattle.reader.proofs.Walked.Laws as S′
 use Rattle.reader.proofs.new.Symbol as new-def
@@ -135,44 +134,17 @@ module _ {M : Type 1} (𝓤 : URA M) (H : Heap 𝓤) (A : Atoms 𝓤) (W : Given
         moves-on ! fm mem run known-moved κ q s 0 n ok u
         (and-then ! (local ! 17 refl) (and-then ! (local ! 37 refl) (no-more !))) (λ u₀ t₀.
         land ! (from ! (stop !)) (init ! 27 refl (t₀ .0)) $
-        -- a copy of the reader is asked for the first field
-        assigns ! (of-opd ! (local ! 27 refl)) (from ! (stop !)) (init ! 15 refl (t₀ .0)) $
-        asks-next ! fm mem run known-next κ q s n a is-a u₀
-        (and-then ! (local ! 15 refl) (and-then ! (local ! 35 refl) (no-more !))) (λ f₀ e₀ is₀.
-        land ! (from ! (stop !)) (init ! 25 refl (LL.lawful F.the-type F′.the-laws 𝓤 H A W .typed f₀ _ is₀ .0)) $
-        -- and the reader is moved on to where that ends
-        assigns ! (of-opd ! (local ! 27 refl)) (from ! (stop !)) (init ! 13 refl (t₀ .0)) $
-        moves-on ! fm mem run known-moved κ q s n (f₀ .after) (after-fits f₀ _ is₀) u₀
-        (and-then ! (local ! 13 refl)
-        (and-then ! (load ! (from ! (fld ! refl (stop !))) (look-in ! 25 (sub ! 1 refl (whole !)))) (no-more !)))
-        (λ u₁ t₁. land ! (from ! (stop !)) (store ! 27 refl (t₁ .0)) $
-        -- a copy of the reader is asked for the second field
-        assigns ! (of-opd ! (local ! 27 refl)) (from ! (stop !)) (init ! 11 refl (t₁ .0)) $
-        asks-next ! fm mem run known-next κ q s (f₀ .after) b is-b u₁
-        (and-then ! (local ! 11 refl) (and-then ! (local ! 33 refl) (no-more !))) (λ f₁ e₁ is₁.
-        land ! (from ! (stop !)) (init ! 23 refl (LL.lawful F.the-type F′.the-laws 𝓤 H A W .typed f₁ _ is₁ .0)) $
-        -- and the reader is moved on to where that ends
-        assigns ! (of-opd ! (local ! 27 refl)) (from ! (stop !)) (init ! 9 refl (t₁ .0)) $
-        moves-on ! fm mem run known-moved κ q s (f₀ .after) (f₁ .after) (after-fits f₁ _ is₁) u₁
-        (and-then ! (local ! 9 refl)
-        (and-then ! (load ! (from ! (fld ! refl (stop !))) (look-in ! 23 (sub ! 1 refl (whole !)))) (no-more !)))
-        (λ u₂ t₂. land ! (from ! (stop !)) (store ! 27 refl (t₂ .0)) $
-        -- a copy of the reader is asked for the third field
-        assigns ! (of-opd ! (local ! 27 refl)) (from ! (stop !)) (init ! 7 refl (t₂ .0)) $
-        asks-next ! fm mem run known-next κ q s (f₁ .after) c is-c u₂
-        (and-then ! (local ! 7 refl) (and-then ! (local ! 31 refl) (no-more !))) (λ f₂ e₂ is₂.
-        land ! (from ! (stop !)) (init ! 21 refl (LL.lawful F.the-type F′.the-laws 𝓤 H A W .typed f₂ _ is₂ .0)) $
-        -- and the reader is moved on to where that ends
-        assigns ! (of-opd ! (local ! 27 refl)) (from ! (stop !)) (init ! 5 refl (t₂ .0)) $
-        moves-on ! fm mem run known-moved κ q s (f₁ .after) (f₂ .after) (after-fits f₂ _ is₂) u₂
-        (and-then ! (local ! 5 refl)
-        (and-then ! (load ! (from ! (fld ! refl (stop !))) (look-in ! 21 (sub ! 1 refl (whole !)))) (no-more !)))
-        (λ u₃ t₃. land ! (from ! (stop !)) (store ! 27 refl (t₃ .0)) $
-        -- a copy of the reader is asked for the fourth field
-        assigns ! (of-opd ! (local ! 27 refl)) (from ! (stop !)) (init ! 3 refl (t₃ .0)) $
-        asks-next ! fm mem run known-next κ q s (f₂ .after) d is-d u₃
-        (and-then ! (local ! 3 refl) (and-then ! (local ! 29 refl) (no-more !))) (λ f₃ e₃ is₃.
-        land ! (from ! (stop !)) (init ! 19 refl (LL.lawful F.the-type F′.the-laws 𝓤 H A W .typed f₃ _ is₃ .0)) $
+        -- the fields: the reader is asked for one, and moved on to where that ends
+        takes ! fm mem run known-next κ q s n a is-a u₀ t₀ 25 13 33 23 refl refl refl (λ f₀ e₀ is₀.
+        goes-on ! fm mem run known-moved κ q s n (f₀ .after) (after-fits f₀ _ is₀) u₀ t₀ 25 11 refl refl refl
+        (load ! (from ! (fld ! refl (stop !))) (look-in ! 25 (sub ! 1 refl (whole !)))) (λ u₁ t₁.
+        takes ! fm mem run known-next κ q s (f₀ .after) b is-b u₁ t₁ 25 9 31 21 refl refl refl (λ f₁ e₁ is₁.
+        goes-on ! fm mem run known-moved κ q s (f₀ .after) (f₁ .after) (after-fits f₁ _ is₁) u₁ t₁ 25 7 refl refl refl
+        (load ! (from ! (fld ! refl (stop !))) (look-in ! 23 (sub ! 1 refl (whole !)))) (λ u₂ t₂.
+        takes ! fm mem run known-next κ q s (f₁ .after) c is-c u₂ t₂ 25 5 29 19 refl refl refl (λ f₂ e₂ is₂.
+        goes-on ! fm mem run known-moved κ q s (f₁ .after) (f₂ .after) (after-fits f₂ _ is₂) u₂ t₂ 25 3 refl refl refl
+        (load ! (from ! (fld ! refl (stop !))) (look-in ! 21 (sub ! 1 refl (whole !)))) (λ u₃ t₃.
+        takes ! fm mem run known-next κ q s (f₂ .after) d is-d u₃ t₃ 25 1 27 17 refl refl refl (λ f₃ e₃ is₃.
         -- the answer, of the fields' numbers
         assigns ! (agg ! (and-then ! (load ! (from ! (fld ! refl (stop !))) (look-in ! 25 (sub ! 0 refl (whole !))))
         (and-then ! (load ! (from ! (fld ! refl (stop !))) (look-in ! 23 (sub ! 0 refl (whole !))))
