@@ -7,7 +7,9 @@ use Rattle.cost.proofs.closest_point_on_polygon.Tie as tie
 
 returns : tie.Need-returns
 unfolding closestOnPolygonOf
-returns c = is-located (c .before .before .before .polygon-and-point .ensures) (c .before .enum-told .given .1) (c .closest-to .ensures)
+returns c =
+    is-located (c .before .before .before .polygon-and-point .ensures) (c .before .enum-told .given .1)
+    (c .closest-to .ensures)
 
 returns-2 : tie.Need-returns-2
 unfolding closestOnPolygonOf

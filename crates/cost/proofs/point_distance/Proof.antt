@@ -7,7 +7,9 @@ use Rattle.cost.proofs.point_distance.Tie as tie
 
 returns : tie.Need-returns
 unfolding pointDistanceOf
-returns c = is-measured (c .before .before .before .two-points .ensures) (c .before .enum-told .given .1) (c .distance .ensures)
+returns c =
+    is-measured (c .before .before .before .two-points .ensures) (c .before .enum-told .given .1)
+    (c .distance .ensures)
 
 returns-2 : tie.Need-returns-2
 unfolding pointDistanceOf

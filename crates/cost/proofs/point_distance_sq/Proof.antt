@@ -7,7 +7,9 @@ use Rattle.cost.proofs.point_distance_sq.Tie as tie
 
 returns : tie.Need-returns
 unfolding pointDistanceSqOf
-returns c = is-measured (c .before .before .before .two-points .ensures) (c .before .enum-told .given .1) (c .distance-sq .ensures)
+returns c =
+    is-measured (c .before .before .before .two-points .ensures) (c .before .enum-told .given .1)
+    (c .distance-sq .ensures)
 
 returns-2 : tie.Need-returns-2
 unfolding pointDistanceSqOf

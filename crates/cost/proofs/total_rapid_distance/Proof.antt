@@ -7,7 +7,9 @@ use Rattle.cost.proofs.total_rapid_distance.Tie as tie
 
 returns : tie.Need-returns
 unfolding totalRapidOf
-returns c = is-measured (c .before .before .before .home-and-legs .ensures) (c .before .enum-told .given .1) (c .rapid-distance .ensures)
+returns c =
+    is-measured (c .before .before .before .home-and-legs .ensures) (c .before .enum-told .given .1)
+    (c .rapid-distance .ensures)
 
 returns-2 : tie.Need-returns-2
 unfolding totalRapidOf
