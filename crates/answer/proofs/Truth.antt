@@ -11,11 +11,19 @@ use lib.Dec.{T}
 pub true-false : {b : Bool} → b ≡ true → b ≡ false → ⊥
 true-false p q = true≢false (sym p ∙ q)
 
+pub yes-or-no : (b : Bool) → (b ≡ true) ⊎ (b ≡ false)
+yes-or-no true = inl refl
+yes-or-no false = inr refl
+
 -- ---- either, as an equation
 
 pub or-cases : (a b : Bool) → (a || b) ≡ true → (a ≡ true) ⊎ (b ≡ true)
 or-cases true b h = inl refl
 or-cases false b h = inr h
+
+pub or-none : (a b : Bool) → (a || b) ≡ false → (a ≡ false) × (b ≡ false)
+or-none true b h = absurd (true≢false h)
+or-none false b h = (refl, h)
 
 -- ---- either, as a test: what follows from it, and what shows it
 

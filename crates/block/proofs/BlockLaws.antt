@@ -1,6 +1,6 @@
 -- The check and the test for zeros, one byte at a time. Assumes nothing.
-use mathlib.Core.Path.{_≡_, refl, sym, ap, _∙_}
-use mathlib.Core.Bool.{Bool, true, false, _&&_}
+use mathlib.Core.Path.{_≡_, sym, ap, _∙_}
+use mathlib.Core.Bool.{Bool, true, false, _&&_, and-true}
 use mathlib.Core.List.{List, [], _∷_}
 use Prim.Native.Nat.{ℕ, zero, suc, _+_, _*_, _-_, _≤_, _<_}
 use native.Mathlib.Nat.{add-zero, add-suc, suc-add, zero-add, not-suc-le-zero, le-of-suc-le-suc, mul-le-mul}
@@ -37,10 +37,6 @@ pub weigh-all : (t : List ℕ) (p : ℕ) → length t ≤ p → p ≤ length t �
 weigh-all t p h g = rw (take-all p t h)
 
 -- ---- the start of a block, by the first byte that is not as due
-
-and-true : (b : Bool) → b && true ≡ b
-and-true true = refl
-and-true false = refl
 
 pub starts-past : (s : List ℕ) (at kind version number : ℕ) → length s ≤ at
     → eqb 0 kind && (eqb 0 version && eqb 0 number) ≡ starts s at kind version number

@@ -1,5 +1,6 @@
 -- What the tests on a block say in words: its start byte by byte, a run of zeros at each place; and fields read at a
 -- place that was cut off at the end of the bytes. Assumes nothing.
+use mathlib.Mathlib.Data.Bool.Basic.{and-elim-left, and-elim-right, and-intro}
 use mathlib.Core.Path.{_≡_, refl, sym, ap, _∙_}
 use mathlib.Core.Bool.{Bool, true, false, _&&_}
 use mathlib.Core.List.{List, [], _∷_}
@@ -15,19 +16,6 @@ use Rattle.block.specs.Field.{byteAt, u16At, u32At, u64At, f64At}
 use Rattle.block.specs.Block.{starts, Due, allZero, zerosAt}
 use Rattle.block.proofs.FieldLaws.{past-byte}
 
--- ---- and, taken apart
-
-pub and-first : (a b : Bool) → a && b ≡ true → a ≡ true
-and-first true b e = refl
-and-first false b e = e
-
-pub and-second : (a b : Bool) → a && b ≡ true → b ≡ true
-and-second true b e = e
-and-second false b e = let z : _≡_ {A = ℕ} 0 1 = cc in absurd (omega arith)
-
-pub and-both : (a b : Bool) → a ≡ true → b ≡ true → a && b ≡ true
-and-both a b e f = rw (e, f)
-
 -- ---- the start of a block
 
 module _ (s : List ℕ) (at kind version number : ℕ) where
@@ -39,31 +27,31 @@ module _ (s : List ℕ) (at kind version number : ℕ) where
       let c = eqb (u16At s (at + 2)) number in
       let d = eqb (u32At s (at + 4)) 0 in
       record {
-        kind-is = eqb-true _ _ (and-first a (b && (c && d)) e);
-        version-is = eqb-true _ _ (and-first b (c && d) (and-second a (b && (c && d)) e));
-        number-is = eqb-true _ _ (and-first c d (and-second b (c && d) (and-second a (b && (c && d)) e)));
-        zeros-are = eqb-true _ _ (and-second c d (and-second b (c && d) (and-second a (b && (c && d)) e)));
+        kind-is = eqb-true _ _ (and-elim-left a (b && (c && d)) e);
+        version-is = eqb-true _ _ (and-elim-left b (c && d) (and-elim-right a (b && (c && d)) e));
+        number-is = eqb-true _ _ (and-elim-left c d (and-elim-right b (c && d) (and-elim-right a (b && (c && d)) e)));
+        zeros-are = eqb-true _ _ (and-elim-right c d (and-elim-right b (c && d) (and-elim-right a (b && (c && d)) e)));
       }
 
   pub is-due : Due s at kind version number → starts s at kind version number ≡ true
   unfolding starts
   is-due h =
-      and-both _ _ (eq-eqb _ _ (h .kind-is)) (and-both _ _ (eq-eqb _ _ (h .version-is))
-      (and-both _ _ (eq-eqb _ _ (h .number-is)) (eq-eqb _ _ (h .zeros-are))))
+      and-intro (eq-eqb _ _ (h .kind-is)) (and-intro (eq-eqb _ _ (h .version-is))
+      (and-intro (eq-eqb _ _ (h .number-is)) (eq-eqb _ _ (h .zeros-are))))
 
 -- ---- a run of zeros
 
 zero-each : (t : List ℕ) → allZero t ≡ true → (i : ℕ) → getD t i 0 ≡ 0
 unfolding allZero
 zero-each [] e i = refl
-zero-each (x ∷ t) e zero = eqb-true x 0 (and-first (eqb x 0) (allZero t) e)
-zero-each (x ∷ t) e (suc i) = zero-each t (and-second (eqb x 0) (allZero t) e) i
+zero-each (x ∷ t) e zero = eqb-true x 0 (and-elim-left (eqb x 0) (allZero t) e)
+zero-each (x ∷ t) e (suc i) = zero-each t (and-elim-right (eqb x 0) (allZero t) e) i
 
 each-zero : (t : List ℕ) → ((i : ℕ) → i < length t → getD t i 0 ≡ 0) → allZero t ≡ true
 unfolding allZero
 each-zero [] h = refl
 each-zero (x ∷ t) h =
-    and-both (eqb x 0) (allZero t) (eq-eqb x 0 (h 0 (zero-lt-suc (length t))))
+    and-intro {a = eqb x 0} {b = allZero t} (eq-eqb x 0 (h 0 (zero-lt-suc (length t))))
     (each-zero t (λ i g. h (suc i) (suc-le-suc g)))
 
 pub zeros-each : (s : List ℕ) (at count : ℕ) → zerosAt s at count ≡ true → (i : ℕ) → i < count → byteAt s (at + i) ≡ 0

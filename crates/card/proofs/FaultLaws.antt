@@ -1,6 +1,6 @@
 -- The faults of length, count and head, from the tests that the code makes. Assumes nothing.
-use mathlib.Core.Path.{_≡_, refl, sym, ap, _∙_}
-use mathlib.Core.Bool.{Bool, true, false, not, _||_}
+use mathlib.Core.Path.{_≡_, sym, ap, _∙_}
+use mathlib.Core.Bool.{Bool, true, false, not, _||_, or-true, or-assoc}
 use mathlib.Core.List.{List}
 use Prim.Native.Nat.{ℕ, _+_, _*_, _%_, _≤_, _<_, min}
 use native.Mathlib.Nat.{mul-le-mul}
@@ -13,14 +13,6 @@ use Rattle.block.specs.Block.{blockBytes}
 use Rattle.fields.specs.Limits.{cardBytes}
 use Rattle.fields.specs.Layout.{blocksOf, contoursOf}
 use Rattle.card.specs.Stages.{lengthFault, kindDue, headFaults, blocksDue, countFault}
-
-or-true : (a : Bool) → a || true ≡ true
-or-true true = refl
-or-true false = refl
-
-or-assoc : (a b c : Bool) → a || (b || c) ≡ (a || b) || c
-or-assoc true b c = refl
-or-assoc false b c = refl
 
 pub too-long : (s : List ℕ) → cardBytes < length s → At (cardBytes + 1) ≡ lengthFault s
 unfolding lengthFault
@@ -37,14 +29,14 @@ module _ (s : List ℕ) (short : length s ≤ cardBytes) where
       let a = eqb (length s) 0 in
       let b = not (eqb (length s % blockBytes) 0) in
       let e : min (length s) (cardBytes + 1) ≡ length s = omega arith in
-      rw (le-ltb cardBytes (length s) short, or-assoc a b false, t, e)
+      rw (le-ltb cardBytes (length s) short, ← (or-assoc a b false), t, e)
 
   pub whole-blocks : (eqb (length s) 0 || not (eqb (length s % blockBytes) 0)) ≡ false → Absent ≡ lengthFault s
   unfolding lengthFault
   whole-blocks t =
       let a = eqb (length s) 0 in
       let b = not (eqb (length s % blockBytes) 0) in
-      rw (le-ltb cardBytes (length s) short, or-assoc a b false, t)
+      rw (le-ltb cardBytes (length s) short, ← (or-assoc a b false), t)
 
 pub other-count : (s : List ℕ) → (blocksOf s ≡ blocksDue s → ⊥) → At (blocksOf s) ≡ countFault s
 unfolding countFault

@@ -1,7 +1,7 @@
 -- What a lookup of an id tells of pairs, and the pairs' positions one pair at a time. Assumes nothing.
 use mathlib.Core.Path.{_≡_, refl, sym, ap, _∙_}
 use mathlib.Core.Logic.{⊎-elim}
-use mathlib.Core.Bool.{Bool, true, false, not, _||_}
+use mathlib.Core.Bool.{true, false, not, _||_, or-true}
 use mathlib.Core.List.{List, [], _∷_, _++_}
 use Prim.Native.Nat.{ℕ, zero, suc, _+_, _*_, _≤_, _<_}
 use native.Mathlib.Nat.{eq-or-lt-of-le, not-suc-le-zero, le-of-suc-le-suc}
@@ -16,6 +16,7 @@ use Rattle.answer.specs.declared.Found.the-variants.{At, Absent}
 use Rattle.answer.specs.Room.{padded}
 use Rattle.answer.proofs.LowestLaws.{Nowhere, is-at}
 use Rattle.answer.proofs.RoomLaws.{padded-two}
+use Rattle.answer.proofs.Truth.{or-none}
 use Rattle.card.specs.declared.Named.{Named}
 use Rattle.closure.specs.Limits.{CONTOURS, PAIRS}
 use Rattle.fields.specs.Layout.{tagOf, contoursOf, pairsOf, beforeIdOf, beforeTagOf, afterIdOf, afterTagOf}
@@ -29,14 +30,6 @@ use Rattle.card.proofs.LoopLaws.{found-here, none-found}
 pub position-below : (s : List ℕ) (id k : ℕ) (f : Found) → f ≡ positionOf s id → f ≡ At k → k < contoursOf s
 unfolding seekOf
 position-below s id k f e h = is-at _ (contoursOf s) k (sym e ∙ h) .within
-
-or-true : (a : Bool) → a || true ≡ true
-or-true true = refl
-or-true false = refl
-
-neither : (a b : Bool) → a || b ≡ false → (a ≡ false) × (b ≡ false)
-neither true b e = let z : _≡_ {A = ℕ} 0 1 = cc in absurd (omega arith)
-neither false b e = (refl, e)
 
 module _ (s : List ℕ) (q : ℕ) where
   pub first-unknown : (id : ℕ) (f : Found) → id ≡ beforeIdOf s q → f ≡ positionOf s id → f ≡ Absent → unnamed s q ≡ true
@@ -158,7 +151,7 @@ module _ (s : List ℕ) (n m : ℕ) (count : n ≡ contoursOf s) (pairs : m ≡ 
   module _ (few : (ltb CONTOURS n || ltb PAIRS m) ≡ false) where
     pub few-enough : (contoursOf s ≤ CONTOURS) × (pairsOf s ≤ PAIRS)
     few-enough =
-        let both = neither (ltb CONTOURS (contoursOf s)) (ltb PAIRS (pairsOf s)) (asked ∙ few) in
+        let both = or-none (ltb CONTOURS (contoursOf s)) (ltb PAIRS (pairsOf s)) (asked ∙ few) in
         (ltb-false _ _ (both .0), ltb-false _ _ (both .1))
 
     pub few-named : (r : Named) → r ≡ namedPairs s → r ≡ namedOf s

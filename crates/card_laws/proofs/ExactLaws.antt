@@ -1,8 +1,8 @@
 -- A search tells exactly what a row says: it finds a place exactly where the row holds. And rows in turn: what the
 -- first refusal tells of each. Assumes nothing.
+use mathlib.Mathlib.Data.Bool.Basic.{eq-false-of-not-eq-true}
 use mathlib.Core.Path.{_≡_, refl, sym, ap, _∙_, subst}
-use mathlib.Core.Logic.{_⊎_, inl, inr}
-use mathlib.Core.Bool.{Bool, true, false, not, _||_}
+use mathlib.Core.Bool.{Bool, true, false}
 use mathlib.Core.List.{List, _∷_}
 use Prim.Native.Nat.{ℕ, _<_}
 use native.Mathlib.Omega.{arith}
@@ -16,38 +16,11 @@ use Rattle.answer.specs.Stage.{orElse, firstRefusal}
 use Rattle.answer.proofs.LowestLaws.{LowestAt, at-is, is-at, is-absent}
 use Rattle.card.specs.Stages.{foundIf}
 use Rattle.card_laws.specs.Table.{Lowest, No}
+use Rattle.answer.proofs.Truth.{true-false}
 
 pub record Exact (f : Found) (Row : ℕ → Type 0) : Type 0 where
   pub found : (p : ℕ) → f ≡ At p → Row p
   pub here : (p : ℕ) → Row p → f ≡ At p
-
--- ---- truth values
-
-pub never : (b : Bool) → b ≡ true → b ≡ false → ⊥
-never b e f = let z : _≡_ {A = ℕ} 0 1 = cc in omega arith
-
-pub false-unless : (b : Bool) → (b ≡ true → ⊥) → b ≡ false
-false-unless true h = absurd (h refl)
-false-unless false h = refl
-
-pub either-of : (a b : Bool) → (a || b) ≡ true → (a ≡ true) ⊎ (b ≡ true)
-either-of true b e = inl refl
-either-of false b e = inr e
-
-pub first-of : (a b : Bool) → a ≡ true → (a || b) ≡ true
-first-of a b e = rw e
-
-pub second-of : (a b : Bool) → b ≡ true → (a || b) ≡ true
-second-of true b e = refl
-second-of false b e = e
-
-pub not-so : (b : Bool) → not b ≡ true → b ≡ true → ⊥
-not-so true e f = never false e refl
-not-so false e f = never false f refl
-
-pub so-not : (b : Bool) → (b ≡ true → ⊥) → not b ≡ true
-so-not true h = absurd (h refl)
-so-not false h = refl
 
 -- ---- the lowest place, and a place under a test
 
@@ -64,7 +37,7 @@ lowest-exact test n Fault to from = record { found = found; here = here }
             record {
               within = w .within;
               holds = to p (w .within) (w .holds);
-              before = λ j h b. never (test j) (from j (omega (arith, w .within)) b) (w .before j h);
+              before = λ j h b. true-false {b = test j} (from j (omega (arith, w .within)) b) (w .before j h);
             }
 
     here : (p : ℕ) → Lowest n Fault p → lowest test n ≡ At p
@@ -73,7 +46,7 @@ lowest-exact test n Fault to from = record { found = found; here = here }
         (record {
           within = r .within;
           holds = from p (r .within) (r .holds);
-          before = λ j h. false-unless (test j) (λ t. r .before j h (to j (omega (arith, r .within)) t));
+          before = λ j h. eq-false-of-not-eq-true {b = test j} (λ t. r .before j h (to j (omega (arith, r .within)) t));
         })
 
 pub if-exact : (b : Bool) (k : ℕ) (Row : ℕ → Type 0) → (b ≡ true → Row k) → ((p : ℕ) → Row p → (b ≡ true) × (p ≡ k))
@@ -83,7 +56,7 @@ if-exact true k Row to from =
 if-exact false k Row to from =
     record {
       found = λ p e. let z : _≡_ {A = ℕ} 0 1 = cc in absurd (omega arith);
-      here = λ p r. absurd (never false (from p r .0) refl);
+      here = λ p r. absurd (true-false {b = false} (from p r .0) refl);
     }
 
 -- ---- rows in turn
@@ -133,4 +106,4 @@ nowhere test n Fault to from no-row k h b = go (lowest test n) refl
   where
     go : (f : Found) → lowest test n ≡ f → ⊥
     go (At p) e = no-row p (lowest-exact test n Fault to from .found p e)
-    go Absent e = never (test k) (from k h b) (is-absent test n e k h)
+    go Absent e = true-false {b = test k} (from k h b) (is-absent test n e k h)

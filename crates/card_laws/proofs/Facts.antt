@@ -1,5 +1,6 @@
 -- Every fine card has each fact that later parts stand on; and the record of a card's fields reads what the field
 -- questions read. Assumes nothing.
+use mathlib.Mathlib.Data.Bool.Basic.{eq-false-of-not-eq-true}
 use mathlib.Core.Path.{_≡_, refl, sym, ap, _∙_}
 use mathlib.Core.Logic.{_⊎_, inl, inr}
 use mathlib.Core.Bool.{Bool, true, false}
@@ -28,7 +29,6 @@ use Rattle.card_laws.specs.Table.{pairs, candidates, passes, exterior, i
 use Rattle.card_laws.specs.Table.{few-vertices, many-vertices, no-type, FarCoordinate, at-home, at-vertex}
 use Rattle.card_laws.specs.Table.{OtherTag, Sound}
 use Rattle.card_laws.specs.Card.{Contour, Pair, tabulated, contourOf, pairOf, cardOf, Names, Accepted}
-use Rattle.card_laws.proofs.ExactLaws.{false-unless}
 use Rattle.card_laws.proofs.RowLaws.{due-blocks, no-bad-field, no-bad-contour}
 use Rattle.card_laws.proofs.FarRow.{no-far}
 use Rattle.card_laws.proofs.PairRows.{same-contour, before-has, after-has, no-other-tag}
@@ -38,7 +38,7 @@ use Rattle.card_laws.proofs.Verdicts.{exactly}
 -- ---- what was not refused
 
 not-below : (a b : ℕ) → (a < b → ⊥) → b ≤ a
-not-below a b h = ltb-false a b (false-unless (ltb a b) (λ t. h (ltb-true a b t)))
+not-below a b h = ltb-false a b (eq-false-of-not-eq-true {b = ltb a b} (λ t. h (ltb-true a b t)))
 
 must-be : (a b : ℕ) → ((a ≡ b → ⊥) → ⊥) → a ≡ b
 must-be a b h = go (eqb a b) refl
@@ -133,9 +133,10 @@ module _ (s : List ℕ) (sound : Sound s) where
         some-vertices = λ k h. not-below (vertexCountOf s k) 1 (λ g. fine-contour k h (few-vertices g));
         few-vertices = λ k h. not-below vertexLimit (vertexCountOf s k) (λ g. fine-contour k h (many-vertices g));
         type-known = λ k h. not-below 1 (typeOf s k) (λ g. fine-contour k h (no-type g));
-        home-near = false-unless (badPoint (pointAt s homeOffset)) (λ t. fine-point 0 (omega arith) (at-home t));
+        home-near = eq-false-of-not-eq-true {b = badPoint (pointAt s homeOffset)}
+            (λ t. fine-point 0 (omega arith) (at-home t));
         vertex-near =
-            λ k j h g. false-unless (badPoint (pointAt s (vertexOffset k j)))
+            λ k j h g. eq-false-of-not-eq-true {b = badPoint (pointAt s (vertexOffset k j))}
             (λ t. fine-point (suc k) (omega arith) (at-vertex k j g t));
         ids-differ =
             λ j k hj hk e. same-contour s row9 (idOf s k) j k (record { is-contour = hj; same = e })

@@ -13,8 +13,9 @@ use Rattle.fields.specs.Layout.{homeOffset, contoursOf, vertexCountOf, vertexOf
 use Rattle.fields.specs.Values.{pointAt}
 use Rattle.card.specs.Stages.{isAt, farPoint, farVertex, farPlace, farFault}
 use Rattle.card_laws.specs.Table.{FarCoordinate, at-home, at-vertex, Row8, No}
-use Rattle.card_laws.proofs.ExactLaws.{Exact, never, lowest-exact, nowhere}
+use Rattle.card_laws.proofs.ExactLaws.{Exact, lowest-exact, nowhere}
 use Rattle.card_laws.proofs.FarNumber.{far-is}
+use Rattle.answer.proofs.Truth.{true-false}
 
 pub far-point-is : (s : List ℕ) (at : ℕ) → farPoint s at ≡ badPoint (pointAt s at)
 unfolding badPoint pointAt f64At
@@ -33,7 +34,7 @@ module _ (s : List ℕ) where
       go (At j) h =
           let w = is-at far (vertexCountOf s k) j h in
           at-vertex k j (w .within) (sym (far-point-is s (vertexOffset k j)) ∙ w .holds)
-      go Absent h = absurd (never false (ap isAt (sym h) ∙ e) refl)
+      go Absent h = absurd (true-false {b = false} (ap isAt (sym h) ∙ e) refl)
 
   coordinate-far : (p : ℕ) → FarCoordinate s p → farPlace s p ≡ true
   unfolding farVertex
@@ -46,7 +47,8 @@ module _ (s : List ℕ) where
       go : (f : Found) → lowest far (vertexCountOf s k) ≡ f → isAt (lowest far (vertexCountOf s k)) ≡ true
       go (At i) g = ap isAt g
       go Absent g =
-          absurd (never (far j) (far-point-is s (vertexOffset k j) ∙ e) (is-absent far (vertexCountOf s k) g j h))
+          absurd (true-false {b = far j} (far-point-is s (vertexOffset k j) ∙ e)
+          (is-absent far (vertexCountOf s k) g j h))
 
   pub exact8 : Exact (farFault s) (Row8 s)
   unfolding farFault

@@ -1,5 +1,6 @@
 -- Two contours are linked in a card's list of positions exactly where one of its pairs stands for them. Assumes
 -- nothing.
+use mathlib.Mathlib.Data.Bool.Basic.{or-inl, or-inr, and-elim-left, and-elim-right, and-intro}
 use mathlib.Core.Path.{_≡_, refl, sym, ap, _∙_, subst}
 use mathlib.Core.Logic.{_⊎_, inl, inr}
 use mathlib.Core.Bool.{Bool, true, false, _&&_, _||_}
@@ -10,7 +11,6 @@ use native.Mathlib.Omega.{arith}
 use lib.Dec.{eqb, ltb}
 use lib.ListN.{length}
 use borrow.Author.Tests.{eq-eqb, eqb-true, lt-ltb}
-use Rattle.block.proofs.Readings.{and-first, and-second, and-both}
 use Rattle.closure.specs.Cycle.{linked}
 use Rattle.closure.specs.Pairs.{Pair, paired, every, someOf, isPair, both}
 use Rattle.fields.specs.Layout.{contoursOf, pairsOf, beforeIdOf, afterIdOf}
@@ -18,8 +18,8 @@ use Rattle.card.specs.Stages.{beforeOf, afterOf}
 use Rattle.card.specs.Names.{seatsOf, pairsOn}
 use Rattle.card.proofs.NameLaws.{seats-length}
 use Rattle.card_laws.specs.Table.{Row9, Row10, No, Has, Precedes}
-use Rattle.card_laws.proofs.ExactLaws.{never, either-of, first-of, second-of}
 use Rattle.card_laws.proofs.PairRows.{same-contour, before-has, after-has}
+use Rattle.answer.proofs.Truth.{or-cases, true-false}
 
 -- ---- the pairs of a flat list, one more at its end
 
@@ -40,44 +40,44 @@ module _ (test : Pair → Bool) where
   pub some-split : (l : List Pair) (p : Pair) → someOf test (l ++ (p ∷ [])) ≡ true
       → (someOf test l ≡ true) ⊎ (test p ≡ true)
   unfolding someOf
-  some-split [] p e = go (either-of (test p) false e)
+  some-split [] p e = go (or-cases (test p) false e)
     where
       go : (test p ≡ true) ⊎ (false ≡ true) → (false ≡ true) ⊎ (test p ≡ true)
       go (inl t) = inr t
       go (inr t) = inl t
-  some-split (x ∷ l) p e = go (either-of (test x) (someOf test (l ++ (p ∷ []))) e) (some-split l p)
+  some-split (x ∷ l) p e = go (or-cases (test x) (someOf test (l ++ (p ∷ []))) e) (some-split l p)
     where
       go : (test x ≡ true) ⊎ (someOf test (l ++ (p ∷ [])) ≡ true)
           → (someOf test (l ++ (p ∷ [])) ≡ true → (someOf test l ≡ true) ⊎ (test p ≡ true))
           → ((test x || someOf test l) ≡ true) ⊎ (test p ≡ true)
-      go (inl t) later = inl (first-of (test x) (someOf test l) t)
+      go (inl t) later = inl (or-inl (test x) (someOf test l) t)
       go (inr t) later = wider (later t)
         where
           wider : (someOf test l ≡ true) ⊎ (test p ≡ true) → ((test x || someOf test l) ≡ true) ⊎ (test p ≡ true)
-          wider (inl u) = inl (second-of (test x) (someOf test l) u)
+          wider (inl u) = inl (or-inr (test x) (someOf test l) u)
           wider (inr u) = inr u
 
   pub some-earlier : (l : List Pair) (p : Pair) → someOf test l ≡ true → someOf test (l ++ (p ∷ [])) ≡ true
   unfolding someOf
-  some-earlier [] p e = absurd (never false e refl)
-  some-earlier (x ∷ l) p e = go (either-of (test x) (someOf test l) e) (some-earlier l p)
+  some-earlier [] p e = absurd (true-false {b = false} e refl)
+  some-earlier (x ∷ l) p e = go (or-cases (test x) (someOf test l) e) (some-earlier l p)
     where
       go : (test x ≡ true) ⊎ (someOf test l ≡ true) → (someOf test l ≡ true → someOf test (l ++ (p ∷ [])) ≡ true)
           → (test x || someOf test (l ++ (p ∷ []))) ≡ true
-      go (inl t) later = first-of (test x) _ t
-      go (inr t) later = second-of (test x) _ (later t)
+      go (inl t) later = or-inl (test x) _ t
+      go (inr t) later = or-inr (test x) _ (later t)
 
   pub some-last : (l : List Pair) (p : Pair) → test p ≡ true → someOf test (l ++ (p ∷ [])) ≡ true
   unfolding someOf
-  some-last [] p e = first-of (test p) false e
-  some-last (x ∷ l) p e = second-of (test x) _ (some-last l p e)
+  some-last [] p e = or-inl (test p) false e
+  some-last (x ∷ l) p e = or-inr (test x) _ (some-last l p e)
 
   pub every-last : (l : List Pair) (p : Pair) → every test l ≡ true → test p ≡ true → every test (l ++ (p ∷ [])) ≡ true
   unfolding every
-  every-last [] p e f = and-both (test p) true f refl
+  every-last [] p e f = and-intro {a = test p} {b = true} f refl
   every-last (x ∷ l) p e f =
-      and-both (test x) _ (and-first (test x) (every test l) e)
-      (every-last l p (and-second (test x) (every test l) e) f)
+      and-intro {a = test x} (and-elim-left (test x) (every test l) e)
+      (every-last l p (and-elim-right (test x) (every test l) e) f)
 
 -- ---- links
 
@@ -91,7 +91,7 @@ pub record BeforeIn (s : List ℕ) (m i j : ℕ) : Type 0 where
 module _ (s : List ℕ) (i j : ℕ) where
   pub found-pair : (m : ℕ) → someOf (isPair i j) (paired (seatsOf s m)) ≡ true → BeforeIn s m i j
   unfolding someOf paired seatsOf
-  found-pair zero e = absurd (never false e refl)
+  found-pair zero e = absurd (true-false {b = false} e refl)
   found-pair (suc m) e =
       go (some-split (isPair i j) (paired (seatsOf s m)) (record { before = beforeOf s m; after = afterOf s m })
       (ap (someOf (isPair i j)) (sym (seats-paired s m)) ∙ e)) (found-pair m)
@@ -109,8 +109,8 @@ module _ (s : List ℕ) (i j : ℕ) where
           record {
             pair = m;
             is-pair = omega arith;
-            first = eqb-true _ _ (and-first (eqb (beforeOf s m) i) (eqb (afterOf s m) j) t);
-            second = eqb-true _ _ (and-second (eqb (beforeOf s m) i) (eqb (afterOf s m) j) t);
+            first = eqb-true _ _ (and-elim-left (eqb (beforeOf s m) i) (eqb (afterOf s m) j) t);
+            second = eqb-true _ _ (and-elim-right (eqb (beforeOf s m) i) (eqb (afterOf s m) j) t);
           }
 
   pub pair-found : (m : ℕ) → BeforeIn s m i j → someOf (isPair i j) (paired (seatsOf s m)) ≡ true
@@ -124,7 +124,7 @@ module _ (s : List ℕ) (i j : ℕ) where
           → someOf (isPair i j) (paired (seatsOf s m) ++ (last ∷ [])) ≡ true
       go (inl e) earlier =
           some-last (isPair i j) (paired (seatsOf s m)) last
-          (and-both _ _ (eq-eqb _ _ (ap (beforeOf s) (sym e) ∙ b .first))
+          (and-intro (eq-eqb _ _ (ap (beforeOf s) (sym e) ∙ b .first))
           (eq-eqb _ _ (ap (afterOf s) (sym e) ∙ b .second)))
       go (inr h) earlier =
           some-earlier (isPair i j) (paired (seatsOf s m)) last
@@ -139,7 +139,8 @@ module _ (s : List ℕ) (unique : No (Row9 s)) (named : No (Row10 s)) where
   link-precedes i j e =
       let some = someOf (isPair i j) (paired (pairsOn s)) in
       let b = found-pair s i j (pairsOf s)
-      (and-second (ltb j (contoursOf s)) some (and-second (ltb i (contoursOf s)) (ltb j (contoursOf s) && some) e)) in
+      (and-elim-right (ltb j (contoursOf s)) some
+      (and-elim-right (ltb i (contoursOf s)) (ltb j (contoursOf s) && some) e)) in
       record {
         pair = b .pair;
         is-pair = b .is-pair;
@@ -152,8 +153,8 @@ module _ (s : List ℕ) (unique : No (Row9 s)) (named : No (Row10 s)) where
   unfolding linked
   precedes-link i j b =
       let q = b .pair in
-      and-both _ _ (lt-ltb i (contoursOf s) (b .first .is-contour))
-      (and-both _ _ (lt-ltb j (contoursOf s) (b .second .is-contour))
+      and-intro (lt-ltb i (contoursOf s) (b .first .is-contour))
+      (and-intro (lt-ltb j (contoursOf s) (b .second .is-contour))
       (pair-found s i j (pairsOf s)
       (record {
         pair = q;
@@ -171,7 +172,7 @@ module _ (s : List ℕ) (unique : No (Row9 s)) (named : No (Row10 s)) where
       ap (every (both (contoursOf s))) (seats-paired s m)
       ∙ every-last (both (contoursOf s)) (paired (seatsOf s m)) (record { before = beforeOf s m; after = afterOf s m })
       (below-more m (omega arith))
-      (and-both _ _ (lt-ltb _ _ (before-has s unique named m (omega arith) .is-contour))
+      (and-intro (lt-ltb _ _ (before-has s unique named m (omega arith) .is-contour))
       (lt-ltb _ _ (after-has s unique named m (omega arith) .is-contour)))
 
   -- both positions of each pair are contours

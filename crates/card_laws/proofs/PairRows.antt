@@ -1,4 +1,5 @@
 -- Rows 7, 10 and 11 of the table. Assumes nothing.
+use mathlib.Mathlib.Data.Bool.Basic.{or-inl, or-inr, not-iff-not}
 use mathlib.Core.Path.{_≡_, refl, sym, ap, _∙_, subst}
 use mathlib.Core.Logic.{_⊎_, inl, inr}
 use mathlib.Core.Bool.{Bool, true, false, not}
@@ -25,8 +26,9 @@ use Rattle.card.proofs.SpareLaws.{used-head, used-contour, used-pairs}
 use Rattle.card_laws.specs.Table.{Spare, in-head, in-contour, past-last-pair, past-full-block, SpareByte, Row7}
 use Rattle.card_laws.specs.Table.{Row9, Has, Unnamed, Row10, OtherTag, Row11, No}
 use Rattle.card_laws.proofs.RowLaws.{no-repeat}
-use Rattle.card_laws.proofs.ExactLaws.{Exact, never, either-of, first-of, second-of, not-so, so-not}
+use Rattle.card_laws.proofs.ExactLaws.{Exact}
 use Rattle.card_laws.proofs.ExactLaws.{lowest-exact, nowhere}
+use Rattle.answer.proofs.Truth.{or-cases, true-false}
 
 -- one is below the other, or they are the same
 order : (j k : ℕ) → (j < k) ⊎ ((j ≡ k) ⊎ (k < j))
@@ -95,12 +97,12 @@ module _ (s : List ℕ) where
             offset = usedIn s b + i;
             behind = behind-used b (usedIn s b + i) (omega arith);
             inside = omega (arith, w .within);
-            some = λ z. not-so (eqb (byteAt s (payload b + usedIn s b + i)) 0) (w .holds)
+            some = λ z. not-iff-not {b = eqb (byteAt s (payload b + usedIn s b + i)) 0} .0 (w .holds)
                 (eq-eqb _ _ (ap (byteAt s) (add-assoc (payload b) (usedIn s b) i) ∙ z));
           }
       go Absent h =
           absurd
-          (not-so (zerosAt s (payload b + usedIn s b) count) e
+          (not-iff-not {b = zerosAt s (payload b + usedIn s b) count} .0 e
           (each-zeros s (payload b + usedIn s b) count
           (λ i g. eqb-true _ _ (not-false _ (is-absent some count h i g)))))
 
@@ -108,7 +110,7 @@ module _ (s : List ℕ) where
   byte-spare b r =
       let u = usedIn s b in
       let behind = used-behind b (r .offset) (r .behind) in
-      so-not (zerosAt s (payload b + u) (payloadBytes - u)) (λ t.
+      not-iff-not {b = zerosAt s (payload b + u) (payloadBytes - u)} .1 (λ t.
       let e : byteAt s (payload b + u + (r .offset - u)) ≡ 0 =
       zeros-each s (payload b + u) (payloadBytes - u) t (r .offset - u) (omega (arith, behind, r .inside)) in
       let g : payload b + u + (r .offset - u) ≡ payload b + r .offset = omega (arith, behind) in
@@ -130,14 +132,14 @@ module _ (s : List ℕ) where
   not-there : (id k : ℕ) → positionOf s id ≡ Absent → Has s id k → ⊥
   unfolding seekOf
   not-there id k e h =
-      never (eqb (idOf s k) id) (eq-eqb _ _ (h .same))
+      true-false {b = eqb (idOf s k) id} (eq-eqb _ _ (h .same))
       (is-absent (λ j. eqb (idOf s j) id) (contoursOf s) e k (h .is-contour))
 
   unknown-id : (id : ℕ) → not (isAt (positionOf s id)) ≡ true → (k : ℕ) → Has s id k → ⊥
   unknown-id id e k h = go (positionOf s id) refl
     where
       go : (f : Found) → positionOf s id ≡ f → ⊥
-      go (At j) g = not-so (isAt (positionOf s id)) e (ap isAt g)
+      go (At j) g = not-iff-not {b = isAt (positionOf s id)} .0 e (ap isAt g)
       go Absent g = not-there id k g h
 
   id-unknown : (id : ℕ) → ((k : ℕ) → Has s id k → ⊥) → not (isAt (positionOf s id)) ≡ true
@@ -149,7 +151,7 @@ module _ (s : List ℕ) where
 
   is-unnamed : (q : ℕ) → unnamed s q ≡ true → Unnamed s q
   is-unnamed q e =
-      go (either-of (not (isAt (positionOf s (beforeIdOf s q)))) (not (isAt (positionOf s (afterIdOf s q)))) e)
+      go (or-cases (not (isAt (positionOf s (beforeIdOf s q)))) (not (isAt (positionOf s (afterIdOf s q)))) e)
     where
       go : (not (isAt (positionOf s (beforeIdOf s q))) ≡ true) ⊎ (not (isAt (positionOf s (afterIdOf s q))) ≡ true)
           → Unnamed s q
@@ -158,9 +160,9 @@ module _ (s : List ℕ) where
 
   unnamed-is : (q : ℕ) → Unnamed s q → unnamed s q ≡ true
   unnamed-is q (Unnamed.first h) =
-      first-of (not (isAt (positionOf s (beforeIdOf s q)))) _ (id-unknown (beforeIdOf s q) h)
+      or-inl (not (isAt (positionOf s (beforeIdOf s q)))) _ (id-unknown (beforeIdOf s q) h)
   unnamed-is q (Unnamed.second h) =
-      second-of (not (isAt (positionOf s (beforeIdOf s q)))) _ (id-unknown (afterIdOf s q) h)
+      or-inr (not (isAt (positionOf s (beforeIdOf s q)))) _ (id-unknown (afterIdOf s q) h)
 
   pub exact10 : Exact (nameFault s) (Row10 s)
   unfolding nameFault
@@ -201,27 +203,27 @@ module _ (s : List ℕ) where
 
     other-tag : (q : ℕ) → q < pairsOf s → otherTag s q ≡ true → OtherTag s q
     other-tag q h e =
-        go (either-of (not (eqb (tagOf s (beforeOf s q)) (beforeTagOf s q)))
+        go (or-cases (not (eqb (tagOf s (beforeOf s q)) (beforeTagOf s q)))
         (not (eqb (tagOf s (afterOf s q)) (afterTagOf s q))) e)
       where
         go : (not (eqb (tagOf s (beforeOf s q)) (beforeTagOf s q)) ≡ true) ⊎
             (not (eqb (tagOf s (afterOf s q)) (afterTagOf s q)) ≡ true) → OtherTag s q
         go (inl t) =
             OtherTag.first (beforeOf s q) (before-has q h)
-            (λ z. not-so (eqb (tagOf s (beforeOf s q)) (beforeTagOf s q)) t (eq-eqb _ _ z))
+            (λ z. not-iff-not {b = eqb (tagOf s (beforeOf s q)) (beforeTagOf s q)} .0 t (eq-eqb _ _ z))
         go (inr t) =
             OtherTag.second (afterOf s q) (after-has q h)
-            (λ z. not-so (eqb (tagOf s (afterOf s q)) (afterTagOf s q)) t (eq-eqb _ _ z))
+            (λ z. not-iff-not {b = eqb (tagOf s (afterOf s q)) (afterTagOf s q)} .0 t (eq-eqb _ _ z))
 
     tag-other : (q : ℕ) → q < pairsOf s → OtherTag s q → otherTag s q ≡ true
     tag-other q h (OtherTag.first k has d) =
-        first-of (not (eqb (tagOf s (beforeOf s q)) (beforeTagOf s q))) _
-        (so-not (eqb (tagOf s (beforeOf s q)) (beforeTagOf s q))
+        or-inl (not (eqb (tagOf s (beforeOf s q)) (beforeTagOf s q))) _
+        (not-iff-not {b = eqb (tagOf s (beforeOf s q)) (beforeTagOf s q)} .1
         (λ t. d (ap (tagOf s) (same-contour unique (beforeIdOf s q) k (beforeOf s q) has (before-has q h))
         ∙ eqb-true _ _ t)))
     tag-other q h (OtherTag.second k has d) =
-        second-of (not (eqb (tagOf s (beforeOf s q)) (beforeTagOf s q))) _
-        (so-not (eqb (tagOf s (afterOf s q)) (afterTagOf s q))
+        or-inr (not (eqb (tagOf s (beforeOf s q)) (beforeTagOf s q))) _
+        (not-iff-not {b = eqb (tagOf s (afterOf s q)) (afterTagOf s q)} .1
         (λ t. d (ap (tagOf s) (same-contour unique (afterIdOf s q) k (afterOf s q) has (after-has q h))
         ∙ eqb-true _ _ t)))
 

@@ -1,4 +1,5 @@
 -- Each stage's search tells exactly what its row of the table says. Assumes nothing.
+use mathlib.Mathlib.Data.Bool.Basic.{or-inl, or-inr, not-iff-not}
 use mathlib.Core.Path.{_≡_, refl, sym, ap, _∙_, subst}
 use mathlib.Core.Logic.{_⊎_, inl, inr}
 use mathlib.Core.Bool.{Bool, true, false, not, _||_}
@@ -25,45 +26,46 @@ use Rattle.card_laws.specs.Table.{Row1, CheckDiffers, Row2, Kind, of-hea
 use Rattle.card_laws.specs.Table.{Row3, BadField, contours, pairs, candidates, passes, exterior, interior}
 use Rattle.card_laws.specs.Table.{all-candidates, Row4, PairBlocks, Row5, BadContour, few-vertices, many-vertices}
 use Rattle.card_laws.specs.Table.{no-type, byte-eleven, Row6, Repeated, Row9, No}
-use Rattle.card_laws.proofs.ExactLaws.{Exact, never, either-of, first-of, second-of, not-so, so-not}
+use Rattle.card_laws.proofs.ExactLaws.{Exact}
 use Rattle.card_laws.proofs.ExactLaws.{lowest-exact, if-exact, nowhere}
+use Rattle.answer.proofs.Truth.{or-cases, true-false}
 
 -- ---- below the least or above the most
 
 outside-is : (least most x : ℕ) → outside least most x ≡ true → (x < least) ⊎ (most < x)
-outside-is least most x e = go (either-of (ltb x least) (ltb most x) e)
+outside-is least most x e = go (or-cases (ltb x least) (ltb most x) e)
   where
     go : (ltb x least ≡ true) ⊎ (ltb most x ≡ true) → (x < least) ⊎ (most < x)
     go (inl t) = inl (ltb-true _ _ t)
     go (inr t) = inr (ltb-true _ _ t)
 
 is-outside : (least most x : ℕ) → (x < least) ⊎ (most < x) → outside least most x ≡ true
-is-outside least most x (inl h) = first-of (ltb x least) (ltb most x) (lt-ltb _ _ h)
-is-outside least most x (inr h) = second-of (ltb x least) (ltb most x) (lt-ltb _ _ h)
+is-outside least most x (inl h) = or-inl (ltb x least) (ltb most x) (lt-ltb _ _ h)
+is-outside least most x (inr h) = or-inr (ltb x least) (ltb most x) (lt-ltb _ _ h)
 
 module _ (s : List ℕ) where
   -- ---- 1
 
   length-cause : badLength s ≡ true → (length s ≡ 0) ⊎ ((length s % blockBytes ≡ 0 → ⊥) ⊎ (cardBytes < length s))
-  length-cause e = go (either-of (eqb (length s) 0) (not (eqb (length s % blockBytes) 0) || ltb cardBytes (length s)) e)
+  length-cause e = go (or-cases (eqb (length s) 0) (not (eqb (length s % blockBytes) 0) || ltb cardBytes (length s)) e)
     where
       rest : (not (eqb (length s % blockBytes) 0) ≡ true) ⊎ (ltb cardBytes (length s) ≡ true)
           → (length s ≡ 0) ⊎ ((length s % blockBytes ≡ 0 → ⊥) ⊎ (cardBytes < length s))
-      rest (inl t) = inr (inl (λ z. not-so (eqb (length s % blockBytes) 0) t (eq-eqb _ _ z)))
+      rest (inl t) = inr (inl (λ z. not-iff-not {b = eqb (length s % blockBytes) 0} .0 t (eq-eqb _ _ z)))
       rest (inr t) = inr (inr (ltb-true _ _ t))
 
       go : (eqb (length s) 0 ≡ true) ⊎ ((not (eqb (length s % blockBytes) 0) || ltb cardBytes (length s)) ≡ true)
           → (length s ≡ 0) ⊎ ((length s % blockBytes ≡ 0 → ⊥) ⊎ (cardBytes < length s))
       go (inl t) = inl (eqb-true _ _ t)
-      go (inr t) = rest (either-of (not (eqb (length s % blockBytes) 0)) (ltb cardBytes (length s)) t)
+      go (inr t) = rest (or-cases (not (eqb (length s % blockBytes) 0)) (ltb cardBytes (length s)) t)
 
   cause-length : (length s ≡ 0) ⊎ ((length s % blockBytes ≡ 0 → ⊥) ⊎ (cardBytes < length s)) → badLength s ≡ true
-  cause-length (inl e) = first-of (eqb (length s) 0) _ (eq-eqb _ _ e)
+  cause-length (inl e) = or-inl (eqb (length s) 0) _ (eq-eqb _ _ e)
   cause-length (inr (inl h)) =
-      second-of (eqb (length s) 0) _ (first-of (not (eqb (length s % blockBytes) 0)) _
-      (so-not (eqb (length s % blockBytes) 0) (λ t. h (eqb-true _ _ t))))
+      or-inr (eqb (length s) 0) _ (or-inl (not (eqb (length s % blockBytes) 0)) _
+      (not-iff-not {b = eqb (length s % blockBytes) 0} .1 (λ t. h (eqb-true _ _ t))))
   cause-length (inr (inr h)) =
-      second-of (eqb (length s) 0) _ (second-of (not (eqb (length s % blockBytes) 0)) _ (lt-ltb _ _ h))
+      or-inr (eqb (length s) 0) _ (or-inr (not (eqb (length s % blockBytes) 0)) _ (lt-ltb _ _ h))
 
   pub exact1 : Exact (lengthFault s) (Row1 s)
   unfolding lengthFault
@@ -78,8 +80,9 @@ module _ (s : List ℕ) where
   unfolding checkFault checked
   exact2 =
       lowest-exact _ (blocksOf s) (CheckDiffers s)
-      (λ b h t e. not-so (eqb (checkAt s (blockBytes * b)) (u32At s (blockBytes * b + checkOffset))) t (eq-eqb _ _ e))
-      (λ b h d. so-not (eqb (checkAt s (blockBytes * b)) (u32At s (blockBytes * b + checkOffset)))
+      (λ b h t e. not-iff-not {b = eqb (checkAt s (blockBytes * b)) (u32At s (blockBytes * b + checkOffset))} .0 t
+      (eq-eqb _ _ e))
+      (λ b h d. not-iff-not {b = eqb (checkAt s (blockBytes * b)) (u32At s (blockBytes * b + checkOffset))} .1
       (λ t. d (eqb-true _ _ t)))
 
   -- ---- 3
@@ -103,16 +106,16 @@ module _ (s : List ℕ) where
   exact3 count =
       lowest-exact _ count (StartsOtherwise s)
       (λ b h t kind k d.
-      not-so (starts s (blockBytes * b) (kindDue s b) 1 b) t
+      not-iff-not {b = starts s (blockBytes * b) (kindDue s b) 1 b} .0 t
       (is-due s (blockBytes * b) (kindDue s b) 1 b
       (subst (λ (x : ℕ). Due s (blockBytes * b) x 1 b) (kind-is b kind k) d)))
-      (λ b h d. so-not (starts s (blockBytes * b) (kindDue s b) 1 b)
+      (λ b h d. not-iff-not {b = starts s (blockBytes * b) (kindDue s b) 1 b} .1
       (λ t. d (kindDue s b) (due-kind b) (due-is s (blockBytes * b) (kindDue s b) 1 b t)))
 
   -- ---- 4
 
   bad-field : (f : ℕ) → getD (headFaults s) f false ≡ true → BadField s f
-  bad-field zero e = absurd (never false e refl)
+  bad-field zero e = absurd (true-false {b = false} e refl)
   bad-field (suc zero) e = contours (ltb-true _ _ e)
   bad-field (suc (suc zero)) e = pairs (ltb-true _ _ e)
   bad-field (suc (suc (suc zero))) e = candidates (outside-is 1 perContourLimit (perContourOf s) e)
@@ -120,7 +123,7 @@ module _ (s : List ℕ) where
   bad-field (suc (suc (suc (suc (suc zero))))) e = exterior (ltb-true _ _ e)
   bad-field (suc (suc (suc (suc (suc (suc zero)))))) e = interior (ltb-true _ _ e)
   bad-field (suc (suc (suc (suc (suc (suc (suc zero))))))) e = all-candidates (ltb-true _ _ e)
-  bad-field (suc (suc (suc (suc (suc (suc (suc (suc f)))))))) e = absurd (never false e refl)
+  bad-field (suc (suc (suc (suc (suc (suc (suc (suc f)))))))) e = absurd (true-false {b = false} e refl)
 
   field-bad : (f : ℕ) → BadField s f → getD (headFaults s) f false ≡ true
   field-bad f (contours h) = lt-ltb _ _ h
@@ -149,16 +152,20 @@ module _ (s : List ℕ) where
   exact5 =
       if-exact (not (eqb (blocksOf s) (blocksDue s))) (blocksOf s) (Row5 s)
       (λ t. record {
-        differs = λ p w e. not-so (eqb (blocksOf s) (blocksDue s)) t (eq-eqb _ _ (due-blocks p w e));
+        differs = λ p w e. not-iff-not {b = eqb (blocksOf s) (blocksDue s)} .0 t (eq-eqb _ _ (due-blocks p w e));
         told = refl;
       })
-      (λ p r. (so-not (eqb (blocksOf s) (blocksDue s)) (λ t. r .differs _ blocks-hold (eqb-true _ _ t)), r .told))
+      (λ p r. (
+        not-iff-not {b = eqb (blocksOf s) (blocksDue s)} .1
+            (λ t. r .differs _ blocks-hold (eqb-true _ _ t)),
+        r .told,
+      ))
 
   -- ---- 6
 
   bad-contour : (k : ℕ) → badContour s k ≡ true → BadContour s k
   bad-contour k e =
-      go (either-of (outside 1 vertexLimit (vertexCountOf s k)) (ltb 1 (typeOf s k) || not (eqb (fillerOf s k) 0)) e)
+      go (or-cases (outside 1 vertexLimit (vertexCountOf s k)) (ltb 1 (typeOf s k) || not (eqb (fillerOf s k) 0)) e)
     where
       count : (vertexCountOf s k < 1) ⊎ (vertexLimit < vertexCountOf s k) → BadContour s k
       count (inl h) = few-vertices h
@@ -166,23 +173,23 @@ module _ (s : List ℕ) where
 
       rest : (ltb 1 (typeOf s k) ≡ true) ⊎ (not (eqb (fillerOf s k) 0) ≡ true) → BadContour s k
       rest (inl t) = no-type (ltb-true _ _ t)
-      rest (inr t) = byte-eleven (λ z. not-so (eqb (fillerOf s k) 0) t (eq-eqb _ _ z))
+      rest (inr t) = byte-eleven (λ z. not-iff-not {b = eqb (fillerOf s k) 0} .0 t (eq-eqb _ _ z))
 
       go : (outside 1 vertexLimit (vertexCountOf s k) ≡ true) ⊎
           ((ltb 1 (typeOf s k) || not (eqb (fillerOf s k) 0)) ≡ true) → BadContour s k
       go (inl t) = count (outside-is 1 vertexLimit (vertexCountOf s k) t)
-      go (inr t) = rest (either-of (ltb 1 (typeOf s k)) (not (eqb (fillerOf s k) 0)) t)
+      go (inr t) = rest (or-cases (ltb 1 (typeOf s k)) (not (eqb (fillerOf s k) 0)) t)
 
   contour-bad : (k : ℕ) → BadContour s k → badContour s k ≡ true
   contour-bad k (few-vertices h) =
-      first-of (outside 1 vertexLimit (vertexCountOf s k)) _ (is-outside 1 vertexLimit (vertexCountOf s k) (inl h))
+      or-inl (outside 1 vertexLimit (vertexCountOf s k)) _ (is-outside 1 vertexLimit (vertexCountOf s k) (inl h))
   contour-bad k (many-vertices h) =
-      first-of (outside 1 vertexLimit (vertexCountOf s k)) _ (is-outside 1 vertexLimit (vertexCountOf s k) (inr h))
+      or-inl (outside 1 vertexLimit (vertexCountOf s k)) _ (is-outside 1 vertexLimit (vertexCountOf s k) (inr h))
   contour-bad k (no-type h) =
-      second-of (outside 1 vertexLimit (vertexCountOf s k)) _ (first-of (ltb 1 (typeOf s k)) _ (lt-ltb _ _ h))
+      or-inr (outside 1 vertexLimit (vertexCountOf s k)) _ (or-inl (ltb 1 (typeOf s k)) _ (lt-ltb _ _ h))
   contour-bad k (byte-eleven h) =
-      second-of (outside 1 vertexLimit (vertexCountOf s k)) _
-      (second-of (ltb 1 (typeOf s k)) _ (so-not (eqb (fillerOf s k) 0) (λ t. h (eqb-true _ _ t))))
+      or-inr (outside 1 vertexLimit (vertexCountOf s k)) _
+      (or-inr (ltb 1 (typeOf s k)) _ (not-iff-not {b = eqb (fillerOf s k) 0} .1 (λ t. h (eqb-true _ _ t))))
 
   pub exact6 : Exact (contourFault s) (Row6 s)
   unfolding contourFault
@@ -201,7 +208,7 @@ module _ (s : List ℕ) where
       go (At j) h =
           let w = is-at same k j h in
           record { earlier = j; is-earlier = w .within; same = eqb-true _ _ (w .holds) }
-      go Absent h = absurd (never false (ap isAt (sym h) ∙ e) refl)
+      go Absent h = absurd (true-false {b = false} (ap isAt (sym h) ∙ e) refl)
 
   is-repeated : (k : ℕ) → Repeated s k → repeats s k ≡ true
   unfolding seekOf
@@ -213,7 +220,8 @@ module _ (s : List ℕ) where
       go : (f : Found) → lowest same k ≡ f → isAt (lowest same k) ≡ true
       go (At j) h = ap isAt h
       go Absent h =
-          absurd (never (same (r .earlier)) (eq-eqb _ _ (r .same)) (is-absent same k h (r .earlier) (r .is-earlier)))
+          absurd (true-false {b = same (r .earlier)} (eq-eqb _ _ (r .same))
+          (is-absent same k h (r .earlier) (r .is-earlier)))
 
   pub exact9 : Exact (repeatFault s) (Row9 s)
   unfolding repeatFault

@@ -1,5 +1,6 @@
 -- The verdict is the table's: refused with a number and a place exactly when they are given, fine exactly when no row
 -- holds. Assumes nothing.
+use mathlib.Mathlib.Data.Bool.Basic.{eq-false-of-not-eq-true}
 use mathlib.Core.Path.{_≡_, sym, _∙_}
 use mathlib.Core.List.{List, [], _∷_}
 use Prim.Native.Nat.{ℕ, _≤_}
@@ -20,7 +21,7 @@ use Rattle.card_laws.specs.Table.{Row1, Row2, Row3, Row4, Row5, Row6, Ro
 use Rattle.card_laws.specs.Table.{contours, Past1, Past2, PastStart, Past4, Past5, PastStarts, Past6, Past7}
 use Rattle.card_laws.specs.Table.{Past8, Past9, Past10, Past11, Sound, Given, one, two, three, four, five}
 use Rattle.card_laws.specs.Table.{three-later, six, seven, eight, nine, ten, eleven, twelve, Exactly}
-use Rattle.card_laws.proofs.ExactLaws.{Exact, false-unless, stop, on, in-turn, none-here}
+use Rattle.card_laws.proofs.ExactLaws.{Exact, stop, on, in-turn, none-here}
 use Rattle.card_laws.proofs.RowLaws.{exact1, exact2, exact3, exact4, exact5, exact6, exact9, no-bad-field}
 use Rattle.card_laws.proofs.FarRow.{exact8}
 use Rattle.card_laws.proofs.PairRows.{exact7, exact10, exact11}
@@ -68,7 +69,7 @@ module _ (s : List ℕ) where
   -- ---- what later rows stand on
 
   pub few : Past4 s → contoursOf s ≤ CONTOURS
-  few past = ltb-false CONTOURS (contoursOf s) (false-unless _
+  few past = ltb-false CONTOURS (contoursOf s) (eq-false-of-not-eq-true
       (λ t. no-bad-field s (past .1) 1 (lit< tt) (contours (ltb-true _ _ t))))
 
   pub few-by-11 : Past11 s → contoursOf s ≤ CONTOURS

@@ -1,5 +1,6 @@
 -- Counting positions: a descent ends, and n different positions below n are all of them. Assumes nothing.
 use mathlib.Core.Bool.{Bool, true, false, cond, _&&_, _||_, true≢false}
+use mathlib.Mathlib.Data.Bool.Basic.{or-inl, or-inr, and-elim-left, and-elim-right, and-intro}
 use mathlib.Core.Path.{_≡_, refl, sym, ap, _∙_}
 use mathlib.Core.Logic.{_⊎_, inl, inr, ⊎-elim}
 use mathlib.Core.List.{List}
@@ -10,10 +11,10 @@ use lib.Dec.{eqb}
 use borrow.Author.Tests.{eq-eqb, ne-eqb, eqb-true}
 use lib.ListN.{getD}
 use Rattle.answer.proofs.LowestLaws.{LowestAt, Nowhere, search-through}
+use Rattle.answer.proofs.Truth.{or-cases, yes-or-no, true-false}
 use Rattle.closure.specs.Cycle.{Reaches, step, leads}
 use Rattle.closure.proofs.PairLaws.{same-or}
-use Rattle.closure.proofs.PathLaws.{or-cases, or-left, or-right, and-first, and-second, both-true, yes-or-no}
-use Rattle.closure.proofs.PathLaws.{true-false, leads-on, leads-reaches, reaches-leads, Within}
+use Rattle.closure.proofs.PathLaws.{leads-on, leads-reaches, reaches-leads, Within}
 
 -- how many places below n pass the test
 bit : Bool → ℕ
@@ -90,14 +91,14 @@ module _ (n : ℕ) (link : ℕ → ℕ → Bool) (low : Within n link) (free : (
       go : ((k : ℕ) → rank k < most → k < n → P k ≡ true → (m : ℕ) × Least m)
           → ((b : ℕ) × LowestAt (λ b. P b && link b k) n b) ⊎ Nowhere (λ b. P b && link b k) n → (m : ℕ) × Least m
       go rec (inl (b, w)) =
-          rec b (omega (arith, rank-falls b k (w .within) l (and-second (P b) (link b k) (w .holds)))) (w .within)
-          (and-first (P b) (link b k) (w .holds))
+          rec b (omega (arith, rank-falls b k (w .within) l (and-elim-right (P b) (link b k) (w .holds)))) (w .within)
+          (and-elim-left (P b) (link b k) (w .holds))
       go rec (inr none) = (
         k,
         record {
           within = l;
           holds = t;
-          none = λ b hb p e. true-false (both-true (P b) (link b k) p e) (none b hb);
+          none = λ b hb p e. true-false (and-intro {a = P b} {b = link b k} p e) (none b hb);
         },
       )
 
@@ -118,8 +119,8 @@ any-is test zero p h t = absurd (not-suc-le-zero h)
 any-is test (suc m) p h t = go (eq-or-lt-of-le (le-of-suc-le-suc h)) (any-is test m p)
   where
     go : (p ≡ m) ⊎ (p < m) → (p < m → test p ≡ true → anyBelow test m ≡ true) → (anyBelow test m || test m) ≡ true
-    go (inl e) rec = or-right (anyBelow test m) (test m) (ap test (sym e) ∙ t)
-    go (inr l) rec = or-left (anyBelow test m) (test m) (rec l t)
+    go (inl e) rec = or-inr (anyBelow test m) (test m) (ap test (sym e) ∙ t)
+    go (inr l) rec = or-inl (anyBelow test m) (test m) (rec l t)
 
 pub any-at : (test : ℕ → Bool) (m : ℕ) → anyBelow test m ≡ true → (p : ℕ) × (p < m) × (test p ≡ true)
 unfolding anyBelow

@@ -1,6 +1,7 @@
 -- `leads` says yes exactly where a path is: links that lead from one position to another; below n, links are the pairs
 -- of the list. Assumes nothing.
-use mathlib.Core.Bool.{Bool, true, false, _&&_, _||_, or-true, and-eq-true-iff, true≢false}
+use mathlib.Core.Bool.{Bool, true, false, _&&_, true≢false}
+use mathlib.Mathlib.Data.Bool.Basic.{or-inl, or-inr, and-elim-left, and-elim-right, and-intro}
 use mathlib.Core.Path.{_≡_, refl, sym, ap, _∙_}
 use mathlib.Core.Logic.{_⊎_, inl, inr, ⊎-elim, _↔_}
 use mathlib.Core.List.{List, [], _∷_}
@@ -12,40 +13,13 @@ use borrow.Author.Tests.{eqb-true, ltb-true}
 use Rattle.answer.specs.declared.Found.{Found}
 use Rattle.answer.specs.Lowest.{lowest}
 use Rattle.answer.proofs.LowestLaws.{absent-is, is-absent}
+use Rattle.answer.proofs.Truth.{or-cases, yes-or-no, true-false}
 use Rattle.closure.specs.Limits.{CONTOURS}
 use Rattle.closure.specs.Flags.{flag, Noted, Says}
 use Rattle.closure.proofs.FlagLaws.{unset, closed-leads, linked-is}
 use Rattle.closure.specs.Pairs.{Pair, paired, every, someOf, isPair}
 use Rattle.closure.proofs.PairLaws.{is-pair}
 use Rattle.closure.specs.Cycle.{linked, Reaches, step, onward, leads, onCycle, Acyclic}
-
--- ---- yes and no
-
-pub or-cases : (a b : Bool) → (a || b) ≡ true → (a ≡ true) ⊎ (b ≡ true)
-or-cases true b e = inl refl
-or-cases false b e = inr e
-
-pub or-left : (a b : Bool) → a ≡ true → (a || b) ≡ true
-or-left a b e = rw e
-
-pub or-right : (a b : Bool) → b ≡ true → (a || b) ≡ true
-or-right a b e = rw e (or-true a)
-
-pub and-first : (a b : Bool) → (a && b) ≡ true → a ≡ true
-and-first a b e = and-eq-true-iff a b .0 e .0
-
-pub and-second : (a b : Bool) → (a && b) ≡ true → b ≡ true
-and-second a b e = and-eq-true-iff a b .0 e .1
-
-pub both-true : (a b : Bool) → a ≡ true → b ≡ true → (a && b) ≡ true
-both-true a b p q = and-eq-true-iff a b .1 (p, q)
-
-pub yes-or-no : (b : Bool) → (b ≡ true) ⊎ (b ≡ false)
-yes-or-no true = inl refl
-yes-or-no false = inr refl
-
-pub true-false : {b : Bool} → b ≡ true → b ≡ false → ⊥
-true-false p q = true≢false (sym p ∙ q)
 
 -- ---- paths
 
@@ -66,13 +40,13 @@ leads-reaches link (suc k) i j e =
         → (leads link k k j ≡ true → Reaches link k j) → Reaches link i j
     go (inl p) direct to from = direct p
     go (inr q) direct to from =
-        reaches-on (to (and-first (leads link k i k) (leads link k k j) q))
-        (from (and-second (leads link k i k) (leads link k k j) q))
+        reaches-on (to (and-elim-left (leads link k i k) (leads link k k j) q))
+        (from (and-elim-right (leads link k i k) (leads link k k j) q))
 
 -- a way through fewer positions is a way through more
 leads-grows : (link : ℕ → ℕ → Bool) (k i j : ℕ) → leads link k i j ≡ true → leads link (suc k) i j ≡ true
 unfolding leads
-leads-grows link k i j e = or-left (leads link k i j) (leads link k i k && leads link k k j) e
+leads-grows link k i j e = or-inl (leads link k i j) (leads link k i k && leads link k k j) e
 
 leads-link : (link : ℕ → ℕ → Bool) (k i j : ℕ) → link i j ≡ true → leads link k i j ≡ true
 unfolding leads
@@ -83,21 +57,21 @@ leads-link link (suc k) i j e = leads-grows link k i j (leads-link link k i j e)
 leads-to : (link : ℕ → ℕ → Bool) (k i : ℕ) → leads link (suc k) i k ≡ true → leads link k i k ≡ true
 unfolding leads
 leads-to link k i e =
-    ⊎-elim (λ (p : leads link k i k ≡ true). p) (λ (q : (leads link k i k && leads link k k k) ≡ true). and-first
+    ⊎-elim (λ (p : leads link k i k ≡ true). p) (λ (q : (leads link k i k && leads link k k k) ≡ true). and-elim-left
     (leads link k i k) (leads link k k k) q) (or-cases (leads link k i k) (leads link k i k && leads link k k k) e)
 
 leads-from : (link : ℕ → ℕ → Bool) (k j : ℕ) → leads link (suc k) k j ≡ true → leads link k k j ≡ true
 unfolding leads
 leads-from link k j e =
-    ⊎-elim (λ (p : leads link k k j ≡ true). p) (λ (q : (leads link k k k && leads link k k j) ≡ true). and-second
+    ⊎-elim (λ (p : leads link k k j ≡ true). p) (λ (q : (leads link k k k && leads link k k j) ≡ true). and-elim-right
     (leads link k k k) (leads link k k j) q) (or-cases (leads link k k j) (leads link k k k && leads link k k j) e)
 
 through : (link : ℕ → ℕ → Bool) (k i j : ℕ) → leads link k i k ≡ true → leads link k k j ≡ true
     → leads link (suc k) i j ≡ true
 unfolding leads
 through link k i j p q =
-    or-right (leads link k i j) (leads link k i k && leads link k k j)
-    (both-true (leads link k i k) (leads link k k j) p q)
+    or-inr (leads link k i j) (leads link k i k && leads link k k j)
+    (and-intro {a = leads link k i k} {b = leads link k k j} p q)
 
 -- a way through positions up to k goes round k or by way of it
 abbrev Ways : (ℕ → ℕ → Bool) → ℕ → ℕ → ℕ → Type 0
@@ -117,14 +91,14 @@ leads-on link (suc k) i m j h p q = go (eq-or-lt-of-le (le-of-suc-le-suc h)) (le
         → m < k → Ways link k i m → Ways link k m j → leads link (suc k) i j ≡ true
     parts rec l (inl a) (inl b) = leads-grows link k i j (rec i m j l a b)
     parts rec l (inl a) (inr b) =
-        through link k i j (rec i m k l a (and-first (leads link k m k) (leads link k k j) b))
-        (and-second (leads link k m k) (leads link k k j) b)
+        through link k i j (rec i m k l a (and-elim-left (leads link k m k) (leads link k k j) b))
+        (and-elim-right (leads link k m k) (leads link k k j) b)
     parts rec l (inr a) (inl b) =
-        through link k i j (and-first (leads link k i k) (leads link k k m) a)
-        (rec k m j l (and-second (leads link k i k) (leads link k k m) a) b)
+        through link k i j (and-elim-left (leads link k i k) (leads link k k m) a)
+        (rec k m j l (and-elim-right (leads link k i k) (leads link k k m) a) b)
     parts rec l (inr a) (inr b) =
-        through link k i j (and-first (leads link k i k) (leads link k k m) a)
-        (and-second (leads link k m k) (leads link k k j) b)
+        through link k i j (and-elim-left (leads link k i k) (leads link k k m) a)
+        (and-elim-right (leads link k m k) (leads link k k j) b)
 
     go : (m ≡ k) ⊎ (m < k)
         → ((i m j : ℕ) → m < k → leads link k i m ≡ true → leads link k m j ≡ true → leads link k i j ≡ true)
@@ -146,10 +120,10 @@ reaches-leads n link low (onward {i} {m} {j} e r) =
 pub linked-within : (n : ℕ) (pairs : List ℕ) → Within n (linked n pairs)
 unfolding linked
 linked-within n pairs i j e = (
-  ltb-true i n (and-first (ltb i n) (ltb j n && someOf (isPair i j) (paired pairs)) e),
+  ltb-true i n (and-elim-left (ltb i n) (ltb j n && someOf (isPair i j) (paired pairs)) e),
   ltb-true j n
-      (and-first (ltb j n) (someOf (isPair i j) (paired pairs))
-      (and-second (ltb i n) (ltb j n && someOf (isPair i j) (paired pairs)) e)),
+      (and-elim-left (ltb j n) (someOf (isPair i j) (paired pairs))
+      (and-elim-right (ltb i n) (ltb j n && someOf (isPair i j) (paired pairs)) e)),
 )
 
 -- ---- the cycle question
@@ -187,11 +161,11 @@ pub every-is : (test : Pair → Bool) (ps : List Pair)
     → every test ps ≡ true
 unfolding every someOf
 every-is test [] h = refl
-every-is test (p ∷ more) h = both-true (test p) (every test more)
+every-is test (p ∷ more) h = and-intro {a = test p} {b = every test more}
     (h (p .before) (p .after)
-    (or-left (isPair (p .before) (p .after) p) (someOf (isPair (p .before) (p .after)) more)
+    (or-inl (isPair (p .before) (p .after) p) (someOf (isPair (p .before) (p .after)) more)
     (is-pair (p .before) (p .after) (p .before) (p .after) refl refl)))
-    (every-is test more (λ b a t. h b a (or-right (isPair b a p) (someOf (isPair b a) more) t)))
+    (every-is test more (λ b a t. h b a (or-inr (isPair b a p) (someOf (isPair b a) more) t)))
 
 -- and what holds of all holds of each
 pub every-at : (test : Pair → Bool) (ps : List Pair) (b a : ℕ) → every test ps ≡ true → someOf (isPair b a) ps ≡ true
@@ -200,16 +174,16 @@ unfolding every someOf
 every-at test [] b a e t = absurd (true≢false (sym t))
 every-at test (p ∷ more) b a e t =
     go (or-cases (isPair b a p) (someOf (isPair b a) more) t)
-    (every-at test more b a (and-second (test p) (every test more) e))
+    (every-at test more b a (and-elim-right (test p) (every test more) e))
   where
     go : (isPair b a p ≡ true) ⊎ (someOf (isPair b a) more ≡ true)
         → (someOf (isPair b a) more ≡ true → test (record { before = b; after = a }) ≡ true)
         → test (record { before = b; after = a }) ≡ true
     go (inl i) rec =
-        let x : p .before ≡ b = eqb-true (p .before) b (and-first (eqb (p .before) b) (eqb (p .after) a) i) in
-        let y : p .after ≡ a = eqb-true (p .after) a (and-second (eqb (p .before) b) (eqb (p .after) a) i) in
+        let x : p .before ≡ b = eqb-true (p .before) b (and-elim-left (eqb (p .before) b) (eqb (p .after) a) i) in
+        let y : p .after ≡ a = eqb-true (p .after) a (and-elim-right (eqb (p .before) b) (eqb (p .after) a) i) in
         let q : p ≡ record { before = b; after = a } = λ j. record { before = x j; after = y j } in
-        ap test (sym q) ∙ and-first (test p) (every test more) e
+        ap test (sym q) ∙ and-elim-left (test p) (every test more) e
     go (inr s) rec = rec s
 
 -- below n a pair of the list is a link

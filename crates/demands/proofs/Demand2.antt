@@ -52,8 +52,8 @@ use Rattle.instance.specs.Search.{homeOn, candidatesOn, countOn, ownersOn, char
 use Rattle.tour.specs.Search.{startOn, endOn, tourOn, outcomeOn}
 use Rattle.tour.specs.Tour.{Left, tourOf}
 use Rattle.demands.specs.Demand2.{ownOn, Numbered, Sized, Rooted, Apart, Has, Paired, longOn, Measured, Terms}
-use Rattle.demands.specs.Demand2.{Leaves, Trials, begunOn, searchOn, Between, othersOn, passesOn, allOn, Making, Turns}
-use Rattle.demands.specs.Demand2.{Rows, Passes, Order, Same, Begins, Cut, Claim}
+use Rattle.demands.specs.Demand2.{Leaves, Trials, begunOn, searchOn, Between, othersOn, passesOn, allOn, Making}
+use Rattle.demands.specs.Demand2.{Turns, Rows, Passes, Order, Same, Begins, Cut, Claim}
 use Rattle.demands.proofs.AskedLaws.{toured-if, done-fine, fine-nothing}
 use Rattle.demands.proofs.NextLaws.{starts}
 use Rattle.tour_laws.proofs.TourLaws.{start-long, tour-long, tour-legal}

@@ -1,9 +1,10 @@
 -- Demand 2: on an accepted card the candidates, the table, the tour, the number of trials and the length are those of
 -- the search as it is defined; a move limit cuts that search after so many trials and changes nothing else; the length
 -- told is evaluated from the tour handed out; and square roots are IEEE 754's. tourOf is what `tour::tour` promises.
--- It shuts out a constant tour and the order of the file (Told .tour, with Starts and Order); a start never improved and
--- a search that idles after its first pass (Passes: the trials of every further pass are in the list; Cut: all of the
--- list is made); an invented number of moves (Told .moves, Cut); the running cost told (Told .rapid). Assumes nothing.
+-- It shuts out a constant tour and the order of the file (Told .tour, with Starts and Order); a start never improved
+-- and a search that idles after its first pass (Passes: the trials of every further pass are in the list; Cut: all of
+-- the list is made); an invented number of moves (Told .moves, Cut); the running cost told (Told .rapid). Assumes
+-- nothing.
 use mathlib.Core.Path.{_≡_}
 use mathlib.Core.Bool.{Bool, true, false}
 use mathlib.Core.Logic.{_⊎_, _↔_}

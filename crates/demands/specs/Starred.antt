@@ -1,7 +1,8 @@
 -- The starred cases of the scope document's section "Both sides of each edge", one table, each as whoever asks is
 -- answered: rootOf is what `root::root` promises, offeredOf what `candidates::contour_candidates` does,
 -- closestOnPolygonOf what `cost::closest_point_on_polygon`, checkOf `card::check`, tourOf `tour::tour` and listOf
--- `list::write_list`. A card is its bytes, `written` from what it says; floats are given by their bits. Assumes nothing.
+-- `list::write_list`. A card is its bytes, `written` from what it says; floats are given by their bits. Assumes
+-- nothing.
 use mathlib.Core.Path.{_≡_}
 use mathlib.Core.List.{List, [], _∷_, _++_}
 use Prim.Native.Nat.{ℕ, _*_, _≤_}

@@ -15,7 +15,7 @@ use lib.Seq.{take-append-le, drop-append-le}
 use Rattle.closure.specs.Limits.{CONTOURS}
 use Rattle.closure.specs.Pairs.{Pair, paired, both}
 use Rattle.closure.proofs.PairLaws.{same-or, pairAt, paired-more, paired-end}
-use Rattle.closure.proofs.PathLaws.{and-second}
+use mathlib.Mathlib.Data.Bool.Basic.{and-elim-right}
 use Rattle.answer.specs.Room.{padded}
 use Rattle.answer.proofs.RoomLaws.{padded-length}
 use Rattle.hierarchy.specs.Fill.{Filled}
@@ -31,7 +31,7 @@ pub both-yes : (n : ℕ) (p : Pair) → p .before < n → p .after < n → both 
 both-yes n p hb ha = rw (lt-ltb (p .before) n hb, lt-ltb (p .after) n ha)
 
 pub both-low : (n : ℕ) (p : Pair) → both n p ≡ true → p .after < n
-both-low n p t = ltb-true (p .after) n (and-second (ltb (p .before) n) (ltb (p .after) n) t)
+both-low n p t = ltb-true (p .after) n (and-elim-right (ltb (p .before) n) (ltb (p .after) n) t)
 
 module _ (b a n v : ℕ) (is : v ≡ b) where
   pub both-told : (w : ℕ) → w ≡ a → v < n → ltb w n ≡ both n (record { before = b; after = a })
@@ -253,7 +253,7 @@ module _ (n x : ℕ) (pairs : List ℕ) (at : ℕ) (s : Kahn) (w o : List ℕ) (
         arith,
         p,
         both-low n (pairAt pairs at)
-            (and-second (eqb (getD pairs at 0) x) (both n (pairAt pairs at)) (sym is ∙ t)),
+            (and-elim-right (eqb (getD pairs at 0) x) (both n (pairAt pairs at)) (sym is ∙ t)),
       )
 
 pub release-all : (n x : ℕ) (pairs : List ℕ) (at : ℕ) (s : Kahn) (w o : List ℕ) (k : ℕ) → length pairs ≤ at + 1 →

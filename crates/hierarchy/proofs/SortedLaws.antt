@@ -1,5 +1,6 @@
 -- The topological order is legal: what holds while its positions are taken. Assumes nothing.
 use mathlib.Core.Bool.{Bool, true, false, cond, not, _&&_, _||_, or-true, or-false, and-false}
+use mathlib.Mathlib.Data.Bool.Basic.{or-inl, or-inr, and-elim-left, and-elim-right, and-intro}
 use mathlib.Core.Path.{_≡_, refl, sym, ap, _∙_, subst, fun-ext}
 use mathlib.Core.Logic.{_⊎_, inl, inr, ⊎-elim, _↔_}
 use mathlib.Core.List.{List, [], _∷_, _++_, append-nil}
@@ -18,8 +19,8 @@ use Rattle.answer.specs.declared.Found.{Found}
 use Rattle.answer.specs.Lowest.{lowest}
 use Rattle.answer.proofs.LowestLaws.{LowestAt, Nowhere, at-is, absent-is, search-through}
 use Rattle.closure.proofs.PairLaws.{same-or, lt-or, is-pair}
-use Rattle.closure.proofs.PathLaws.{or-left, or-right, and-first, and-second, both-true, yes-or-no, every-at}
-use Rattle.closure.proofs.PathLaws.{true-false, linked-within, absent-exactly, linked-pair, pair-linked}
+use Rattle.answer.proofs.Truth.{yes-or-no, true-false}
+use Rattle.closure.proofs.PathLaws.{linked-within, absent-exactly, linked-pair, pair-linked, every-at}
 use Rattle.hierarchy.specs.Sort.{Kahn, heldBack, tallied, freeBelow, untaken, loosened, released, queueTaken}
 use Rattle.hierarchy.specs.Sort.{sortedBy}
 use Rattle.hierarchy.specs.Code.{firstTaken}
@@ -62,14 +63,14 @@ count-some test (p ∷ more) d = go (yes-or-no (test p)) (count-some test more)
         (test q ≡ true)
     go (inl y) rec = (
       p,
-      or-left (isPair (p .before) (p .after) p) (someOf (isPair (p .before) (p .after)) more)
+      or-inl (isPair (p .before) (p .after) p) (someOf (isPair (p .before) (p .after)) more)
           (is-pair (p .before) (p .after) (p .before) (p .after) refl refl),
       y,
     )
     go (inr y) rec =
         let f = rec (λ e. d (rw y (omega arith))) in (
           f .0,
-          or-right (isPair (f .0 .before) (f .0 .after) p) (someOf (isPair (f .0 .before) (f .0 .after)) more)
+          or-inr (isPair (f .0 .before) (f .0 .after) p) (someOf (isPair (f .0 .before) (f .0 .after)) more)
               (f .1),
           f .2,
         )
@@ -90,7 +91,7 @@ all-done n pairs done b a e l =
 
     still : done b ≡ false → holds n done a (record { before = b; after = a }) ≡ true
     still y = let r = linked-within n pairs b a l in
-        both-true (both n (record { before = b; after = a })) (eqb a a && not (done b))
+        and-intro {a = both n (record { before = b; after = a })} {b = eqb a a && not (done b)}
         (both-yes n (record { before = b; after = a }) (r .0) (r .1)) (rw (eq-eqb a a refl, y))
 
 -- a pair is from x to a
@@ -259,15 +260,15 @@ module _ (n : ℕ) (small : n ≤ CONTOURS) (pairs : List ℕ) (done : ℕ → B
 
     low : into < n
     unfolding into
-    low = both-low n p (and-second (eqb (p .before) x) (both n p) t)
+    low = both-low n p (and-elim-right (eqb (p .before) x) (both n p) t)
 
     this-goes : goes n x into p ≡ true
     unfolding into
     this-goes =
-        both-true (both n p) (eqb (p .after) (p .after) && eqb (p .before) x)
-        (and-second (eqb (p .before) x) (both n p) t)
-        (both-true (eqb (p .after) (p .after)) (eqb (p .before) x) (eq-eqb (p .after) (p .after) refl)
-        (and-first (eqb (p .before) x) (both n p) t))
+        and-intro {a = both n p} {b = eqb (p .after) (p .after) && eqb (p .before) x}
+        (and-elim-right (eqb (p .before) x) (both n p) t)
+        (and-intro {a = eqb (p .after) (p .after)} {b = eqb (p .before) x} (eq-eqb (p .after) (p .after) refl)
+        (and-elim-left (eqb (p .before) x) (both n p) t))
 
     other-goes : (a : ℕ) → (a ≡ into → ⊥) → goes n x a p ≡ false
     unfolding into
@@ -534,7 +535,7 @@ outer-first n small pairs = record {
         low = free .different .within p h
 
         zero' : getD w a 0 ≡ 0
-        zero' = eqb-true (getD w a 0) 0 (and-second (ltb a n) (eqb (getD w a 0) 0)
+        zero' = eqb-true (getD w a 0) 0 (and-elim-right (ltb a n) (eqb (getD w a 0) 0)
             (sym (free .listed a) ∙ met-is o (length o) a p h refl))
 
 -- ---- the whole order
@@ -563,8 +564,8 @@ module _ (n : ℕ) (small : n ≤ CONTOURS) (pairs : List ℕ) (free : Acyclic n
 
       never : (m : ℕ) × Least n (linked n pairs) (linked-within n pairs) free missing m → ⊥
       never (m, l) =
-          l .none (q .0 .before) low (and-second (eqb (q .0 .after) m) (missing (q .0 .before))
-          (and-second (both n (q .0)) (eqb (q .0 .after) m && missing (q .0 .before)) (q .2)))
+          l .none (q .0 .before) low (and-elim-right (eqb (q .0 .after) m) (missing (q .0 .before))
+          (and-elim-right (both n (q .0)) (eqb (q .0 .after) m && missing (q .0 .before)) (q .2)))
           (rw same at (linked-pair n pairs (q .0 .before) (q .0 .after) low (rw same (l .within)) (q .1)))
         where
           waits : getD (end .waits) m 0 ≡ 0 → ⊥
@@ -577,12 +578,12 @@ module _ (n : ℕ) (small : n ≤ CONTOURS) (pairs : List ℕ) (free : Acyclic n
               (λ e. waits (whole .mid .counts m (l .within) ∙ rw e (omega arith)))
 
           low : q .0 .before < n
-          low = ltb-true (q .0 .before) n (and-first (ltb (q .0 .before) n) (ltb (q .0 .after) n)
-              (and-first (both n (q .0)) (eqb (q .0 .after) m && missing (q .0 .before)) (q .2)))
+          low = ltb-true (q .0 .before) n (and-elim-left (ltb (q .0 .before) n) (ltb (q .0 .after) n)
+              (and-elim-left (both n (q .0)) (eqb (q .0 .after) m && missing (q .0 .before)) (q .2)))
 
           same : q .0 .after ≡ m
-          same = eqb-true (q .0 .after) m (and-first (eqb (q .0 .after) m) (missing (q .0 .before))
-              (and-second (both n (q .0)) (eqb (q .0 .after) m && missing (q .0 .before)) (q .2)))
+          same = eqb-true (q .0 .after) m (and-elim-left (eqb (q .0 .after) m) (missing (q .0 .before))
+              (and-elim-right (both n (q .0)) (eqb (q .0 .after) m && missing (q .0 .before)) (q .2)))
 
   full : length (end .queue) ≡ n
   full = omega (

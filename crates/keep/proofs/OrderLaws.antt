@@ -1,6 +1,7 @@
 -- Legal orders: none where a position reaches itself, one is always ready where none does, and `keepsPairs` says yes
 -- exactly to them. Assumes nothing.
 use mathlib.Core.Bool.{Bool, true, false, not, _||_, or-true}
+use mathlib.Mathlib.Data.Bool.Basic.{dichotomy, or-inr, and-elim-left}
 use mathlib.Core.Path.{_≡_, refl, sym, ap, _∙_}
 use mathlib.Core.Logic.{⊎-elim, _↔_}
 use mathlib.Core.List.{List, [], _∷_}
@@ -14,7 +15,7 @@ use lib.ListN.{length, getD}
 use Rattle.closure.specs.Pairs.{paired, every, someOf, isPair, both}
 use Rattle.closure.specs.Cycle.{linked, Reaches, step, onward, Acyclic}
 use Rattle.closure.proofs.PairLaws.{same-or, lt-or}
-use Rattle.closure.proofs.PathLaws.{or-right, and-first, yes-or-no, linked-within, every-is, every-at, linked-pair}
+use Rattle.closure.proofs.PathLaws.{linked-within, every-is, every-at, linked-pair}
 use Rattle.closure.proofs.PathLaws.{pair-linked}
 use Rattle.keep.specs.Keep.{lastRank, keptAt, keptIn, keepsPairs, readyBy, readyIn}
 use Rattle.keep.specs.Legal.{EachOnce, Legal}
@@ -79,13 +80,13 @@ one-ready n visited pairs free low k h e =
             → readyBy visited m (record { before = b; after = a }) ≡ true
         test b a t = ⊎-elim
             (λ (x : a ≡ m). ⊎-elim
+            (λ (y : waiting b ≡ false). rw (y) (or-true (not (eqb a m))))
             (λ (y : waiting b ≡ true). absurd (l .none b below y
-            (linked-pair n pairs b m below (l .within) (rw x at t))))
-            (λ (y : waiting b ≡ false). rw (y) (or-true (not (eqb a m)))) (yes-or-no (waiting b)))
+            (linked-pair n pairs b m below (l .within) (rw x at t)))) (dichotomy (waiting b)))
             (λ (d : a ≡ m → ⊥). rw (ne-eqb a m d)) (same-or a m)
           where
             below : b < n
-            below = ltb-true b n (and-first (ltb b n) (ltb a n) (every-at (both n) (paired pairs) b a low t))
+            below = ltb-true b n (and-elim-left (ltb b n) (ltb a n) (every-at (both n) (paired pairs) b a low t))
 
 -- ---- the last rank of an id
 
@@ -155,8 +156,8 @@ module _ (n : ℕ) (order : List ℕ) (each : EachOnce n order) where
               legal .before (f .0) (g .0) (f .1) (g .1) (rw (f .2, g .2) (linked-pair n pairs b a hb ha t)) in
               let x : lastRank order b ≡ suc (f .0) = ap (lastRank order) (sym (f .2)) ∙ rank-last (f .0) (f .1) in
               let y : lastRank order a ≡ suc (g .0) = ap (lastRank order) (sym (g .2)) ∙ rank-last (g .0) (g .1) in
-              rw (x, y) (or-right (eqb (suc (f .0)) 0) (eqb (suc (g .0)) 0 || ltb (suc (f .0)) (suc (g .0)))
-              (or-right (eqb (suc (g .0)) 0) (ltb (suc (f .0)) (suc (g .0)))
+              rw (x, y) (or-inr (eqb (suc (f .0)) 0) (eqb (suc (g .0)) 0 || ltb (suc (f .0)) (suc (g .0)))
+              (or-inr (eqb (suc (g .0)) 0) (ltb (suc (f .0)) (suc (g .0)))
               (lt-ltb (suc (f .0)) (suc (g .0)) (omega arith))))
 
   pub keeps-exactly : (pairs : List ℕ) → (keepsPairs order pairs ≡ true) ↔ Legal n pairs order

@@ -1,5 +1,5 @@
 -- The code's flags and the contours visited say the same. Assumes nothing.
-use mathlib.Core.Bool.{Bool, true, false, not, _&&_, _||_}
+use mathlib.Core.Bool.{Bool, not, _&&_, _||_, or-assoc, or-true, or-false, Bool·not-not}
 use mathlib.Core.List.{List, [], _∷_, _++_}
 use mathlib.Core.Logic.{_⊎_, inl, inr}
 use mathlib.Core.Path.{_≡_, refl, sym, ap, _∙_}
@@ -26,22 +26,10 @@ flags-none size = record { says = λ k. rw (none-marked size k) }
 
 -- ---- one contour more
 
-or-assoc : (a b c : Bool) → (a || (b || c)) ≡ ((a || b) || c)
-or-assoc true b c = refl
-or-assoc false b c = refl
-
-or-true : (a : Bool) → (a || true) ≡ true
-or-true true = refl
-or-true false = refl
-
-or-none : (a : Bool) → (a || false) ≡ a
-or-none true = refl
-or-none false = refl
-
 in-more : (x k : ℕ) (l : List ℕ) → isIn x (l ++ (k ∷ [])) ≡ (isIn x l || eqb k x)
 unfolding isIn
-in-more x k [] = or-none (eqb k x)
-in-more x k (y ∷ l) = ap (λ (b : Bool). eqb y x || b) (in-more x k l) ∙ or-assoc (eqb y x) (isIn x l) (eqb k x)
+in-more x k [] = or-false (eqb k x)
+in-more x k (y ∷ l) = ap (λ (b : Bool). eqb y x || b) (in-more x k l) ∙ sym (or-assoc (eqb y x) (isIn x l) (eqb k x))
 
 -- its flag is set
 pub flags-more : (flags visited : List ℕ) (k : ℕ) → k < length flags → Flags flags visited
@@ -56,22 +44,18 @@ flags-more flags visited k h f = record { says = λ x. go x (same-or x k) }
           in-more x k visited,
           getD-set-other flags k x 1 0 d,
           ne-eqb k x (λ z. d (sym z)),
-          or-none
+          or-false
               (isIn x visited),
         ) (f .says x)
 
 -- ---- open
-
-not-not : (b : Bool) → not (not b) ≡ b
-not-not true = refl
-not-not false = refl
 
 module _ (flags : List ℕ) (w : Way) (f : Flags flags (w .visited)) (k : ℕ) where
   clears-is : (p : Pair) → clears w k p ≡ readyBy flags k p
   unfolding readyBy
   clears-is p =
       ap (λ (b : Bool). not (eqb (p .after) k) || b)
-      (sym (ap not (f .says (p .before)) ∙ not-not (isIn (p .before) (w .visited))))
+      (sym (ap not (f .says (p .before)) ∙ Bool·not-not (isIn (p .before) (w .visited))))
 
   every-is : (ps : List Pair) → every (clears w k) ps ≡ every (readyBy flags k) ps
   unfolding every

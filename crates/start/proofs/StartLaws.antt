@@ -3,6 +3,7 @@
 use mathlib.Core.Bool.{Bool, true, false, not, true≢false, _&&_, _||_}
 use mathlib.Core.List.{List, [], _∷_, _++_, map}
 use mathlib.Core.Logic.{_⊎_, ⊎-elim}
+use mathlib.Mathlib.Data.Bool.Basic.{and-elim-left}
 use mathlib.Core.Path.{_≡_, refl, sym, ap, subst, _∙_}
 use Prim.Native.Nat.{ℕ, zero, suc, _+_, _-_, _≤_, _<_}
 use native.Mathlib.Nat.{eq-or-lt-of-le, le-of-suc-le-suc, add-zero, zero-add, add-suc, suc-add}
@@ -13,7 +14,7 @@ use lib.Ieee.{lt}
 use lib.ListN.{length, getD, set, replicate, length-append, length-map, length-set, length-replicate, List·getD-append}
 use lib.Seq.{getD-at, getD-set-same, getD-set-other, ext-getD}
 use Rattle.closure.proofs.PairLaws.{same-or}
-use Rattle.closure.proofs.PathLaws.{and-first, every-at, pair-linked}
+use Rattle.closure.proofs.PathLaws.{every-at, pair-linked}
 use Rattle.closure.specs.Cycle.{linked, Acyclic}
 use Rattle.closure.specs.Limits.{CONTOURS}
 use Rattle.closure.specs.Pairs.{paired, every, both}
@@ -86,7 +87,7 @@ module _ (flags : List ℕ) (g : Ground) (w : Way) (f : Flags flags (w .visited)
   open-unvisited : isOpen g w k ≡ true → getD flags k 0 ≡ 0
   open-unvisited e =
       eqb-true (getD flags k 0) 0
-      (and-first (eqb (getD flags k 0) 0) (readyIn flags (g .pairs) k) (sym (open-is flags w f k g) ∙ e))
+      (and-elim-left (eqb (getD flags k 0) 0) (readyIn flags (g .pairs) k) (sym (open-is flags w f k g) ∙ e))
 
   open-ready : isOpen g w k ≡ true → readyIn flags (g .pairs) k ≡ true
   open-ready e = go (eqb (getD flags k 0) 0) (sym (open-is flags w f k g) ∙ e)

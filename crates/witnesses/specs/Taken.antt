@@ -1,6 +1,6 @@
 -- A card on which the search of demand 2 accepts trials of both kinds, and still does in its second pass, so that its
--- tour is another than its start; the same card with a limit that cuts inside that pass; and a card where a pair forbids
--- a shorter tour. Assumes nothing.
+-- tour is another than its start; the same card with a limit that cuts inside that pass; and a card where a pair
+-- forbids a shorter tour. Assumes nothing.
 use mathlib.Core.Path.{_≡_}
 use mathlib.Core.Bool.{true, false}
 use mathlib.Core.List.{List, [], _∷_}
