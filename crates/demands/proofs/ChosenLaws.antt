@@ -1,15 +1,16 @@
 -- The start's choice is the nearest candidate offered, and of equally near ones the first. Assumes nothing.
-use mathlib.Core.Bool.{Bool, true, false, cond, true≢false, _&&_, _||_}
+use mathlib.Core.Bool.{Bool, true, false, cond, true≢false}
 use mathlib.Core.Logic.{_⊎_, inl, inr}
 use mathlib.Core.Path.{_≡_, refl, sym, ap, _∙_, subst}
 use Prim.Native.Nat.{ℕ, zero, suc, _+_, _-_, _*_, _≤_, _<_}
 use native.Mathlib.Nat.{zero-add, add-zero, add-suc, suc-add}
 use native.Mathlib.Omega.{arith}
-use borrow.Author.Tests.{lt-ltb, le-ltb, ltb-true, ltb-false, eq-eqb, eqb-true}
+use borrow.Author.Tests.{ltb-true, ltb-false}
 use lib.Dec.{T, ltb, eqb}
 use lib.Ieee.{Float, nan, inf, fin, lt, le, eq, up, down, ofBits, ofFields, odd}
 use lib.ListN.{getD}
-use Rattle.closure.proofs.PairLaws.{lt-or, same-or}
+use Rattle.root.proofs.AtMost.{at-most, tested}
+use Rattle.closure.proofs.PairLaws.{same-or}
 use Rattle.improve.proofs.FloatOrder.{le-trans-float, lt→le}
 use Rattle.table.specs.Each.{each}
 use Rattle.start.specs.Nearest.{Ground, Way, reachOf, nothingYet, closer, offer, offered, isOpen, considered, chosen}
@@ -22,21 +23,6 @@ Real nan = ⊥
 Real (inf s) = ⊥
 Real (fin s m e) = s ≡ false
 
-at-most : (a b : ℕ) → a ≤ b → T (ltb a b || (eqb a b && true))
-at-most a b h = go (lt-or a b)
-  where
-    go : (a < b) ⊎ (b ≤ a) → T (ltb a b || (eqb a b && true))
-    go (inl l) = rw (lt-ltb a b l) tt
-    go (inr g) = rw (le-ltb a b g, eq-eqb a b (omega arith)) tt
-
-most-at : (a b : ℕ) → T (ltb a b || (eqb a b && true)) → a ≤ b
-most-at a b t = go (ltb a b) refl (eqb a b) refl t
-  where
-    go : (c : Bool) → ltb a b ≡ c → (d : Bool) → eqb a b ≡ d → T (c || (d && true)) → a ≤ b
-    go true e d f k = let l = ltb-true a b e in omega arith
-    go false e true f k = let q = eqb-true a b f in omega arith
-    go false e false f k = absurd k
-
 not-nearer : (x y : Float) → Real x → Real y → lt x y ≡ false → T (le y x)
 unfolding lt le eq
 not-nearer nan y p q h = absurd p
@@ -46,7 +32,7 @@ not-nearer (fin false m e) nan p q h = absurd q
 not-nearer (fin false m e) (inf t) p q h = absurd q
 not-nearer (fin false m e) (fin true n d) p q h = absurd (true≢false q)
 not-nearer (fin false m e) (fin false n d) p q h =
-    at-most (n * up d * down e) (m * up e * down d) (ltb-false (m * up e * down d) (n * up d * down e) h)
+    tested false (n * up d * down e) false (m * up e * down d) (ltb-false (m * up e * down d) (n * up d * down e) h)
 
 nearer-not : (x y : Float) → Real x → Real y → lt x y ≡ true → T (le y x) → ⊥
 unfolding lt le eq
@@ -58,7 +44,7 @@ nearer-not (fin false m e) (inf t) p q h k = q
 nearer-not (fin false m e) (fin true n d) p q h k = true≢false q
 nearer-not (fin false m e) (fin false n d) p q h k =
     let l = ltb-true (m * up e * down d) (n * up d * down e) h in
-    let g = most-at (n * up d * down e) (m * up e * down d) k in
+    let g = at-most false (n * up d * down e) false (m * up e * down d) k in
     omega arith
 
 self : (x : Float) → Real x → T (le x x)
@@ -66,7 +52,7 @@ unfolding lt le eq
 self nan p = absurd p
 self (inf s) p = absurd p
 self (fin true m e) p = absurd (true≢false p)
-self (fin false m e) p = at-most (m * up e * down e) (m * up e * down e) (omega arith)
+self (fin false m e) p = tested false (m * up e * down e) false (m * up e * down e) (omega arith)
 
 -- ---- the best of those offered
 

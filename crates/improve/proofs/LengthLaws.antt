@@ -2,6 +2,7 @@
 -- over a search, since an accepted tour is shorter than what was accepted before, and a tour given back was held
 -- before. Assumes nothing.
 use mathlib.Core.Bool.{Bool, true, false, cond, _&&_}
+use mathlib.Mathlib.Data.Bool.Basic.{and-elim-left}
 use mathlib.Core.List.{List, [], _∷_}
 use mathlib.Core.Path.{_≡_, refl, sym, subst}
 use Prim.Native.Nat.{ℕ}
@@ -76,10 +77,6 @@ module _ (chart : Chart) (limit n : ℕ) (L : Float) (home : HomeFits (chart .ho
       → NoLonger chart L (record { tour = tour; cost = s .cost; better = s .better; moves = s .moves; cut = s .cut })
   with-tour s tour w h = record { counts = w .counts; held = h; fit = w .fit }
 
-  first-of : (a b : Bool) → (a && b) ≡ true → a ≡ true
-  first-of true b e = refl
-  first-of false b e = e
-
   back-again : (accepted : Bool) (tour : List ℕ) (p held a : ℕ)
       → set (cond accepted (set tour p a) (set tour p held)) p held ≡ set tour p held
   back-again true tour p held a = set-set tour p a held
@@ -103,7 +100,7 @@ module _ (chart : Chart) (limit n : ℕ) (L : Float) (home : HomeFits (chart .ho
     flips = λ i j s h g m w.
         let new = reversed i j (s .tour) in
         judged-no-longer (shorter (lengthIn chart new) (s .cost) && legal chart new) new (s .tour) s
-        (λ e. first-of _ _ e) w (w .held);
+        (λ e. and-elim-left _ _ e) w (w .held);
   }
 
 -- the tour handed back evaluates to no more than the one handed in, where that evaluates to a number

@@ -57,10 +57,9 @@ fn try_candidate(
     cost: f64,
 ) -> Tried
     requires { do ⌜ p < (← ⟦tour.len()⟧) ⌝ }
-    ensures { λ r. ⌜ Judged (shorter (lengthOf (now (home .entry)) (now (table .entry)) t (set (now (tour .entry)) p a)) cost)
-        (set (now (tour .entry)) p a)
-        (lengthOf (now (home .entry)) (now (table .entry)) t (set (now (tour .entry)) p a))
-        (givenBack p held (now (tour .entry))) cost r (now (tour .exit)) ⌝ }
+    ensures { λ r. let new = set (now (tour .entry)) p a in
+        let length = lengthOf (now (home .entry)) (now (table .entry)) t new in
+        ⌜ Judged (shorter length cost) new length (givenBack p held (now (tour .entry))) cost r (now (tour .exit)) ⌝ }
 {
     tour[p] = a;
     let length = table::evaluate_solution(home, table, t, tour);
@@ -260,9 +259,9 @@ fn weigh(
     cost: f64,
 ) -> Tried
     requires { do ⌜ (← ⟦tour.len()⟧) ≤ CONTOURS ⌝ }
-    ensures { λ r. ⌜ Taken (shorter (lengthOf (now (home .entry)) (now (table .entry)) t (now (tour .entry))) cost
-        && keepsPairs (contours (now (owner .entry)) (now (tour .entry))) (now (pairs .entry)))
-        (lengthOf (now (home .entry)) (now (table .entry)) t (now (tour .entry))) cost r ⌝ }
+    ensures { λ r. let length = lengthOf (now (home .entry)) (now (table .entry)) t (now (tour .entry)) in
+        ⌜ Taken (shorter length cost && keepsPairs (contours (now (owner .entry)) (now (tour .entry))) (now (pairs .entry)))
+            length cost r ⌝ }
 {
     let length = table::evaluate_solution(home, table, t, tour);
     if is_shorter(length, cost) {
@@ -298,11 +297,10 @@ fn try_reversal(
     requires { do ⌜ (← ⟦tour.len()⟧) ≤ CONTOURS ⌝ }
     requires { do ⌜ j < (← ⟦tour.len()⟧) ⌝ }
     requires { ⌜ i < j ⌝ }
-    ensures { λ r. ⌜ Judged (shorter (lengthOf (now (home .entry)) (now (table .entry)) t (reversed i j (now (tour .entry)))) cost
-        && keepsPairs (contours (now (owner .entry)) (reversed i j (now (tour .entry)))) (now (pairs .entry)))
-        (reversed i j (now (tour .entry)))
-        (lengthOf (now (home .entry)) (now (table .entry)) t (reversed i j (now (tour .entry))))
-        (now (tour .entry)) cost r (now (tour .exit)) ⌝ }
+    ensures { λ r. let new = reversed i j (now (tour .entry)) in
+        let length = lengthOf (now (home .entry)) (now (table .entry)) t new in
+        ⌜ Judged (shorter length cost && keepsPairs (contours (now (owner .entry)) new) (now (pairs .entry))) new length
+            (now (tour .entry)) cost r (now (tour .exit)) ⌝ }
 {
     let from = i + 1;
     let to = j + 1;
@@ -331,8 +329,8 @@ fn run(
     requires { do ⌜ (← ⟦tour.len()⟧) ≤ CONTOURS ⌝ }
     ensures { λ r. do
       n ← ⟦tour.len()⟧ .entry
-      ⌜ Reached r (now (tour .exit)) (repeated (chartOf (now (home .entry)) (now (table .entry)) t (now (owner .entry)) (now (first .entry)) (now (pairs .entry))) limit n passes
-          (begun (chartOf (now (home .entry)) (now (table .entry)) t (now (owner .entry)) (now (first .entry)) (now (pairs .entry))) (now (tour .entry)))) ⌝ }
+      let chart = chartOf (now (home .entry)) (now (table .entry)) t (now (owner .entry)) (now (first .entry)) (now (pairs .entry)) in
+        ⌜ Reached r (now (tour .exit)) (repeated chart limit n passes (begun chart (now (tour .entry)))) ⌝ }
 {
     let n = tour.len();
     let mut cost = table::evaluate_solution(home, table, t, tour);
