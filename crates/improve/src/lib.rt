@@ -261,7 +261,7 @@ fn weigh(
     requires { do ⌜ (← ⟦tour.len()⟧) ≤ CONTOURS ⌝ }
     ensures { λ r. let length = lengthOf (now (home .entry)) (now (table .entry)) t (now (tour .entry)) in
         ⌜ Taken (shorter length cost && keepsPairs (contours (now (owner .entry)) (now (tour .entry))) (now (pairs .entry)))
-            length cost r ⌝ }
+        length cost r ⌝ }
 {
     let length = table::evaluate_solution(home, table, t, tour);
     if is_shorter(length, cost) {
@@ -300,7 +300,7 @@ fn try_reversal(
     ensures { λ r. let new = reversed i j (now (tour .entry)) in
         let length = lengthOf (now (home .entry)) (now (table .entry)) t new in
         ⌜ Judged (shorter length cost && keepsPairs (contours (now (owner .entry)) new) (now (pairs .entry))) new length
-            (now (tour .entry)) cost r (now (tour .exit)) ⌝ }
+        (now (tour .entry)) cost r (now (tour .exit)) ⌝ }
 {
     let from = i + 1;
     let to = j + 1;
@@ -330,7 +330,7 @@ fn run(
     ensures { λ r. do
       n ← ⟦tour.len()⟧ .entry
       let chart = chartOf (now (home .entry)) (now (table .entry)) t (now (owner .entry)) (now (first .entry)) (now (pairs .entry)) in
-        ⌜ Reached r (now (tour .exit)) (repeated chart limit n passes (begun chart (now (tour .entry)))) ⌝ }
+          ⌜ Reached r (now (tour .exit)) (repeated chart limit n passes (begun chart (now (tour .entry)))) ⌝ }
 {
     let n = tour.len();
     let mut cost = table::evaluate_solution(home, table, t, tour);
