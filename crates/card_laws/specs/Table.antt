@@ -1,6 +1,6 @@
 -- When a card goes back, in the words of the table: a row holds at a place, and of several rows the first is given. The
--- rows name fields and numbers only and compute nothing; the verdict that does is said to be this one in `Exactly`.
--- Assumes nothing.
+-- rows name fields and numbers and, but for a block's sum and the test of a coordinate, compute nothing; the verdict that
+-- does is said to be this one in `Exactly`. Assumes nothing.
 use mathlib.Core.Path.{_≡_}
 use mathlib.Core.Logic.{_⊎_}
 use mathlib.Core.Bool.{true}

@@ -1,17 +1,17 @@
 -- Each contract of the doors comes to its definition. Assumes nothing.
 use mathlib.Core.Path.{ap, refl}
-use Rattle.contracts.proofs.Laws.{same, _&_, told, lent}
+use Rattle.contracts.proofs.Laws.{same, _&_, told, lent, alike}
 use Rattle.contracts.specs.Doors.{OfQuestions, OfTour, OfList, OfHost, Claim}
 
 of-questions : OfQuestions
 of-questions = record {
-  order-check = told _ (λ κs a u v. refl) (λ κs a x p. p);
-  evaluate = told _ (λ κs a u v. refl) (λ κs a x p. p);
-  solve-nn = told _ (λ κs a u v. refl) (λ κs a x p. p);
-  candidate = told _ (λ κs a u v. refl) (λ κs a x p. p);
-  locate = told _ (λ κs a u v. refl) (λ κs a x p. p);
-  global-to-local = told _ (λ κs a u v. refl) (λ κs a x p. p);
-  local-to-global = told _ (λ κs a u v. refl) (λ κs a x p. p);
+  order-check = told _ (λ κs a u v. refl) (λ κs a x. alike);
+  evaluate = told _ (λ κs a u v. refl) (λ κs a x. alike);
+  solve-nn = told _ (λ κs a u v. refl) (λ κs a x. alike);
+  candidate = told _ (λ κs a u v. refl) (λ κs a x. alike);
+  locate = told _ (λ κs a u v. refl) (λ κs a x. alike);
+  global-to-local = told _ (λ κs a u v. refl) (λ κs a x. alike);
+  local-to-global = told _ (λ κs a u v. refl) (λ κs a x. alike);
 }
 
 of-tour : OfTour
@@ -19,27 +19,27 @@ of-tour = record {
   tour = lent
       (λ κs a x y p q. ap (λ z. z .answer) (same p q) & refl & ap (λ z. z .room) (same p q) &
       ap (λ z. z .table) (same p q) & refl)
-      (λ κs a x p. p);
-  bits-of = told _ (λ κs a u v. refl) (λ κs a x p. p);
+      (λ κs a x. alike);
+  bits-of = told _ (λ κs a u v. refl) (λ κs a x. alike);
 }
 
 of-list : OfList
 of-list = record {
-  write-list = lent (λ κs a x y p q. same (p .1) (q .1) & refl & same (p .0) (q .0) & refl) (λ κs a x p. p);
-  show-card = lent (λ κs a x y p q. refl) (λ κs a x p. p);
+  write-list = lent (λ κs a x y p q. same (p .1) (q .1) & refl & same (p .0) (q .0) & refl) (λ κs a x. alike);
+  show-card = lent (λ κs a x y p q. refl) (λ κs a x. alike);
 }
 
 of-host : OfHost
 of-host = record {
-  jl-check = told _ (λ κs a u v. refl) (λ κs a x p. p);
+  jl-check = told _ (λ κs a u v. refl) (λ κs a x. alike);
   jl-tour = lent
       (λ κs a x y p q. ap (λ z. z .answer) (same p q) & refl & ap (λ z. z .room) (same p q) &
       ap (λ z. z .moves) (same p q) & ap (λ z. z .bits) (same p q) & refl)
-      (λ κs a x p. p);
+      (λ κs a x. alike);
   jl-place = lent
       (λ κs a x y p q. ap (λ z. z .answer) (same p q) & refl & refl & ap (λ z. z .contour) (same p q) &
       ap (λ z. z .within) (same p q) & refl)
-      (λ κs a x p. p);
+      (λ κs a x. alike);
 }
 
 pub claim : Claim

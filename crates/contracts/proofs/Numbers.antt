@@ -1,35 +1,35 @@
 -- Each contract of `root`, `points` and `cost` comes to its definition. Assumes nothing.
 use mathlib.Core.Path.{refl}
-use Rattle.contracts.proofs.Laws.{told}
+use Rattle.contracts.proofs.Laws.{told, alike}
 use Rattle.contracts.specs.Numbers.{OfRoot, OfPoints, OfCost, Claim}
 
 of-root : OfRoot
 of-root = record {
-  sqrt = told _ (λ κs a u v. refl) (λ κs a x p. p);
-  root = told _ (λ κs a u v. refl) (λ κs a x p. p);
+  sqrt = told _ (λ κs a u v. refl) (λ κs a x. alike);
+  root = told _ (λ κs a u v. refl) (λ κs a x. alike);
 }
 
 of-points : OfPoints
 of-points = record {
-  bad-number = told _ (λ κs a u v. refl) (λ κs a x p. p);
-  bad-point = told _ (λ κs a u v. refl) (λ κs a x p. p);
-  point-at = told _ (λ κs a u v. refl) (λ κs a x p. p);
-  edge-at = told _ (λ κs a u v. refl) (λ κs a x p. p);
-  first-bad = told _ (λ κs a u v. refl) (λ κs a x p. p);
-  distance-sq = told _ (λ κs a u v. refl) (λ κs a x p. p);
-  distance = told _ (λ κs a u v. refl) (λ κs a x p. p);
-  along = told _ (λ κs a u v. refl) (λ κs a x p. p);
+  bad-number = told _ (λ κs a u v. refl) (λ κs a x. alike);
+  bad-point = told _ (λ κs a u v. refl) (λ κs a x. alike);
+  point-at = told _ (λ κs a u v. refl) (λ κs a x. alike);
+  edge-at = told _ (λ κs a u v. refl) (λ κs a x. alike);
+  first-bad = told _ (λ κs a u v. refl) (λ κs a x. alike);
+  distance-sq = told _ (λ κs a u v. refl) (λ κs a x. alike);
+  distance = told _ (λ κs a u v. refl) (λ κs a x. alike);
+  along = told _ (λ κs a u v. refl) (λ κs a x. alike);
 }
 
 of-cost : OfCost
 of-cost = record {
-  point-distance-sq = told _ (λ κs a u v. refl) (λ κs a x p. p);
-  point-distance = told _ (λ κs a u v. refl) (λ κs a x p. p);
-  closest-to = told _ (λ κs a u v. refl) (λ κs a x p. p);
-  closest-point-on-polygon = told _ (λ κs a u v. refl) (λ κs a x p. p);
-  rapid-distance = told _ (λ κs a u v. refl) (λ κs a x p. p);
-  total-rapid-distance = told _ (λ κs a u v. refl) (λ κs a x p. p);
-  sequence-cost = told _ (λ κs a u v. refl) (λ κs a x p. p);
+  point-distance-sq = told _ (λ κs a u v. refl) (λ κs a x. alike);
+  point-distance = told _ (λ κs a u v. refl) (λ κs a x. alike);
+  closest-to = told _ (λ κs a u v. refl) (λ κs a x. alike);
+  closest-point-on-polygon = told _ (λ κs a u v. refl) (λ κs a x. alike);
+  rapid-distance = told _ (λ κs a u v. refl) (λ κs a x. alike);
+  total-rapid-distance = told _ (λ κs a u v. refl) (λ κs a x. alike);
+  sequence-cost = told _ (λ κs a u v. refl) (λ κs a x. alike);
 }
 
 pub claim : Claim

@@ -1,26 +1,26 @@
 -- Each contract of the search's crates comes to its definition. Assumes nothing.
 use mathlib.Core.Path.{refl}
-use Rattle.contracts.proofs.Laws.{same, _&_, told, lent}
+use Rattle.contracts.proofs.Laws.{same, _&_, told, lent, alike}
 use Rattle.contracts.specs.Search.{OfCandidates, OfTable, OfStart, OfImprove, OfInstance, OfSolve, Claim}
 
 of-candidates : OfCandidates
 of-candidates = record {
-  determine-direction = told _ (λ κs a u v. refl) (λ κs a x p. p);
-  perimeter = told _ (λ κs a u v. refl) (λ κs a x p. p);
-  spot-at = told _ (λ κs a u v. refl) (λ κs a x p. p);
-  candidates-of = told _ (λ κs a u v. refl) (λ κs a x p. p);
-  contour-candidates = told _ (λ κs a u v. refl) (λ κs a x p. p);
+  determine-direction = told _ (λ κs a u v. refl) (λ κs a x. alike);
+  perimeter = told _ (λ κs a u v. refl) (λ κs a x. alike);
+  spot-at = told _ (λ κs a u v. refl) (λ κs a x. alike);
+  candidates-of = told _ (λ κs a u v. refl) (λ κs a x. alike);
+  contour-candidates = told _ (λ κs a u v. refl) (λ κs a x. alike);
 }
 
 of-table : OfTable
 of-table = record {
-  float-at = told _ (λ κs a u v. refl) (λ κs a x p. p);
-  byte-at = told _ (λ κs a u v. refl) (λ κs a x p. p);
-  home-at = told _ (λ κs a u v. refl) (λ κs a x p. p);
-  distance-at = told _ (λ κs a u v. refl) (λ κs a x p. p);
-  evaluate-solution = told _ (λ κs a u v. refl) (λ κs a x p. p);
-  fill-table = lent (λ κs a x y p q. refl & same p q & refl) (λ κs a x p. p);
-  fill-home = lent (λ κs a x y p q. refl & same p q & refl) (λ κs a x p. p);
+  float-at = told _ (λ κs a u v. refl) (λ κs a x. alike);
+  byte-at = told _ (λ κs a u v. refl) (λ κs a x. alike);
+  home-at = told _ (λ κs a u v. refl) (λ κs a x. alike);
+  distance-at = told _ (λ κs a u v. refl) (λ κs a x. alike);
+  evaluate-solution = told _ (λ κs a u v. refl) (λ κs a x. alike);
+  fill-table = lent (λ κs a x y p q. refl & same p q & refl) (λ κs a x. alike);
+  fill-home = lent (λ κs a x y p q. refl & same p q & refl) (λ κs a x. alike);
 }
 
 of-start : OfStart
@@ -28,10 +28,10 @@ of-start = record {
   nn-constrained = lent
       (λ κs a x y p q. same (p .counted) (q .counted) & refl & refl & refl & refl & refl & same (p .held) (q .held) &
       refl)
-      (λ κs a x p. p);
+      (λ κs a x. alike);
   solve-nn = lent
       (λ κs a x y p q. same (p .counted) (q .counted) & refl & refl & refl & refl & same (p .held) (q .held) & refl)
-      (λ κs a x p. p);
+      (λ κs a x. alike);
 }
 
 of-improve : OfImprove
@@ -39,13 +39,13 @@ of-improve = record {
   improve = lent
       (λ κs a x y p q. same (p .counted) (q .counted) & refl & refl & refl & refl & refl & refl &
       same (p .held) (q .held) & refl)
-      (λ κs a x p. p);
+      (λ κs a x. alike);
 }
 
 of-instance : OfInstance
 of-instance = record {
-  gather = told _ (λ κs a u v. refl) (λ κs a x p. p);
-  prepare = told _ (λ κs a u v. refl) (λ κs a x p. p);
+  gather = told _ (λ κs a u v. refl) (λ κs a x. alike);
+  prepare = told _ (λ κs a u v. refl) (λ κs a x. alike);
 }
 
 of-solve : OfSolve
@@ -53,7 +53,7 @@ of-solve = record {
   solve-constrained = lent
       (λ κs a x y p q. same (p .told) (q .told) & refl & refl & refl & refl & refl & refl & same (p .held) (q .held) &
       refl)
-      (λ κs a x p. p);
+      (λ κs a x. alike);
 }
 
 pub claim : Claim

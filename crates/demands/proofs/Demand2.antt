@@ -4,7 +4,7 @@ use mathlib.Core.Logic.{_⊎_, inl, inr}
 use mathlib.Core.Bool.{Bool, true, false, and-false}
 use mathlib.Core.List.{List, [], _∷_, _++_}
 use Prim.Native.Nat.{ℕ, zero, suc, _+_, _*_, _-_, _≤_, _<_}
-use native.Mathlib.Nat.{sub-zero, min-eq-left}
+use native.Mathlib.Nat.{sub-zero, min-eq-left, not-suc-le-zero, le-of-suc-le-suc}
 use native.Mathlib.Omega.{arith}
 use borrow.Author.Tests.{lt-ltb, le-leb, lt-leb, eq-eqb, ne-eqb}
 use lib.Dec.{ltb}
@@ -17,7 +17,10 @@ use Rattle.bytes.specs.Bytes.{rev}
 use Rattle.answer.specs.declared.Point.{Point}
 use Rattle.answer.specs.declared.Check.the-variants.{Fine}
 use Rattle.candidates.specs.declared.Candidate.{Candidate}
-use Rattle.candidates.specs.Generate.{candidatesOf}
+use Rattle.answer.specs.declared.CutDirection.{CutDirection}
+use Rattle.card_laws.specs.Table.{Has}
+use Rattle.candidates.specs.Generate.{candidatesOf, blank}
+use Rattle.candidates.proofs.CountLaws.{Closed, each-closed}
 use Rattle.closure.specs.Limits.{CONTOURS}
 use Rattle.closure.proofs.PairLaws.{same-or}
 use Rattle.keep.proofs.OrderLaws.{keeps-exactly}
@@ -31,29 +34,30 @@ use Rattle.card.proofs.NameLaws.{seats-length, seat-before, seat-after}
 use Rattle.card_laws.proofs.Facts.{accepted}
 use Rattle.card_laws.proofs.OrderLaws.{by-positions, by-ids}
 use Rattle.card_laws.proofs.Verdicts.{exactly}
-use Rattle.table.specs.Distances.{absent, listed, chained}
+use Rattle.table.specs.Distances.{absent, pierced, leaving, listed, chained}
 use Rattle.table.specs.Evaluate.{lengthOf}
 use Rattle.table.specs.Walk.{legs, walk}
 use Rattle.table.proofs.DistanceLaws.{distances-length, same-contour, other-contour, homes-length, homes-at}
 use Rattle.improve.specs.Search.{Chart, State, lengthIn, shorter, judged, atLimit, tried, swap, reversed, flip}
 use Rattle.improve.specs.Search.{contours, worthwhile, searched}
-use Rattle.improve.specs.Flags.{taken, declined}
+use Rattle.improve.specs.States.{taken, declined}
 use Rattle.improve.specs.Trials.{other, allMade, others, turnTrials, turnsTrials, rowTrials, passTrials, passesTrials}
 use Rattle.improve.specs.Trials.{trialsOf, Proper, Level}
-use Rattle.improve.proofs.Flags.{claim as flags}
+use Rattle.improve.proofs.States.{claim as states}
 use Rattle.improve.proofs.ReversalLaws.{turned-parts}
 use Rattle.improve.proofs.Trials.{claim as search-makes}
 use Rattle.instance.specs.Gather.{verticesOf, wayOf, offersOf, gathered}
 use Rattle.instance.proofs.FineLaws.{outline-whole}
+use Rattle.instance.proofs.GatherLaws.{owners-length, firsts-length}
 use Rattle.instance.proofs.OwnerLaws.{first-at, gathered-grows, owner-at}
 use Rattle.solve.specs.declared.Outcome.{Outcome}
 use Rattle.tour.specs.declared.Toured.the-variants.{Done}
 use Rattle.instance.specs.Search.{homeOn, candidatesOn, countOn, ownersOn, chartOn}
 use Rattle.tour.specs.Search.{startOn, endOn, tourOn, outcomeOn}
 use Rattle.tour.specs.Tour.{Left, tourOf}
-use Rattle.demands.specs.Demand2.{ownOn, Numbered, Sized, Rooted, Apart, Has, Paired, longOn, Measured, Terms}
+use Rattle.demands.specs.Demand2.{ownOn, Numbered, Sized, Rooted, Apart, Paired, longOn, Measured, Terms}
 use Rattle.demands.specs.Demand2.{Leaves, Trials, begunOn, searchOn, Between, othersOn, passesOn, allOn, Making}
-use Rattle.demands.specs.Demand2.{Turns, Rows, Passes, Order, Same, Begins, Cut, Claim}
+use Rattle.demands.specs.Demand2.{Turns, Rows, Passes, Order, Begins, Cut, Claim}
 use Rattle.demands.proofs.AskedLaws.{toured-if, done-fine, fine-nothing}
 use Rattle.demands.proofs.NextLaws.{starts}
 use Rattle.tour_laws.proofs.TourLaws.{start-long, tour-long, tour-legal}
@@ -64,6 +68,12 @@ vertices-are : (s : List ℕ) (k v : ℕ) → verticesOf s k v ≡ tabulated (λ
 unfolding verticesOf tabulated
 vertices-are s k zero = refl
 vertices-are s k (suc v) = ap (λ (l : List Point). l ++ (pointAt s (vertexOffset k v) ∷ [])) (vertices-are s k v)
+
+-- within a list it does not matter what is read behind it
+either : (cs : List Candidate) (j : ℕ) (x y : Candidate) → j < length cs → getD cs j x ≡ getD cs j y
+either [] j x y h = absurd (not-suc-le-zero h)
+either (c ∷ cs) zero x y h = refl
+either (c ∷ cs) (suc j) x y h = either cs j x y (le-of-suc-le-suc h)
 
 -- the candidates gathered up to n hold those of each contour before
 gathered-own : (s : List ℕ) (n k j : ℕ) → k < n → j < length (offersOf s k)
@@ -92,6 +102,15 @@ module _ (s : List ℕ) (fine : checkOf s ≡ Fine) where
       ap (λ (ps : List Point). candidatesOf (wayOf s k) ps (perContourOf s))
       (outline-whole s fine k h ∙ vertices-are s k (vertexCountOf s k))
 
+  -- of a list of closed candidates each ends where it began
+  own-closed : (cs : List Candidate) (j : ℕ) {way : CutDirection}
+      → ((k : ℕ) → k < length cs → Closed way (getD cs k blank)) → j < length cs
+      → leaving (getD cs j absent) ≡ pierced (getD cs j absent)
+  own-closed cs j all l =
+      let c = all j l in
+      subst (λ (q : Candidate). leaving q ≡ pierced q) (either cs j blank absent l)
+      (λ i. record { x = c .same-x i; y = c .same-y i })
+
   numbered : Numbered s
   unfolding gathered
   numbered = record {
@@ -110,12 +129,16 @@ module _ (s : List ℕ) (fine : checkOf s ≡ Fine) where
         let next = length-append (gathered s k) (offersOf s k) in
         rw (first-at s (contoursOf s) k (omega arith))
         (owner-at s (contoursOf s) k (length (gathered s k) + j) h (omega arith) (omega arith));
+    closed = λ k j h l. own-closed (ownOn s k) j (each-closed _ _ _) l;
   }
 
 sized : (s : List ℕ) → Sized s
 sized s = record {
+  owners = owners-length s (contoursOf s);
+  firsts = firsts-length s (contoursOf s);
   homes = homes-length (candidatesOn s) (homeOn s);
   table = distances-length (candidatesOn s) (ownersOn s);
+  row-by-row = λ a b. refl;
 }
 
 rooted : Rooted
@@ -135,13 +158,13 @@ module _ (s : List ℕ) (fine : checkOf s ≡ Fine) where
   has-before q h =
       let named = accepted s fine .before-named q h in
       subst (Has s (beforeIdOf s q)) (sym (seat-before s (pairsOf s) q h))
-      (record { is-contour = named .is-contour; same-id = named .same-id })
+      (record { is-contour = named .is-contour; same = named .same-id })
 
   has-after : (q : ℕ) → q < pairsOf s → Has s (afterIdOf s q) (getD (pairsOn s) (2 * q + 1) 0)
   has-after q h =
       let named = accepted s fine .after-named q h in
       subst (Has s (afterIdOf s q)) (sym (seat-after s (pairsOf s) q h))
-      (record { is-contour = named .is-contour; same-id = named .same-id })
+      (record { is-contour = named .is-contour; same = named .same-id })
 
   pairs : Paired s
   unfolding chartOn
@@ -214,16 +237,16 @@ trials : (s : List ℕ) (v : State) → Trials s v
 unfolding swap flip
 trials s v = record {
   other-taken = λ p held a e.
-      leaves-taken v _ _ _ (ap (judge (set (v .tour) p a) (set (v .tour) p held)) e ∙ flags .accepted _ _ _ v);
+      leaves-taken v _ _ _ (ap (judge (set (v .tour) p a) (set (v .tour) p held)) e ∙ states .accepted _ _ _ v);
   other-left = λ p held a e.
-      leaves-declined v _ _ (ap (judge (set (v .tour) p a) (set (v .tour) p held)) e ∙ flags .rejected _ _ _ v);
+      leaves-declined v _ _ (ap (judge (set (v .tour) p a) (set (v .tour) p held)) e ∙ states .rejected _ _ _ v);
   reversal-taken = λ i j e l.
-      leaves-taken v _ _ _ (ap (judge (reversed i j (v .tour)) (v .tour)) (rw (e, l)) ∙ flags .accepted _ _ _ v);
+      leaves-taken v _ _ _ (ap (judge (reversed i j (v .tour)) (v .tour)) (rw (e, l)) ∙ states .accepted _ _ _ v);
   reversal-longer = λ i j e.
-      leaves-declined v _ _ (ap (judge (reversed i j (v .tour)) (v .tour)) (rw e) ∙ flags .rejected _ _ _ v);
+      leaves-declined v _ _ (ap (judge (reversed i j (v .tour)) (v .tour)) (rw e) ∙ states .rejected _ _ _ v);
   reversal-illegal = λ i j l.
       leaves-declined v _ _ (ap (judge (reversed i j (v .tour)) (v .tour))
-      (rw l (and-false (shorter (longOn s (reversed i j (v .tour))) (v .cost)))) ∙ flags .rejected _ _ _ v);
+      (rw l (and-false (shorter (longOn s (reversed i j (v .tour))) (v .cost)))) ∙ states .rejected _ _ _ v);
 }
   where
     judge : List ℕ → List ℕ → Bool → State
@@ -231,9 +254,9 @@ trials s v = record {
 
 between : (s : List ℕ) → Between s
 between s = record {
-  begins = flags .begins (chartOn s) (startOn s);
-  pass-begins = flags .anew;
-  limit-ends = flags .ends;
+  begins = states .begins (chartOn s) (startOn s);
+  pass-begins = states .anew;
+  limit-ends = states .ends;
 }
 
 -- ---- the order of the trials
@@ -347,9 +370,6 @@ begins M trial v = record {
   over = λ c. rw c;
 }
 
-same : (v w : State) → Level v w → Same v w
-same v w l = record { tour = l .tour; cost = l .cost; moves = l .moves }
-
 stays : (s : List ℕ) (M : ℕ) → worthwhile (passesOf s) (length (startOn s)) ≡ false → searchOn s M ≡ begunOn s
 unfolding searched
 stays s M e = rw e
@@ -360,10 +380,10 @@ limit s fine =
     let all = makes .all-counted in
     record {
       begins = begins;
-      made = same _ _ (makes .all);
+      made = makes .all;
       counted = all;
       unlimited = makes .never-ended;
-      first-made = λ M h. same _ _ (makes .first M h);
+      first-made = makes .first;
       first-counted = makes .first-counted;
       enough = λ M h. makes .enough M (rw (← all) h);
       cut = λ M h l.

@@ -1,11 +1,11 @@
 -- Demand 3 holds. Assumes nothing.
-use mathlib.Core.Path.{_≡_, sym, ap, _∙_, subst}
+use mathlib.Core.Path.{_≡_, refl, sym, ap, _∙_, subst}
 use mathlib.Core.List.{List}
-use Prim.Native.Nat.{ℕ, suc, _+_, _*_, _≤_, _<_}
+use Prim.Native.Nat.{ℕ, suc, _+_, _*_, _^_, _≤_, _<_}
 use native.Mathlib.Nat.{mul-assoc, mul-le-mul-right}
 use native.Mathlib.Omega.{arith}
 use lib.Dec.{T, lit≤}
-use lib.Ieee.{le}
+use lib.Ieee.{Float, le}
 use lib.ListN.{length, getD, take, drop}
 use lib.Seq.{take-at}
 use Rattle.answer.specs.declared.Check.the-variants.{Fine}
@@ -14,7 +14,8 @@ use Rattle.fields.specs.Layout.{contoursOf, passesOf, moveLimitOf}
 use Rattle.card.specs.Verdict.{checkOf}
 use Rattle.card_laws.proofs.Facts.{accepted}
 use Rattle.card_laws.proofs.Verdicts.{exactly}
-use Rattle.exact.specs.Length.{lowerEnd, upperEnd, step40}
+use Rattle.root.proofs.WholeLaws.{whole-le, whole-lt}
+use Rattle.exact.specs.Length.{legRoot, lowerEnd, upperEnd, step40}
 use Rattle.exact.specs.Bound.{Enough}
 use Rattle.exact.proofs.SumLaws.{enough-fewer, forty}
 use Rattle.improve.specs.Search.{contours, lengthIn}
@@ -28,7 +29,7 @@ use Rattle.tour.specs.Tour.{Left, tourOf}
 use Rattle.tour_laws.specs.Visits.{Visits}
 use Rattle.tour_laws.proofs.BelowLaws.{below-at}
 use Rattle.tour_laws.proofs.TourLaws.{contour-at, start-visits, tour-long, tour-legal, tour-visits}
-use Rattle.demands.specs.Demand3.{OnGrid, legsOn, nearness, excess, OneOf, Good, Claim}
+use Rattle.demands.specs.Demand3.{OnGrid, legsOn, Interval, nearness, excess, OneOf, Good, Claim}
 use Rattle.demands.proofs.AskedLaws.{toured-if, done-fine, fine-nothing}
 use Rattle.demands.proofs.NearLaws.{home-fits, near-of, number-of, excess-of}
 
@@ -96,8 +97,19 @@ module _ (s : List ℕ) (fine : checkOf s ≡ Fine) (grid : OnGrid s) where
     not-longer = not-longer;
   }
 
-pub claim : Claim
-claim s room table told grid h =
+interval : Interval
+unfolding legRoot lowerEnd upperEnd
+interval = record {
+  fits = λ S. whole-le (S * 2 ^ 60);
+  largest = λ S. whole-lt (S * 2 ^ 60);
+  no-leg = refl;
+  one-more = λ S legs. refl;
+  upper = λ legs. refl;
+}
+
+holds : (s room : List ℕ) (table : List Float) (told : Outcome) → OnGrid s → tourOf s room table .answer ≡ Done told
+    → Good s (take (contoursOf s) (tourOf s room table .room)) told
+holds s room table told grid h =
     let clear = toured-if s room table told h in
     let fine = exactly s .fine-if (fine-nothing s room table clear .sound) in
     let all = done-fine s room table clear in
@@ -108,3 +120,6 @@ claim s room table told grid h =
     ∙ take-at (tourOn s) (drop (length (tourOn s)) room) (contoursOf s) (tour-long s fine) in
     subst (λ (o : Outcome). Good s (take (contoursOf s) (tourOf s room table .room)) o) e
     (subst (λ (tour : List ℕ). Good s tour (outcomeOn s)) (sym front) (good s fine grid))
+
+pub claim : Claim
+claim = (interval, holds)

@@ -1,10 +1,10 @@
 -- Demand 1: a card is sent back exactly when the table of refusals says so, with the number and the place that it says,
--- by whatever door it came, and then nothing that was lent has changed; and a card without an earlier fault is sent
--- back with 12 exactly when there is no order in which it could be cut. s is the card, any bytes whatever; room and
--- table are lent for the tour and for the distances, of any size. checkOf is what `card::check` promises and tourOf
--- what `tour::tour` does; the rows of the table are in card_laws/specs/Table, the orders in card_laws/specs/Orders, the
--- other doors in Doors. It shuts out a program that sends every card back: a refusal is given only where the table says
--- so (Checked .fine, Asked .done). Assumes nothing.
+-- by whatever door it came, and then nothing that was lent has changed (but for a list's page: Doors); and a card
+-- without an earlier fault is sent back with 12 exactly when there is no order in which it could be cut. s is the card,
+-- any bytes whatever; room and table are lent for the tour and for the distances, of any size. checkOf is what
+-- `card::check` promises and tourOf what `tour::tour` does (contracts/specs); the rows of the table are in
+-- card_laws/specs/Table, the orders in card_laws/specs/Orders, the other doors in Doors. It shuts out a program that
+-- sends every card back: a refusal is given only where the table says so (Checked .fine, Asked .done). Assumes nothing.
 use mathlib.Core.Path.{_≡_}
 use mathlib.Core.Logic.{_↔_}
 use mathlib.Core.List.{List}

@@ -3,15 +3,16 @@
 -- told is evaluated from the tour handed out; and square roots are IEEE 754's. tourOf is what `tour::tour` promises.
 -- It shuts out a constant tour and the order of the file (Told .tour, with Starts and Order); a start never improved
 -- and a search that idles after its first pass (Passes: the trials of every further pass are in the list; Cut: all of
--- the list is made); an invented number of moves (Told .moves, Cut); the running cost told (Told .rapid). Assumes
--- nothing.
+-- the list is made); an invented number of moves (Told .moves, Cut); the running cost told (Told .rapid). That `tour`
+-- promises tourOf and nothing else is said in contracts/specs/Doors; what the candidates of one contour are, in
+-- candidates/specs/Generate, two cases of it in Starred. Assumes nothing.
 use mathlib.Core.Path.{_≡_}
 use mathlib.Core.Bool.{Bool, true, false}
 use mathlib.Core.Logic.{_⊎_, _↔_}
 use mathlib.Core.List.{List, [], _∷_, map, _++_, reverse}
 use Prim.Native.Nat.{ℕ, suc, _+_, _*_, _-_, _≤_, _<_, min}
 use lib.Dec.{T}
-use lib.Ieee.{Float, binary64, ofBits, lt, le, add, sub, mul}
+use lib.Ieee.{Float, nan, binary64, ofBits, lt, le, add, sub, mul}
 use lib.ListN.{length, getD, set, take, drop}
 use Rattle.answer.specs.declared.Point.{Point}
 use Rattle.root.specs.Root.{sqrtOf}
@@ -25,15 +26,16 @@ use Rattle.keep.specs.Legal.{EachOnce}
 use Rattle.fields.specs.Layout.{contoursOf, pairsOf, passesOf, moveLimitOf, idOf, beforeIdOf, afterIdOf}
 use Rattle.card.specs.Names.{pairsOn}
 use Rattle.card_laws.specs.Card.{cardOf, contourOf}
+use Rattle.card_laws.specs.Table.{Has}
 use Rattle.card_laws.specs.Orders.{LegalOrder}
-use Rattle.table.specs.Evaluate.{homeAt, distanceAt, lengthOf}
+use Rattle.table.specs.Evaluate.{homeAt, distanceAt}
 use Rattle.table.specs.Distances.{absent, pierced, leaving, listed, chained}
 use Rattle.table.specs.Each.{each}
 use Rattle.start.specs.Nearest.{Ground, Way, reachOf, isOpen, step, setOut}
 use Rattle.improve.specs.Search.{State, contours, lengthIn, legal, shorter, stopped, tried, swap, reversed, flip, fresh}
 use Rattle.improve.specs.Search.{begun, searched}
 use Rattle.improve.specs.Trials.{Trial, other, stretch, allMade, others, turnTrials, turnsTrials, rowTrials, passTrials}
-use Rattle.improve.specs.Trials.{passesTrials, trialsOf, Proper}
+use Rattle.improve.specs.Trials.{passesTrials, trialsOf, Proper, Level}
 use Rattle.solve.specs.declared.Outcome.{Outcome}
 use Rattle.solve.specs.Solve.{groundIn}
 use Rattle.tour.specs.declared.Toured.the-variants.{Done}
@@ -59,11 +61,18 @@ pub record Numbered (s : List ℕ) : Type 0 where
       → getD (candidatesOn s) (getD (firstsOn s) k 0 + j) absent ≡ getD (ownOn s k) j absent
   pub owner : (k j : ℕ) → k < contoursOf s → j < length (ownOn s k)
       → getD (ownersOn s) (getD (firstsOn s) k 0 + j) 0 ≡ k
+  -- a cut ends where it began
+  pub closed : (k j : ℕ) → k < contoursOf s → j < length (ownOn s k)
+      → leaving (getD (ownOn s k) j absent) ≡ pierced (getD (ownOn s k) j absent)
 
--- a distance from home for each candidate, and one for each candidate to each, row by row
+-- each candidate has a contour, each contour a first candidate, and so has what comes after the last; a distance from
+-- home for each candidate, and one from each to each, row by row: that from a to b is entry a * t + b
 pub record Sized (s : List ℕ) : Type 0 where
+  pub owners : length (ownersOn s) ≡ countOn s
+  pub firsts : length (firstsOn s) ≡ contoursOf s + 1
   pub homes : length (homesOn s) ≡ countOn s
   pub table : length (tableOn s) ≡ countOn s * countOn s
+  pub row-by-row : (a b : ℕ) → distanceAt (tableOn s) (countOn s) a b ≡ getD (tableOn s) (a * countOn s + b) nan
 
 -- a distance: the differences, their squares, the sum and the root of it, each rounded once; and that root is the one
 -- that IEEE 754 asks for, and no other
@@ -87,13 +96,9 @@ pub record Apart (s : List ℕ) (a b : ℕ) : Type 0 where
 
 -- ---- pairs
 
--- position k is the contour that has this id
-pub record Has (s : List ℕ) (id k : ℕ) : Type 0 where
-  pub is-contour : k < contoursOf s
-  pub same-id : idOf s k ≡ id
-
--- what the search reads of the pairs are two positions for each, before and after: those of the contours whose ids
--- stand on the card. No two contours have one id, so contours and positions with equal ids are the same
+-- what the search reads of the pairs are two positions for each, before and after: those of the contours that have the
+-- ids on the card (Has s id k: k is a contour, and that is its id). No two contours have one id, so contours and
+-- positions with equal ids are the same
 pub record Paired (s : List ℕ) : Type 0 where
   pub read : chartOn s .pairs ≡ pairsOn s
   pub all : length (pairsOn s) ≡ 2 * pairsOf s
@@ -316,29 +321,24 @@ pub record Order (s : List ℕ) : Type 0 where
 
 -- ---- the search makes them, and the limit
 
--- the same tour, length to beat, and number of trials
-pub record Same (v w : State) : Type 0 where
-  pub tour : v .tour ≡ w .tour
-  pub cost : v .cost ≡ w .cost
-  pub moves : v .moves ≡ w .moves
-
--- a trial begins if the search has not ended and the limit allows one more; where it does not, the search ends
+-- how the search counts, trial by trial: one begins if the search has not ended and the limit allows one more; where it
+-- does not, the search ends. What that comes to is said in Cut
 pub record Begins (M : ℕ) (trial : State → State) (v : State) : Type 0 where
   pub made : v .cut ≡ false → (M ≡ 0) ⊎ (v .moves < M) → tried M trial v ≡ trial v
   pub ended : v .cut ≡ false → 0 < M → M ≤ v .moves → tried M trial v ≡ stopped v
   pub over : v .cut ≡ true → tried M trial v ≡ v
 
 -- without a limit the search makes exactly those trials, from the start on, and is not ended; with a limit of M exactly
--- the first M of them. A limit that leaves none out changes nothing; another ends the search after exactly so many.
--- Where no pass is allowed or there are fewer than three contours, it stays at the start and makes no trial. Each trial
--- is proper: of a position of the tour, with another candidate of the contour held there when its turn began; or of
--- two contours or more
+-- the first M of them (Level: the same tour, length to beat and number of trials). A limit that leaves none out changes
+-- nothing; another ends the search after exactly so many. Where no pass is allowed or there are fewer than three
+-- contours, it stays at the start and makes no trial. Each trial is proper: of a position of the tour, with another
+-- candidate of the contour held there when its turn began; or of two contours or more
 pub record Cut (s : List ℕ) : Type 0 where
   pub begins : (M : ℕ) (trial : State → State) (v : State) → Begins M trial v
-  pub made : Same (searchOn s 0) (madeOn s (allOn s) (begunOn s))
+  pub made : Level (searchOn s 0) (madeOn s (allOn s) (begunOn s))
   pub counted : searchOn s 0 .moves ≡ length (allOn s)
   pub unlimited : searchOn s 0 .cut ≡ false
-  pub first-made : (M : ℕ) → 0 < M → Same (searchOn s M) (madeOn s (take M (allOn s)) (begunOn s))
+  pub first-made : (M : ℕ) → 0 < M → Level (searchOn s M) (madeOn s (take M (allOn s)) (begunOn s))
   pub first-counted : (M : ℕ) → 0 < M → searchOn s M .moves ≡ min M (length (allOn s))
   pub enough : (M : ℕ) → searchOn s 0 .moves ≤ M → searchOn s M ≡ searchOn s 0
   pub cut : (M : ℕ) → 0 < M → M < searchOn s 0 .moves → (searchOn s M .moves ≡ M) × (searchOn s M .cut ≡ true)
@@ -355,8 +355,7 @@ pub record Told (s room : List ℕ) (table : List Float) (told : Outcome) : Type
   pub legal-so : LegalOrder s (contours (ownersOn s) (searchOn s (moveLimitOf s) .tour))
   pub distances : tourOf s room table .table ≡ tableOn s ++ drop (countOn s * countOn s) table
   pub moves : told .moves ≡ searchOn s (moveLimitOf s) .moves
-  pub rapid :
-      told .length ≡ lengthOf (homesOn s) (tableOn s) (countOn s) (take (contoursOf s) (tourOf s room table .room))
+  pub rapid : told .length ≡ longOn s (take (contoursOf s) (tourOf s room table .room))
 
 pub record Follows (s room : List ℕ) (table : List Float) (told : Outcome) : Type 0 where
   pub numbered : Numbered s

@@ -3,7 +3,7 @@
 -- 2^-28 mm of the exact one; and the tour is at most 2^-27 mm longer than the start, exactly. tourOf is what
 -- `tour::tour` promises, so it speaks of demand 2's tour, and no fixed legal order will do. Assumes nothing.
 use mathlib.Core.Path.{_≡_}
-use mathlib.Core.List.{List, map}
+use mathlib.Core.List.{List, [], _∷_, map}
 use Prim.Native.Nat.{ℕ, suc, _+_, _*_, _^_, _≤_, _<_}
 use lib.Dec.{T}
 use lib.Ieee.{Float}
@@ -11,7 +11,7 @@ use lib.ListN.{length, getD, take}
 use Rattle.answer.specs.declared.Point.{Point}
 use Rattle.table.specs.Distances.{absent, pierced}
 use Rattle.exact.specs.Grid.{gridPoint, squaredLength}
-use Rattle.exact.specs.Length.{alongRoute, lowerEnd, upperEnd, step40}
+use Rattle.exact.specs.Length.{alongRoute, legRoot, lowerEnd, upperEnd, step40}
 use Rattle.exact.specs.Bound.{NearEnds}
 use Rattle.improve.specs.Search.{contours}
 use Rattle.solve.specs.declared.Outcome.{Outcome}
@@ -22,7 +22,7 @@ use Rattle.instance.specs.Search.{homeOn, candidatesOn, countOn, ownersOn, firs
 use Rattle.tour.specs.Search.{startOn}
 use Rattle.tour.specs.Tour.{tourOf}
 
--- where candidate a of the card is pierced
+-- where candidate a of the card is pierced; its cut ends there too, as Demand2 says in Numbered
 abbrev pub stopOn : List ℕ → ℕ → Point
 stopOn s a = pierced (getD (candidatesOn s) a absent)
 
@@ -34,6 +34,15 @@ pub record OnGrid (s : List ℕ) : Type 0 where
 -- the squared lengths of a tour's legs, from home on, in squares of 1/1024 mm
 abbrev pub legsOn : List ℕ → List ℕ → List ℕ
 legsOn s tour = alongRoute squaredLength (homeOn s) (map (stopOn s) tour)
+
+-- the interval in which the exact length of a tour lies, in steps of 2^-40 mm: from the sum of the R to that sum plus the
+-- number of legs, R being the largest whole number whose square is at most S * 2^60 for a leg of squared length S
+pub record Interval : Type 0 where
+  pub fits : (S : ℕ) → legRoot S * legRoot S ≤ S * 2 ^ 60
+  pub largest : (S : ℕ) → S * 2 ^ 60 < (legRoot S + 1) * (legRoot S + 1)
+  pub no-leg : lowerEnd [] ≡ 0
+  pub one-more : (S : ℕ) (legs : List ℕ) → lowerEnd (S ∷ legs) ≡ legRoot S + lowerEnd legs
+  pub upper : (legs : List ℕ) → upperEnd legs ≡ lowerEnd legs + length legs
 
 -- the bounds on a card of n contours, in steps of 2^-40 mm: 2^-28 mm for the length told, 2^-27 mm for what the tour is
 -- longer than the start
@@ -66,5 +75,5 @@ pub record Good (s tour : List ℕ) (told : Outcome) : Type 0 where
 -- of every card that lies on the grid, with whatever rooms and whatever move limit, if the answer is a tour
 abbrev pub Claim : Type 0
 Claim =
-    (s room : List ℕ) (table : List Float) (told : Outcome) → OnGrid s → tourOf s room table .answer ≡ Done told
-    → Good s (take (contoursOf s) (tourOf s room table .room)) told
+    Interval × ((s room : List ℕ) (table : List Float) (told : Outcome) → OnGrid s
+    → tourOf s room table .answer ≡ Done told → Good s (take (contoursOf s) (tourOf s room table .room)) told)

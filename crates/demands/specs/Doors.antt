@@ -1,7 +1,7 @@
--- Demand 1 at every door: whatever takes a card answers the card's own refusal with its number and its place, whatever
--- else it is asked, and what it was lent is as before; and no door answers a sound card with a number of the table's
--- rows 1 to 12. A field is named after its function, and speaks of the definition that the function promises. Assumes
--- nothing.
+-- Demand 1 at every door (the tour, the questions on a card, the list, the exports): it answers the card's own refusal
+-- with its number and its place, whatever else it is asked, and what it was lent is as before, but for the list's page,
+-- which gets the refusal's line; and no door answers a sound card with a number of the table's rows 1 to 12. A field is
+-- named after its function, and speaks of the definition that the function promises (contracts/specs). Assumes nothing.
 use mathlib.Core.Path.{_≡_}
 use mathlib.Core.Logic.{_⊎_}
 use mathlib.Core.List.{List, _++_}
@@ -27,7 +27,7 @@ use Rattle.text.specs.Text.{bytes, decimalOf}
 use Rattle.list.specs.Lines.{listOf}
 use Rattle.host.specs.Hosts.{hosted, hostTour, pointed, hostPlace}
 
--- a refusal as it is printed, REFUSED 9 AT 4, and as the one number that a host is told
+-- a refusal as it is printed, REFUSED 9 AT 4, spelled out here, and as the one number that a host is told
 abbrev pub refusedLine : Refusal → List ℕ
 refusedLine r = bytes "REFUSED " ++ decimalOf (r .number) ++ (bytes " AT " ++ decimalOf (r .place)) ++ bytes "\n"
 

@@ -32,7 +32,7 @@ use Rattle.tour.specs.declared.Toured.{Toured}
 use Rattle.tour.specs.declared.Toured.the-variants as answer
 use Rattle.tour.specs.Tour.{tourOf}
 use Rattle.host.specs.Hosts.{Hosted, hostCheck, hostedUnless, hostTour, hostPlace}
-use Rattle.host.specs.Exports.{asTold, Coded, TourTold, Holds, CardRead, NumberRead, Claim}
+use Rattle.host.specs.Exports.{asTold, Coded, TourTold, Decodes, CardRead, NumberRead, Claim}
 use Rattle.host.proofs.BoundLaws.{check-near, whole, is-whole, tour-near}
 
 module _ (s room : List ℕ) (table : List Float) (moves bits : ℕ) where
@@ -101,7 +101,7 @@ toured-so s room table moves bits large =
 -- ---- read back
 
 -- a place that is not beyond the longest card's is held whole
-holds : (r : Refusal) → r .place ≤ cardBytes + 1 → Holds (codeOf (Refused r)) r
+holds : (r : Refusal) → r .place ≤ cardBytes + 1 → Decodes (codeOf (Refused r)) r
 holds r near = record { number = code-number r; place = code-place r (omega arith) }
 
 -- where the tour is refused, the host is told that refusal
@@ -117,15 +117,15 @@ place-code l contour within r e = ap (λ (z : Located). hostPlace z contour with
 module _ (s : List ℕ) where
   card-read : CardRead s
   card-read = record {
-    jl-check = λ r e. subst (λ (c : Check). Holds (codeOf c) r) (sym e) (holds r (check-near s r e));
+    jl-check = λ r e. subst (λ (c : Check). Decodes (codeOf c) r) (sym e) (holds r (check-near s r e));
     tour = λ room table r h. holds r (tour-near s room table r h);
     jl-tour = λ room table moves bits large r h.
-        subst (λ (n : ℕ). Holds n r)
+        subst (λ (n : ℕ). Decodes n r)
         (sym (ap (λ (l : Hosted). l .answer) (toured-so s room table moves bits large)
         ∙ tour-code _ (tourOf s room table .room) moves bits r h))
         (holds r (tour-near s room table r h));
     jl-place = λ candidate contour within r e.
-        subst (λ (n : ℕ). Holds n r)
+        subst (λ (n : ℕ). Decodes n r)
         (sym (place-code (locatedOf s candidate) contour within r
         (place-refused s (checkOf s) refl candidate r e)))
         (holds r (check-near s r e));
@@ -137,7 +137,7 @@ module _ (s : List ℕ) where
     some-candidate h = rw (fine, lt-leb (countOn s) candidate h)
 
     no-candidate : countOn s ≤ candidate
-        → Holds (hostPlace (locatedOf s candidate) contour within .answer)
+        → Decodes (hostPlace (locatedOf s candidate) contour within .answer)
         (record { number = 15; place = min candidate (2 ^ 32 - 1) })
     unfolding locatedOf numberCheck firstRefusal
     no-candidate h = rw (fine, le-leb (countOn s) candidate h) (record { number = omega arith; place = omega arith })

@@ -41,19 +41,19 @@ TourTold s =
 -- ---- what is read back
 
 -- a refusal's number and its place, both as they are, are read from the one number
-pub record Holds (code : ℕ) (r : Refusal) : Type 0 where
+pub record Decodes (code : ℕ) (r : Refusal) : Type 0 where
   pub number : code / 2 ^ 32 ≡ r .number
   pub place : code % 2 ^ 32 ≡ r .place
 
 -- so they are where a card s goes back for a fault of its own, and where 13 is answered
 pub record CardRead (s : List ℕ) : Type 0 where
-  pub jl-check : (r : Refusal) → checkOf s ≡ check.Refused r → Holds (codeOf (checkOf s)) r
+  pub jl-check : (r : Refusal) → checkOf s ≡ check.Refused r → Decodes (codeOf (checkOf s)) r
   pub tour : (room : List ℕ) (table : List Float) (r : Refusal) → tourOf s room table .answer ≡ answer.Refused r
-      → Holds (codeOf (check.Refused r)) r
+      → Decodes (codeOf (check.Refused r)) r
   pub jl-tour : (room : List ℕ) (table : List Float) (moves bits : ℕ) → entryLimit ≤ length table → (r : Refusal)
-      → tourOf s room table .answer ≡ answer.Refused r → Holds (hostTour s room moves bits .answer) r
+      → tourOf s room table .answer ≡ answer.Refused r → Decodes (hostTour s room moves bits .answer) r
   pub jl-place : (candidate contour within : ℕ) (r : Refusal) → checkOf s ≡ check.Refused r
-      → Holds (hostPlace (locatedOf s candidate) contour within .answer) r
+      → Decodes (hostPlace (locatedOf s candidate) contour within .answer) r
 
 -- a candidate's number, asked on a fine card: 0 where there is such a candidate, else 15 with the number asked for as
 -- its place. That can be any number of 64 bits, so here alone a place can be cut: one of more than 32 bits is told as
@@ -61,7 +61,7 @@ pub record CardRead (s : List ℕ) : Type 0 where
 pub record NumberRead (s : List ℕ) (candidate contour within : ℕ) : Type 0 where
   pub good : candidate < countOn s → hostPlace (locatedOf s candidate) contour within .answer ≡ 0
   pub none : countOn s ≤ candidate
-      → Holds (hostPlace (locatedOf s candidate) contour within .answer)
+      → Decodes (hostPlace (locatedOf s candidate) contour within .answer)
       (record { number = 15; place = min candidate (2 ^ 32 - 1) })
 
 abbrev pub Claim : Type 0

@@ -5,7 +5,7 @@ pub mod ReversalLaws
 pub mod PassLaws
 pub mod Keeps
 pub mod TourLaws
-pub mod Flags
+pub mod States
 pub mod Trials
 pub mod FloatOrder
 pub mod LengthLaws

@@ -1,4 +1,4 @@
 pub mod Search
-pub mod Flags
+pub mod States
 pub mod Trials
 pub mod Code

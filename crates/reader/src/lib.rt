@@ -9,6 +9,7 @@ ghost use Rattle.fields.specs.Layout.{pairOffset};
 ghost use Rattle.reader.specs.Fields.{fieldAt};
 ghost use Rattle.reader.specs.Walk.{walk, eights, fourFrom};
 ghost use Rattle.reader.specs.OnCard.{filled, headOf, contourHead, contourRead, pairRead};
+use fields::PAIR_SIZE;
 use fields::PAIRS_A_BLOCK;
 use fields::PAYLOAD_AT;
 use fields::VERTICES;
@@ -306,7 +307,7 @@ fn pair_at(card: &[u8], q: usize) -> usize
     ensures { λ r. ⌜ r ≡ min (pairOffset (now (card .entry)) q) (length (now (card .entry))) ⌝ }
 {
     let k = fields::contours(card) + q / PAIRS_A_BLOCK;
-    fields::contour_offset(card, k, 16 * (q % PAIRS_A_BLOCK))
+    fields::contour_offset(card, k, PAIR_SIZE * (q % PAIRS_A_BLOCK))
 }
 
 // Pair q.

@@ -30,7 +30,7 @@ use Rattle.demands.proofs.AskedLaws.{toured-if, fine-nothing}
 use Rattle.witnesses.specs.Examples.{Answered}
 use Rattle.witnesses.specs.Taken.{mm, aligned, bound, free, capped, afterOn}
 use Rattle.witnesses.specs.Taken.{OtherTaken, ReversalTaken, ReversalIllegal, firstPass, secondPass, thirdPass}
-use Rattle.witnesses.specs.Taken.{LineAnswered, Elsewhere, AcceptedTrials, ForbiddenTrial, Passes, CutInside}
+use Rattle.witnesses.specs.Taken.{LineAnswered, Elsewhere, AcceptedTrials, ForbiddenTrial, ThreePasses, CutInside}
 use Rattle.witnesses.specs.Taken.{LinePrinted, Claim}
 use Rattle.witnesses.proofs.Examples.{list-computes, each-on}
 
@@ -268,7 +268,7 @@ second-pass = carried free line 0 free-read (λ c k n M. Made (secondIn c n) 6 t
 third-pass : Made thirdPass 9 false
 third-pass = carried free line 0 free-read (λ c k n M. Made (thirdIn c n) 9 false) third-pass-computed
 
-passes : Passes
+passes : ThreePasses
 passes = record {
   first-made = first-pass .moves-are;
   first-accepts = first-pass .better-is;

@@ -148,7 +148,7 @@ abbrev pub thirdPass : State
 thirdPass = passed secondPass
 
 -- each makes three trials; the first two accept some, the third none, and with it the search ends
-pub record Passes : Type 0 where
+pub record ThreePasses : Type 0 where
   pub first-made : firstPass .moves ≡ 3
   pub first-accepts : firstPass .better ≡ true
   pub second-made : secondPass .moves ≡ 6
@@ -174,4 +174,4 @@ pub record LinePrinted : Type 0 where
 
 -- all of them: what stands apart is proved apart
 abbrev pub Claim : Type 0
-Claim = LineAnswered × Elsewhere × AcceptedTrials × ForbiddenTrial × Passes × CutInside × LinePrinted
+Claim = LineAnswered × Elsewhere × AcceptedTrials × ForbiddenTrial × ThreePasses × CutInside × LinePrinted

@@ -5,7 +5,7 @@ use mathlib.Core.Path.{_≡_, refl}
 use Prim.Native.Nat.{ℕ}
 use lib.Ieee.{Float}
 use Rattle.improve.specs.Search.{Chart, State, lengthIn, judged, stopped, fresh, begun}
-use Rattle.improve.specs.Flags.{taken, declined, Claim}
+use Rattle.improve.specs.States.{taken, declined, Claim}
 
 -- an accepted trial says that its pass accepted something
 pub accepted : (new : List ℕ) (length : Float) (back : List ℕ) (s : State)

@@ -15,7 +15,7 @@ taken tour length s = record { tour = tour; cost = length; better = true; moves 
 abbrev pub declined : List ℕ → State → State
 declined tour s = record { tour = tour; cost = s .cost; better = s .better; moves = suc (s .moves); cut = s .cut }
 
-pub record Flags : Type 0 where
+pub record States : Type 0 where
   pub accepted : (new : List ℕ) (length : Float) (back : List ℕ) (s : State)
       → judged true new length back s ≡ taken new length s
   pub rejected : (new : List ℕ) (length : Float) (back : List ℕ) (s : State)
@@ -29,4 +29,4 @@ pub record Flags : Type 0 where
       → stopped s ≡ record { tour = s .tour; cost = s .cost; better = s .better; moves = s .moves; cut = true }
 
 abbrev pub Claim : Type 0
-Claim = Flags
+Claim = States
