@@ -28,7 +28,7 @@ pub enum Count {
     Refused(Refusal),
 }
 
-// A place on the sheet, in millimetres.
+// A point of the sheet, in millimetres.
 pub struct Point {
     pub x: f64,
     pub y: f64,

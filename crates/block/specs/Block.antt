@@ -53,7 +53,7 @@ unfoldable pub allZero : List ℕ → Bool
 allZero [] = true
 allZero (x ∷ rest) = eqb x 0 && allZero rest
 
--- the count bytes from a place on are all 0
+-- the count bytes from an offset on are all 0
 unfoldable pub zerosAt : List ℕ → ℕ → ℕ → Bool
 unfolding allZero
 zerosAt s at count = allZero (take count (drop at s))

@@ -4,7 +4,7 @@ use Prim.Native.Nat.{ℕ, _+_, _*_}
 use lib.ListN.{getD}
 use lib.Ieee.{Float, binary64, ofBits}
 
--- the byte at a place
+-- the byte at an offset
 abbrev pub byteAt : List ℕ → ℕ → ℕ
 byteAt s at = getD s at 0
 

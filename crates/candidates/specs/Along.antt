@@ -1,4 +1,4 @@
--- The way around a contour: its length, and the place at a given distance along it. Assumes nothing.
+-- The way around a contour: its length, and the spot at a given distance along it. Assumes nothing.
 use mathlib.Core.Bool.{Bool, cond, _&&_}
 use mathlib.Core.List.{List, [], _∷_}
 use Prim.Native.Nat.{ℕ, suc, _-_}
@@ -31,7 +31,7 @@ spot p i = record { point = p; vertex = i }
 unfoldable pub reaches : Float → Float → Float → Bool
 reaches d before after = le before d && le d (add binary64 after tiny)
 
--- the place at the distance d on edge i, which begins at `before`: its vertex where the edge is under 1e-12
+-- the spot at the distance d on edge i, which begins at `before`: its vertex where the edge is under 1e-12
 unfoldable pub onEdge : Float → ℕ → Float → Ends → Spot
 onEdge d i before e =
     cond (lt (edgeLength e) tiny) (spot (e .start) i)
@@ -49,6 +49,6 @@ spotFrom last d i before (e ∷ more) =
 unfoldable pub lastSpot : List Point → Spot
 lastSpot ps = spot (getD ps (length ps - 1) nowhere) (length ps - 1)
 
--- the place at the distance d along the way
+-- the spot at the distance d along the way
 unfoldable pub spotAt : List Point → Float → Spot
 spotAt ps d = spotFrom (lastSpot ps) d 0 zero64 (edges ps)

@@ -19,7 +19,7 @@ use Rattle.answer.specs.Lowest.{refuseAt}
 use Rattle.answer.proofs.LowestLaws.{is-absent}
 use Rattle.answer.proofs.RoomLaws.{padded-front}
 use Rattle.answer.proofs.StageLaws.{refused-is, fine-is, is-fine}
-use Rattle.closure.specs.Limits.{CONTOURS, PAIRS}
+use Rattle.closure.specs.Limits.{contourLimit, pairLimit}
 use Rattle.closure.specs.Cycle.{firstOnCycle}
 use Rattle.card.specs.declared.Named.{Named}
 use Rattle.fields.specs.Layout.{contoursOf, pairsOf}
@@ -90,7 +90,7 @@ module _ (s : List ℕ) (r : Named) (is : r ≡ namedPairs s) where
 
     pub named-seats : take (r .count) (r .positions) ≡ pairsOn s
     unfolding namedPairs
-    named-seats = rw (is, named-known) (padded-front (2 * PAIRS) 0 (pairsOn s) (length (pairsOn s)) refl)
+    named-seats = rw (is, named-known) (padded-front (2 * pairLimit) 0 (pairsOn s) (length (pairsOn s)) refl)
 
     pub named-whole : r .count ≡ length (take (r .count) (r .positions))
     unfolding namedPairs
@@ -103,13 +103,13 @@ module _ (s : List ℕ) (r : Named) (is : r ≡ namedPairs s) where
 
 -- ---- the counts that the first stages let pass
 
-pub few-contours : (s : List ℕ) → firstRefusal (cardStages s) ≡ Fine → contoursOf s ≤ CONTOURS
+pub few-contours : (s : List ℕ) → firstRefusal (cardStages s) ≡ Fine → contoursOf s ≤ contourLimit
 unfolding headFault
 few-contours s e =
     ltb-false _ _ (is-absent (λ f. getD (headFaults s) f false) 8
     (fine-absent 4 (headFault s) (is-fine (cardStages s) e 3 (lit< tt))) 1 (lit< tt))
 
-pub few-pairs : (s : List ℕ) → firstRefusal (cardStages s) ≡ Fine → pairsOf s ≤ PAIRS
+pub few-pairs : (s : List ℕ) → firstRefusal (cardStages s) ≡ Fine → pairsOf s ≤ pairLimit
 unfolding headFault
 few-pairs s e =
     ltb-false _ _ (is-absent (λ f. getD (headFaults s) f false) 8

@@ -18,7 +18,7 @@ use Rattle.answer.proofs.LowestLaws.{Nowhere, is-at}
 use Rattle.answer.proofs.RoomLaws.{padded-two}
 use Rattle.answer.proofs.Truth.{or-none}
 use Rattle.card.specs.declared.Named.{Named}
-use Rattle.closure.specs.Limits.{CONTOURS, PAIRS}
+use Rattle.closure.specs.Limits.{contourLimit, pairLimit}
 use Rattle.fields.specs.Layout.{tagOf, contoursOf, pairsOf, beforeIdOf, beforeTagOf, afterIdOf, afterTagOf}
 use Rattle.card.specs.Stages.{isAt, seekOf, positionOf, unnamed, nameFault, beforeOf, afterOf, otherTag}
 use Rattle.card.specs.Names.{seatsOf, namedPairs, namedOf}
@@ -59,7 +59,7 @@ seats-length s (suc q) =
     omega (arith, length-append (seatsOf s q) (beforeOf s q ∷ afterOf s q ∷ []), seats-length s q)
 
 -- before any pair the places are zero
-pub places-none : (s : List ℕ) → replicate (2 * PAIRS) 0 ≡ padded (2 * PAIRS) 0 (seatsOf s 0)
+pub places-none : (s : List ℕ) → replicate (2 * pairLimit) 0 ≡ padded (2 * pairLimit) 0 (seatsOf s 0)
 unfolding seatsOf
 places-none s = refl
 
@@ -68,19 +68,21 @@ unfolding seatsOf
 seats-more s q = rw (add-one q)
 
 -- two more places are filled
-pub places-more : (s p : List ℕ) (q b a : ℕ) → q < PAIRS → p ≡ padded (2 * PAIRS) 0 (seatsOf s q) → b ≡ beforeOf s q
+pub places-more : (s p : List ℕ) (q b a : ℕ) → q < pairLimit → p ≡ padded (2 * pairLimit) 0 (seatsOf s q)
+    → b ≡ beforeOf s q
     → a ≡ afterOf s q
-    → set (set p (2 * q) b) (2 * q + 1) a ≡ padded (2 * PAIRS) 0 (seatsOf s (q + 1))
+    → set (set p (2 * q) b) (2 * q + 1) a ≡ padded (2 * pairLimit) 0 (seatsOf s (q + 1))
 places-more s p q b a h e f g =
     rw (e, f, g, seats-more s q)
-    (padded-two (2 * PAIRS) 0 (seatsOf s q) (beforeOf s q) (afterOf s q) (2 * q) (seats-length s q) (omega arith))
+    (padded-two (2 * pairLimit) 0 (seatsOf s q) (beforeOf s q) (afterOf s q) (2 * q) (seats-length s q) (omega arith))
 
 -- ---- what the loop hands out
 
-module _ (s p : List ℕ) (q : ℕ) (before : Nowhere (unnamed s) q) (filled : p ≡ padded (2 * PAIRS) 0 (seatsOf s q)) where
+module _ (s p : List ℕ) (q : ℕ) (before : Nowhere (unnamed s) q)
+    (filled : p ≡ padded (2 * pairLimit) 0 (seatsOf s q)) where
   -- so many positions are used
   counted : (stop : Found) → _≡_ {A = Named} (record { stopped = stop; positions = p; count = 2 * q })
-      (record { stopped = stop; positions = padded (2 * PAIRS) 0 (seatsOf s q); count = length (seatsOf s q) })
+      (record { stopped = stop; positions = padded (2 * pairLimit) 0 (seatsOf s q); count = length (seatsOf s q) })
   counted stop = rw (filled, seats-length s q)
 
   pub named-until : q < pairsOf s → unnamed s q ≡ true
@@ -140,18 +142,18 @@ seats-handed s p m e = ap length e ∙ seats-length s m
 -- ---- more contours or pairs than a card takes
 
 module _ (s : List ℕ) (n m : ℕ) (count : n ≡ contoursOf s) (pairs : m ≡ pairsOf s) where
-  asked : (ltb CONTOURS (contoursOf s) || ltb PAIRS (pairsOf s)) ≡ (ltb CONTOURS n || ltb PAIRS m)
+  asked : (ltb contourLimit (contoursOf s) || ltb pairLimit (pairsOf s)) ≡ (ltb contourLimit n || ltb pairLimit m)
   asked = rw (count, pairs)
 
-  pub too-many : (ltb CONTOURS n || ltb PAIRS m) ≡ true
-      → _≡_ {A = Named} (record { stopped = At 0; positions = replicate (2 * PAIRS) 0; count = 0 }) (namedOf s)
+  pub too-many : (ltb contourLimit n || ltb pairLimit m) ≡ true
+      → _≡_ {A = Named} (record { stopped = At 0; positions = replicate (2 * pairLimit) 0; count = 0 }) (namedOf s)
   unfolding namedOf seatsOf
   too-many h = rw (asked, h)
 
-  module _ (few : (ltb CONTOURS n || ltb PAIRS m) ≡ false) where
-    pub few-enough : (contoursOf s ≤ CONTOURS) × (pairsOf s ≤ PAIRS)
+  module _ (few : (ltb contourLimit n || ltb pairLimit m) ≡ false) where
+    pub few-enough : (contoursOf s ≤ contourLimit) × (pairsOf s ≤ pairLimit)
     few-enough =
-        let both = or-none (ltb CONTOURS (contoursOf s)) (ltb PAIRS (pairsOf s)) (asked ∙ few) in
+        let both = or-none (ltb contourLimit (contoursOf s)) (ltb pairLimit (pairsOf s)) (asked ∙ few) in
         (ltb-false _ _ (both .0), ltb-false _ _ (both .1))
 
     pub few-named : (r : Named) → r ≡ namedPairs s → r ≡ namedOf s

@@ -8,7 +8,7 @@ use Rattle.answer.specs.declared.Found.{Found}
 use Rattle.answer.specs.declared.Found.the-variants.{At, Absent}
 use Rattle.answer.specs.Room.{padded}
 use Rattle.card.specs.declared.Named.{Named}
-use Rattle.closure.specs.Limits.{CONTOURS, PAIRS}
+use Rattle.closure.specs.Limits.{contourLimit, pairLimit}
 use Rattle.fields.specs.Layout.{contoursOf, pairsOf}
 use Rattle.card.specs.Stages.{nameFault, beforeOf, afterOf}
 
@@ -30,7 +30,7 @@ upTo count Absent = count
 abbrev pub namedBefore : List ℕ → Found → Named
 namedBefore s stop =
     let known = seatsOf s (upTo (pairsOf s) stop) in
-    record { stopped = stop; positions = padded (2 * PAIRS) 0 known; count = length known }
+    record { stopped = stop; positions = padded (2 * pairLimit) 0 known; count = length known }
 
 -- the work stops at the first pair that names an unknown id
 unfoldable pub namedPairs : List ℕ → Named
@@ -40,4 +40,4 @@ namedPairs s = namedBefore s (nameFault s)
 -- and before the first pair, where there are more contours or pairs than a card takes
 unfoldable pub namedOf : List ℕ → Named
 unfolding namedPairs
-namedOf s = cond (ltb CONTOURS (contoursOf s) || ltb PAIRS (pairsOf s)) (namedBefore s (At 0)) (namedPairs s)
+namedOf s = cond (ltb contourLimit (contoursOf s) || ltb pairLimit (pairsOf s)) (namedBefore s (At 0)) (namedPairs s)

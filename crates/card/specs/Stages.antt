@@ -10,7 +10,7 @@ use Rattle.answer.specs.declared.Found.the-variants.{At, Absent}
 use Rattle.answer.specs.Lowest.{orFurther, lowest}
 use Rattle.block.specs.Field.{u64At}
 use Rattle.block.specs.Block.{blockBytes, payloadBytes, checked, starts, zerosAt}
-use Rattle.closure.specs.Limits.{CONTOURS, PAIRS}
+use Rattle.closure.specs.Limits.{contourLimit, pairLimit}
 use Rattle.fields.specs.Limits.{cardBytes, perContourLimit, candidateLimit, passLimit, vertexLimit, pairsABlock}
 use Rattle.fields.specs.Limits.{farthest}
 use Rattle.card.specs.declared.Asked.{Asked}
@@ -67,8 +67,8 @@ startFault s count = lowest (badStart s) count
 abbrev pub headFaults : List ℕ → List Bool
 headFaults s =
     false
-    ∷ ltb CONTOURS (contoursOf s)
-    ∷ ltb PAIRS (pairsOf s)
+    ∷ ltb contourLimit (contoursOf s)
+    ∷ ltb pairLimit (pairsOf s)
     ∷ outside 1 perContourLimit (perContourOf s)
     ∷ ltb passLimit (passesOf s)
     ∷ ltb 2 (exteriorOf s)

@@ -7,7 +7,7 @@ ghost use Prim.Native.Nat.{_+_, _*_, _<_, _≤_};
 ghost use Rattle.answer.specs.declared.Check.the-variants.{Fine};
 ghost use Rattle.answer.specs.Lowest.{refuseAt, lowest};
 ghost use Rattle.answer.specs.Stage.{firstRefusal};
-ghost use Rattle.closure.specs.Limits.{CONTOURS, PAIRS};
+ghost use Rattle.closure.specs.Limits.{contourLimit, pairLimit};
 ghost use Rattle.fields.specs.Layout.{contoursOf, pairsOf};
 ghost use Rattle.card.specs.Stages.{lengthFault, kindDue, badStart, headFaults, headFault, countFault, badContour, usedIn, badSpare, tooFar, farPoint, farVertex, farPlace, isAt, seekOf, repeats, positionOf, tagFault, faultAt};
 ghost use Rattle.card.specs.Names.{pairsOn, namedPairs, namedOf};
@@ -323,7 +323,7 @@ fn first_bad(card: &[u8], asked: Asked, count: usize) -> Found
 
 // 10: the pairs' positions; an id that no contour has ends the work.
 fn named_pairs(card: &[u8]) -> Named
-    requires { ⌜ (contoursOf (now card) ≤ CONTOURS) × (pairsOf (now card) ≤ PAIRS) ⌝ }
+    requires { ⌜ (contoursOf (now card) ≤ contourLimit) × (pairsOf (now card) ≤ pairLimit) ⌝ }
     ensures { λ r. ⌜ r ≡ namedPairs (now (card .entry)) ⌝ }
 {
     let m = fields::pairs(card);
@@ -446,7 +446,7 @@ fn check_seats(card: &[u8], seats: &[u8]) -> Check
 
 // 10, 11, 12: the pairs.
 fn check_pairs(card: &[u8]) -> Check
-    requires { ⌜ (contoursOf (now card) ≤ CONTOURS) × (pairsOf (now card) ≤ PAIRS) ⌝ }
+    requires { ⌜ (contoursOf (now card) ≤ contourLimit) × (pairsOf (now card) ≤ pairLimit) ⌝ }
     ensures { λ r. ⌜ r ≡ firstRefusal (pairStages (now (card .entry))) ⌝ }
 {
     let named = named_pairs(card);

@@ -6,7 +6,7 @@ use mathlib.Core.List.{List}
 use Prim.Native.Nat.{ℕ, _≤_, _<_, min}
 use native.Mathlib.Omega.{arith}
 use Rattle.answer.specs.Lowest.{lowest}
-use Rattle.closure.specs.Limits.{CONTOURS}
+use Rattle.closure.specs.Limits.{contourLimit}
 use Rattle.closure.specs.Cycle.{linked, onCycle, Reaches, step, onward}
 use Rattle.closure.proofs.PathLaws.{cycle-exactly}
 use Rattle.fields.specs.Layout.{contoursOf}
@@ -31,10 +31,10 @@ module _ (s : List ℕ) (unique : No (Row9 s)) (named : No (Row10 s)) where
   pub row-cycle : (k : ℕ) → k < contoursOf s → OnCycle s k → onCycle (contoursOf s) (pairsOn s) k ≡ true
   row-cycle k h l = cycle-exactly (contoursOf s) (pairsOn s) k .1 (leads-reach l)
 
-  pub exact12 : contoursOf s ≤ CONTOURS → Exact (cycleFault s) (Row12 s)
+  pub exact12 : contoursOf s ≤ contourLimit → Exact (cycleFault s) (Row12 s)
   unfolding cycleFault
   exact12 few =
-      let e : min (contoursOf s) CONTOURS ≡ contoursOf s = omega arith in
+      let e : min (contoursOf s) contourLimit ≡ contoursOf s = omega arith in
       rw e (lowest-exact (onCycle (contoursOf s) (pairsOn s)) (contoursOf s) (OnCycle s) cycle-row row-cycle)
 
   pub no-cycle : No (Row12 s) → (k : ℕ) → k < contoursOf s → Reaches (linked (contoursOf s) (pairsOn s)) k k → ⊥

@@ -16,7 +16,7 @@ use Rattle.answer.specs.declared.Point.{Point}
 use Rattle.answer.specs.declared.Check.the-variants.{Fine}
 use Rattle.block.specs.Block.{blockBytes}
 use Rattle.points.specs.Bad.{badPoint}
-use Rattle.closure.specs.Limits.{CONTOURS, PAIRS}
+use Rattle.closure.specs.Limits.{contourLimit, pairLimit}
 use Rattle.fields.specs.Limits.{perContourLimit, candidateLimit, passLimit, vertexLimit}
 use Rattle.fields.specs.Layout.{blocksOf, contoursOf, pairsOf, perContourOf, passesOf, homeOffset, exteriorOf}
 use Rattle.fields.specs.Layout.{interiorOf, idOf, vertexCountOf, typeOf, vertexOffset, beforeIdOf, beforeTagOf}
@@ -121,8 +121,8 @@ module _ (s : List ℕ) (sound : Sound s) where
   facts =
       record {
         whole = whole-length;
-        few-contours = not-below CONTOURS (contoursOf s) (λ h. fine-field 1 (lit< tt) (contours h));
-        few-pairs = not-below PAIRS (pairsOf s) (λ h. fine-field 2 (lit< tt) (pairs h));
+        few-contours = not-below contourLimit (contoursOf s) (λ h. fine-field 1 (lit< tt) (contours h));
+        few-pairs = not-below pairLimit (pairsOf s) (λ h. fine-field 2 (lit< tt) (pairs h));
         some-candidates = not-below (perContourOf s) 1 (λ h. fine-field 3 (lit< tt) (candidates (inl h)));
         few-candidates = not-below perContourLimit (perContourOf s) (λ h. fine-field 3 (lit< tt) (candidates (inr h)));
         few-in-all =

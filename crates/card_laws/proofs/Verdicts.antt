@@ -12,7 +12,7 @@ use Rattle.answer.specs.declared.Check.{Check}
 use Rattle.answer.specs.declared.Check.the-variants.{Fine, Refused}
 use Rattle.answer.specs.Lowest.{refuseAt}
 use Rattle.answer.specs.Stage.{firstRefusal}
-use Rattle.closure.specs.Limits.{CONTOURS}
+use Rattle.closure.specs.Limits.{contourLimit}
 use Rattle.fields.specs.Layout.{blocksOf, contoursOf}
 use Rattle.card.specs.Stages.{lengthFault, checkFault, startFault, headFault, countFault, contourFault, spareFault}
 use Rattle.card.specs.Stages.{farFault, repeatFault, nameFault, tagFault}
@@ -68,11 +68,11 @@ module _ (s : List ℕ) where
 
   -- ---- what later rows stand on
 
-  pub few : Past4 s → contoursOf s ≤ CONTOURS
-  few past = ltb-false CONTOURS (contoursOf s) (eq-false-of-not-eq-true
+  pub few : Past4 s → contoursOf s ≤ contourLimit
+  few past = ltb-false contourLimit (contoursOf s) (eq-false-of-not-eq-true
       (λ t. no-bad-field s (past .1) 1 (lit< tt) (contours (ltb-true _ _ t))))
 
-  pub few-by-11 : Past11 s → contoursOf s ≤ CONTOURS
+  pub few-by-11 : Past11 s → contoursOf s ≤ contourLimit
   few-by-11 past = few (past .0 .0 .0 .0 .0 .0 .0 .0)
 
   tags : Past10 s → Exact (tagFault s) (Row11 s)

@@ -9,7 +9,7 @@ use Rattle.answer.specs.declared.ContourType.{ContourType}
 use Rattle.answer.specs.declared.CutDirectionPreference.{CutDirectionPreference}
 use Rattle.block.specs.Block.{blockBytes}
 use Rattle.points.specs.Bad.{badPoint}
-use Rattle.closure.specs.Limits.{CONTOURS, PAIRS}
+use Rattle.closure.specs.Limits.{contourLimit, pairLimit}
 use Rattle.closure.specs.Cycle.{Acyclic}
 use Rattle.fields.specs.Limits.{perContourLimit, candidateLimit, passLimit, vertexLimit}
 use Rattle.fields.specs.Layout.{jobOf, contoursOf, pairsOf, perContourOf, passesOf, moveLimitOf, homeOffset, exteriorOf}
@@ -92,8 +92,8 @@ pub record Names (s : List ℕ) (id tag k : ℕ) : Type 0 where
 
 pub record Accepted (s : List ℕ) : Type 0 where
   pub whole : length s ≡ blockBytes * blocksDue s
-  pub few-contours : contoursOf s ≤ CONTOURS
-  pub few-pairs : pairsOf s ≤ PAIRS
+  pub few-contours : contoursOf s ≤ contourLimit
+  pub few-pairs : pairsOf s ≤ pairLimit
   pub some-candidates : 1 ≤ perContourOf s
   pub few-candidates : perContourOf s ≤ perContourLimit
   pub few-in-all : contoursOf s * perContourOf s ≤ candidateLimit

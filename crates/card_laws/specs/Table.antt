@@ -1,6 +1,6 @@
 -- When a card goes back, in the words of the table: a row holds at a place, and of several rows the first is given. The
--- rows name fields and numbers and, but for a block's sum and the test of a coordinate, compute nothing; the verdict that
--- does is said to be this one in `Exactly`. Assumes nothing.
+-- rows name fields and numbers and, but for a block's sum and the test of a coordinate, compute nothing; the verdict
+-- that does is said to be this one in `Exactly`. Assumes nothing.
 use mathlib.Core.Path.{_≡_}
 use mathlib.Core.Logic.{_⊎_}
 use mathlib.Core.Bool.{true}
@@ -12,7 +12,7 @@ use Rattle.answer.specs.declared.Check.the-variants.{Fine, Refused}
 use Rattle.block.specs.Field.{byteAt, u32At}
 use Rattle.block.specs.Block.{blockBytes, payloadBytes, checkOffset, checkAt, Due}
 use Rattle.points.specs.Bad.{badPoint}
-use Rattle.closure.specs.Limits.{CONTOURS, PAIRS}
+use Rattle.closure.specs.Limits.{contourLimit, pairLimit}
 use Rattle.fields.specs.Limits.{cardBytes, perContourLimit, candidateLimit, passLimit, vertexLimit, pairsABlock}
 use Rattle.fields.specs.Layout.{blocksOf, payload, contoursOf, pairsOf, perContourOf, passesOf, homeOffset, exteriorOf}
 use Rattle.fields.specs.Layout.{interiorOf, idOf, tagOf, vertexCountOf, typeOf, fillerOf, vertexOffset, beforeIdOf}
@@ -55,8 +55,8 @@ Row3 s count = Lowest count (StartsOtherwise s)
 
 -- 4: the lowest field
 pub data BadField (s : List ℕ) : ℕ → Type 0 where
-  contours : CONTOURS < contoursOf s → BadField s 1
-  pairs : PAIRS < pairsOf s → BadField s 2
+  contours : contourLimit < contoursOf s → BadField s 1
+  pairs : pairLimit < pairsOf s → BadField s 2
   candidates : (perContourOf s < 1) ⊎ (perContourLimit < perContourOf s) → BadField s 3
   passes : passLimit < passesOf s → BadField s 4
   exterior : 2 < exteriorOf s → BadField s 5

@@ -12,7 +12,7 @@ use Rattle.answer.specs.Lowest.{lowest}
 use Rattle.answer.proofs.LowestLaws.{LowestAt, Nowhere, at-is, absent-is, search-through}
 use borrow.Author.Tests.{lt-ltb}
 use Rattle.closure.proofs.PairLaws.{same-or, both-or, lt-or, pairAt, paired-more, paired-end, is-pair, no-pair}
-use Rattle.closure.specs.Limits.{CONTOURS}
+use Rattle.closure.specs.Limits.{contourLimit}
 use Rattle.closure.specs.Pairs.{Pair, paired, someOf, isPair}
 use Rattle.closure.specs.Cycle.{linked, leads, onCycle, firstOnCycle}
 use Rattle.closure.specs.Flags.{flag, Whole, RowJoined, RowsJoined, Noted, Says}
@@ -21,11 +21,11 @@ use Rattle.closure.specs.Flags.{flag, Whole, RowJoined, RowsJoined, Note
 abbrev put : List (List Bool) → ℕ → ℕ → Bool → List (List Bool)
 put f i j v = set f i (set (getD f i []) j v)
 
-module _ (f : List (List Bool)) (i j : ℕ) (v : Bool) (w : Whole f) (hi : i < CONTOURS) where
+module _ (f : List (List Bool)) (i j : ℕ) (v : Bool) (w : Whole f) (hi : i < contourLimit) where
   put-row : getD (put f i j v) i [] ≡ set (getD f i []) j v
   put-row = getD-set-same f i (set (getD f i []) j v) [] (omega (arith, w .rows))
 
-  pub put-here : j < CONTOURS → flag (put f i j v) i j ≡ v
+  pub put-here : j < contourLimit → flag (put f i j v) i j ≡ v
   put-here hj = rw put-row (getD-set-same (getD f i []) j v false (omega (arith, w .row i hi)))
 
   -- every other flag stays
@@ -62,7 +62,7 @@ row-none n k i f w =
       rest = λ r c h g ne. refl;
     }
 
-module _ (n k i j : ℕ) (f g : List (List Bool)) (small : n ≤ CONTOURS) (hk : k < n) (hi : i < n) (hj : j < n)
+module _ (n k i j : ℕ) (f g : List (List Bool)) (small : n ≤ contourLimit) (hk : k < n) (hi : i < n) (hj : j < n)
     (part : RowPart n k i j f g) where
   row-source : flag g k j ≡ flag f k j
   row-source =
@@ -178,7 +178,7 @@ leads-same n (suc k) link other same h i j hi hj =
 -- ---- the flags of the pairs
 
 module _ (n b a : ℕ) (f : List (List Bool)) (w : Whole f) where
-  pub note-set : b < n → a < n → n ≤ CONTOURS
+  pub note-set : b < n → a < n → n ≤ contourLimit
       → Noted n (record { before = b; after = a } ∷ []) f (put f b a true)
   unfolding someOf
   note-set hb ha small = record {
@@ -254,40 +254,41 @@ linked-is n pairs i j hi hj = rw (lt-ltb i n hi, lt-ltb j n hj)
 
 -- no flag is set
 abbrev pub unset : List (List Bool)
-unset = replicate CONTOURS (replicate CONTOURS false)
+unset = replicate contourLimit (replicate contourLimit false)
 
 pub unset-whole : Whole unset
 unset-whole = record {
-  rows = length-replicate CONTOURS (replicate CONTOURS false);
-  row = λ i h. ap length (getD-replicate CONTOURS i (replicate CONTOURS false) [] h) ∙ length-replicate CONTOURS false;
+  rows = length-replicate contourLimit (replicate contourLimit false);
+  row = λ i h.
+      ap length (getD-replicate contourLimit i (replicate contourLimit false) [] h) ∙ length-replicate contourLimit false;
 }
 
-unset-flag : (i j : ℕ) → i < CONTOURS → j < CONTOURS → flag unset i j ≡ false
+unset-flag : (i j : ℕ) → i < contourLimit → j < contourLimit → flag unset i j ≡ false
 unset-flag i j h l =
-    rw (getD-replicate CONTOURS i (replicate CONTOURS false) [] h) (getD-replicate CONTOURS j false false l)
+    rw (getD-replicate contourLimit i (replicate contourLimit false) [] h) (getD-replicate contourLimit j false false l)
 
 -- the flags of the pairs are the links
-noted-linked : (n : ℕ) (pairs : List ℕ) (f : List (List Bool)) → n ≤ CONTOURS
+noted-linked : (n : ℕ) (pairs : List ℕ) (f : List (List Bool)) → n ≤ contourLimit
     → Noted n (paired pairs) unset f → (i j : ℕ) → i < n → j < n → flag f i j ≡ linked n pairs i j
 noted-linked n pairs f small noted i j h l =
     noted .told i j h l ∙ rw (unset-flag i j (omega arith) (omega arith)) (sym (linked-is n pairs i j h l))
 
 -- each flag of the closed table says where the pairs lead
-pub closed-leads : (n : ℕ) (pairs : List ℕ) (f g : List (List Bool)) → n ≤ CONTOURS
+pub closed-leads : (n : ℕ) (pairs : List ℕ) (f g : List (List Bool)) → n ≤ contourLimit
     → Noted n (paired pairs) unset f → Says n (leads (flag f) n) g →
     (i j : ℕ) → i < n → j < n → flag g i j ≡ leads (linked n pairs) n i j
 closed-leads n pairs f g small noted says i j h l =
     says .told i j h l ∙ leads-same n n (flag f) (linked n pairs) (noted-linked n pairs f small noted) (omega arith) i
     j h l
 
-diagonal : (n : ℕ) (pairs : List ℕ) (f g : List (List Bool)) → n ≤ CONTOURS
+diagonal : (n : ℕ) (pairs : List ℕ) (f g : List (List Bool)) → n ≤ contourLimit
     → Noted n (paired pairs) unset f → Says n (leads (flag f) n) g →
     lowest (λ i. flag g i i) n ≡ lowest (onCycle n pairs) n
 diagonal n pairs f g small noted says =
     lowest-same n (λ i. flag g i i) (onCycle n pairs) (λ i h. closed-leads n pairs f g small noted says i i h h)
 
 -- and so for the number of contours, cut to the limit
-pub diagonal-capped : (contours n : ℕ) (pairs : List ℕ) (f g : List (List Bool)) → n ≡ min contours CONTOURS →
+pub diagonal-capped : (contours n : ℕ) (pairs : List ℕ) (f g : List (List Bool)) → n ≡ min contours contourLimit →
     Noted n (paired pairs) unset f → Says n (leads (flag f) n) g
     → lowest (λ i. flag g i i) n ≡ firstOnCycle contours pairs
 diagonal-capped contours n pairs f g e noted says =

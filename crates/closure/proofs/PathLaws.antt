@@ -14,7 +14,7 @@ use Rattle.answer.specs.declared.Found.{Found}
 use Rattle.answer.specs.Lowest.{lowest}
 use Rattle.answer.proofs.LowestLaws.{absent-is, is-absent}
 use Rattle.answer.proofs.Truth.{or-cases, yes-or-no, true-false}
-use Rattle.closure.specs.Limits.{CONTOURS}
+use Rattle.closure.specs.Limits.{contourLimit}
 use Rattle.closure.specs.Flags.{flag, Noted, Says}
 use Rattle.closure.proofs.FlagLaws.{unset, closed-leads, linked-is}
 use Rattle.closure.specs.Pairs.{Pair, paired, every, someOf, isPair}
@@ -144,7 +144,7 @@ absent-exactly n pairs = (
 )
 
 -- in the closed table the flag of i and j says yes exactly where pairs lead from i to j
-pub flags-exactly : (n : ℕ) (pairs : List ℕ) (f g : List (List Bool)) → n ≤ CONTOURS
+pub flags-exactly : (n : ℕ) (pairs : List ℕ) (f g : List (List Bool)) → n ≤ contourLimit
     → Noted n (paired pairs) unset f → Says n (leads (flag f) n) g →
     (i j : ℕ) → i < n → j < n → (flag g i j ≡ true) ↔ Reaches (linked n pairs) i j
 flags-exactly n pairs f g small noted says i j h l =

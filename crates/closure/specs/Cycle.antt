@@ -6,7 +6,7 @@ use Prim.Native.Nat.{ℕ, zero, suc, _<_, min}
 use lib.Dec.{ltb}
 use Rattle.answer.specs.declared.Found.{Found}
 use Rattle.answer.specs.Lowest.{lowest}
-use Rattle.closure.specs.Limits.{CONTOURS}
+use Rattle.closure.specs.Limits.{contourLimit}
 use Rattle.closure.specs.Pairs.{paired, someOf, isPair}
 
 -- a pair puts i before j, and both are below n
@@ -34,4 +34,4 @@ onCycle n pairs i = leads (linked n pairs) n i i
 
 -- the lowest position on a cycle among the first so many contours; above the limit only that many are looked at
 abbrev pub firstOnCycle : ℕ → List ℕ → Found
-firstOnCycle contours pairs = lowest (onCycle (min contours CONTOURS) pairs) (min contours CONTOURS)
+firstOnCycle contours pairs = lowest (onCycle (min contours contourLimit) pairs) (min contours contourLimit)

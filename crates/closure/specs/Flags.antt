@@ -5,7 +5,7 @@ use mathlib.Core.List.{List, []}
 use Prim.Native.Nat.{ℕ, _<_}
 use Rattle.closure.specs.Pairs.{Pair, someOf, isPair}
 use lib.ListN.{length, getD}
-use Rattle.closure.specs.Limits.{CONTOURS}
+use Rattle.closure.specs.Limits.{contourLimit}
 
 -- the flag of i and j: the one of j in i's row
 abbrev pub flag : List (List Bool) → ℕ → ℕ → Bool
@@ -13,8 +13,8 @@ flag f i j = getD (getD f i []) j false
 
 -- a table of flags is whole: it has a row for each contour, and each row a flag for each contour
 pub record Whole (f : List (List Bool)) : Type 0 where
-  pub rows : length f ≡ CONTOURS
-  pub row : (i : ℕ) → i < CONTOURS → length (getD f i []) ≡ CONTOURS
+  pub rows : length f ≡ contourLimit
+  pub row : (i : ℕ) → i < contourLimit → length (getD f i []) ≡ contourLimit
 
 -- row i of g is row i of f with row k of f added where i leads to k; the other rows are f's
 pub record RowJoined (n k i : ℕ) (f g : List (List Bool)) : Type 0 where

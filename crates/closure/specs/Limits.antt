@@ -2,9 +2,9 @@
 use Prim.Native.Nat.{ℕ}
 
 -- contours
-abbrev pub CONTOURS : ℕ
-CONTOURS = 40
+abbrev pub contourLimit : ℕ
+contourLimit = 40
 
 -- pairs
-abbrev pub PAIRS : ℕ
-PAIRS = 124
+abbrev pub pairLimit : ℕ
+pairLimit = 124

@@ -6,7 +6,7 @@ ghost use mathlib.Core.List.{[], _∷_};
 ghost use mathlib.Core.Path.{_≡_};
 ghost use Prim.Native.Nat.{_<_, _≤_, min};
 ghost use Rattle.answer.specs.Lowest.{lowest};
-ghost use Rattle.closure.specs.Limits.{CONTOURS};
+ghost use Rattle.closure.specs.Limits.{contourLimit};
 ghost use Rattle.closure.specs.Pairs.{paired};
 ghost use Rattle.closure.specs.Cycle.{leads, firstOnCycle};
 ghost use Rattle.closure.specs.Flags.{flag, Whole, RowJoined, RowsJoined, Noted, Says};
@@ -19,7 +19,7 @@ pub const PAIRS: usize = 124;
 
 // Where i leads to k, all that k leads to is added to what i leads to.
 fn join_row(flags: &mut [[bool; CONTOURS]; CONTOURS], n: usize, k: usize, i: usize)
-    requires { ⌜ (n ≤ CONTOURS) × (k < n) × (i < n) × Whole (now flags) ⌝ }
+    requires { ⌜ (n ≤ contourLimit) × (k < n) × (i < n) × Whole (now flags) ⌝ }
     ensures { λ r. ⌜ RowJoined n k i (now (flags .entry)) (now (flags .exit)) ⌝ }
 {
     if flags[i][k] {
@@ -33,7 +33,7 @@ fn join_row(flags: &mut [[bool; CONTOURS]; CONTOURS], n: usize, k: usize, i: usi
 
 // The same for every row: what i reaches by way of k is added for each i.
 fn join_rows(flags: &mut [[bool; CONTOURS]; CONTOURS], n: usize, k: usize)
-    requires { ⌜ (n ≤ CONTOURS) × (k < n) × Whole (now flags) ⌝ }
+    requires { ⌜ (n ≤ contourLimit) × (k < n) × Whole (now flags) ⌝ }
     ensures { λ r. ⌜ RowsJoined n k (now (flags .entry)) (now (flags .exit)) ⌝ }
 {
     let mut i = 0;
@@ -45,7 +45,7 @@ fn join_rows(flags: &mut [[bool; CONTOURS]; CONTOURS], n: usize, k: usize)
 
 // The flags closed under reachability: yes exactly where links lead from one to the other.
 fn close(flags: &mut [[bool; CONTOURS]; CONTOURS], n: usize)
-    requires { ⌜ (n ≤ CONTOURS) × Whole (now flags) ⌝ }
+    requires { ⌜ (n ≤ contourLimit) × Whole (now flags) ⌝ }
     ensures { λ r. ⌜ Says n (leads (flag (now (flags .entry))) n) (now (flags .exit)) ⌝ }
 {
     let mut k = 0;
@@ -57,7 +57,7 @@ fn close(flags: &mut [[bool; CONTOURS]; CONTOURS], n: usize)
 
 // The lowest position whose flag for itself is set.
 fn on_diagonal(flags: &[[bool; CONTOURS]; CONTOURS], n: usize) -> Found
-    requires { ⌜ n ≤ CONTOURS ⌝ }
+    requires { ⌜ n ≤ contourLimit ⌝ }
     ensures { λ r. ⌜ r ≡ lowest (λ i. flag (now (flags .entry)) i i) n ⌝ }
 {
     let mut k = 0;
@@ -86,7 +86,7 @@ fn wide32(x: u32) -> usize
 
 // The flag of one pair, where its two positions are below n.
 fn note(b: usize, a: usize, n: usize, flags: &mut [[bool; CONTOURS]; CONTOURS])
-    requires { ⌜ (n ≤ CONTOURS) × Whole (now flags) ⌝ }
+    requires { ⌜ (n ≤ contourLimit) × Whole (now flags) ⌝ }
     ensures { λ r. ⌜ Noted n (record { before = b; after = a } ∷ []) (now (flags .entry)) (now (flags .exit)) ⌝ }
 {
     if b < n {
@@ -98,7 +98,7 @@ fn note(b: usize, a: usize, n: usize, flags: &mut [[bool; CONTOURS]; CONTOURS])
 
 // The flag of each pair whose two positions are below n.
 fn note_pairs(pairs: &[u8], n: usize, flags: &mut [[bool; CONTOURS]; CONTOURS])
-    requires { ⌜ (n ≤ CONTOURS) × Whole (now flags) ⌝ }
+    requires { ⌜ (n ≤ contourLimit) × Whole (now flags) ⌝ }
     ensures { λ r. ⌜ Noted n (paired (now (pairs .entry))) (now (flags .entry)) (now (flags .exit)) ⌝ }
 {
     let mut at = 0;
@@ -110,7 +110,7 @@ fn note_pairs(pairs: &[u8], n: usize, flags: &mut [[bool; CONTOURS]; CONTOURS])
 
 // As note_pairs, for numbers of 32 bits.
 fn note_wide(pairs: &[u32], n: usize, flags: &mut [[bool; CONTOURS]; CONTOURS])
-    requires { ⌜ (n ≤ CONTOURS) × Whole (now flags) ⌝ }
+    requires { ⌜ (n ≤ contourLimit) × Whole (now flags) ⌝ }
     ensures { λ r. ⌜ Noted n (paired (now (pairs .entry))) (now (flags .entry)) (now (flags .exit)) ⌝ }
 {
     let mut at = 0;
@@ -122,7 +122,7 @@ fn note_wide(pairs: &[u32], n: usize, flags: &mut [[bool; CONTOURS]; CONTOURS])
 
 // At most so many contours as there are flags for.
 fn capped(contours: usize) -> usize
-    ensures { λ r. ⌜ r ≡ min contours CONTOURS ⌝ }
+    ensures { λ r. ⌜ r ≡ min contours contourLimit ⌝ }
 {
     if contours < CONTOURS {
         return contours;

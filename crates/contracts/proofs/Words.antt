@@ -26,9 +26,11 @@ of-text : OfText
 of-text = record {
   put-byte = lent (λ κs a x y p q. ap (λ z. z .at) (same p q) & ap (λ z. z .held) (same p q) & refl) (λ κs a x. alike);
   put = lent (λ κs a x y p q. ap (λ z. z .at) (same p q) & ap (λ z. z .held) (same p q) & refl) (λ κs a x. alike);
-  put-decimal = lent (λ κs a x y p q. ap (λ z. z .at) (same p q) & ap (λ z. z .held) (same p q) & refl) (λ κs a x. alike);
+  put-decimal = lent (λ κs a x y p q. ap (λ z. z .at) (same p q) & ap (λ z. z .held) (same p q) & refl)
+      (λ κs a x. alike);
   put-hex = lent (λ κs a x y p q. ap (λ z. z .at) (same p q) & ap (λ z. z .held) (same p q) & refl) (λ κs a x. alike);
-  put-number = lent (λ κs a x y p q. ap (λ z. z .at) (same p q) & ap (λ z. z .held) (same p q) & refl) (λ κs a x. alike);
+  put-number = lent (λ κs a x y p q. ap (λ z. z .at) (same p q) & ap (λ z. z .held) (same p q) & refl)
+      (λ κs a x. alike);
 }
 
 pub claim : Claim

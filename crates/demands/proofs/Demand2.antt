@@ -21,7 +21,7 @@ use Rattle.answer.specs.declared.CutDirection.{CutDirection}
 use Rattle.card_laws.specs.Table.{Has}
 use Rattle.candidates.specs.Generate.{candidatesOf, blank}
 use Rattle.candidates.proofs.CountLaws.{Closed, each-closed}
-use Rattle.closure.specs.Limits.{CONTOURS}
+use Rattle.closure.specs.Limits.{contourLimit}
 use Rattle.closure.proofs.PairLaws.{same-or}
 use Rattle.keep.proofs.OrderLaws.{keeps-exactly}
 use Rattle.fields.specs.Layout.{contoursOf, pairsOf, perContourOf, passesOf, vertexCountOf, vertexOffset, beforeIdOf}
@@ -335,7 +335,7 @@ module _ (s : List ℕ) (fine : checkOf s ≡ Fine) where
         start-long s fine,
         lt-ltb 0 (suc k) (omega arith),
         le-leb 3 (contoursOf s) h,
-        le-leb (contoursOf s) CONTOURS (accepted s fine .few-contours),
+        le-leb (contoursOf s) contourLimit (accepted s fine .few-contours),
       )
 
   few : contoursOf s < 3 → allOn s ≡ []

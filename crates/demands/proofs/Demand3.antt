@@ -9,7 +9,7 @@ use lib.Ieee.{Float, le}
 use lib.ListN.{length, getD, take, drop}
 use lib.Seq.{take-at}
 use Rattle.answer.specs.declared.Check.the-variants.{Fine}
-use Rattle.closure.specs.Limits.{CONTOURS}
+use Rattle.closure.specs.Limits.{contourLimit}
 use Rattle.fields.specs.Layout.{contoursOf, passesOf, moveLimitOf}
 use Rattle.card.specs.Verdict.{checkOf}
 use Rattle.card_laws.proofs.Facts.{accepted}
@@ -34,8 +34,8 @@ use Rattle.demands.proofs.AskedLaws.{toured-if, done-fine, fine-nothing
 use Rattle.demands.proofs.NearLaws.{home-fits, near-of, number-of, excess-of}
 
 -- the bound is enough for as many legs as a card can have contours
-enough : (n : ℕ) → n ≤ CONTOURS → (a : ℕ) × Enough n a (nearness n)
-enough n few = (6, enough-fewer n CONTOURS 6 (nearness n) few forty)
+enough : (n : ℕ) → n ≤ contourLimit → (a : ℕ) × Enough n a (nearness n)
+enough n few = (6, enough-fewer n contourLimit 6 (nearness n) few forty)
 
 twice : (n : ℕ) → 2 * nearness n ≤ excess n
 twice n = lit≤ tt

@@ -35,8 +35,8 @@ pub record OnGrid (s : List ℕ) : Type 0 where
 abbrev pub legsOn : List ℕ → List ℕ → List ℕ
 legsOn s tour = alongRoute squaredLength (homeOn s) (map (stopOn s) tour)
 
--- the interval in which the exact length of a tour lies, in steps of 2^-40 mm: from the sum of the R to that sum plus the
--- number of legs, R being the largest whole number whose square is at most S * 2^60 for a leg of squared length S
+-- the interval in which the exact length of a tour lies, in steps of 2^-40 mm: from the sum of the R to that sum plus
+-- the number of legs, R being the largest whole number whose square is at most S * 2^60 for a leg of squared length S
 pub record Interval : Type 0 where
   pub fits : (S : ℕ) → legRoot S * legRoot S ≤ S * 2 ^ 60
   pub largest : (S : ℕ) → S * 2 ^ 60 < (legRoot S + 1) * (legRoot S + 1)

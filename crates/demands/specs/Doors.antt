@@ -13,7 +13,7 @@ use Rattle.answer.specs.declared.Check.the-variants as check
 use Rattle.answer.specs.declared.Count.the-variants as count
 use Rattle.answer.specs.Code.{codeOf}
 use Rattle.cost.specs.declared.Measured.the-variants as measured
-use Rattle.closure.specs.Limits.{CONTOURS}
+use Rattle.closure.specs.Limits.{contourLimit}
 use Rattle.card.specs.Verdict.{checkOf}
 use Rattle.card_laws.specs.Table.{Given, Sound}
 use Rattle.tour.specs.declared.Toured.the-variants as answer
@@ -41,7 +41,7 @@ pub record PassedOn (s : List ℕ) (r : Refusal) : Type 0 where
   pub candidate : (number : ℕ) → pickedOf s number ≡ picked.Refused r
   pub global-to-local : (number : ℕ) → locatedOf s number ≡ located.Refused r
   pub local-to-global : (contour within : ℕ) → globalOf s contour within ≡ count.Refused r
-  pub solve-nn : nearestOf s ≡ record { check = check.Refused r; entries = replicate CONTOURS 0; count = 0 }
+  pub solve-nn : nearestOf s ≡ record { check = check.Refused r; entries = replicate contourLimit 0; count = 0 }
   pub write-list : listOf s ≡ refusedLine r
   pub jl-check : codeOf (checkOf s) ≡ oneNumber r
   pub jl-tour : (room : List ℕ) (moves bits : ℕ) → hostTour s room moves bits ≡ hosted (oneNumber r) room moves bits

@@ -10,7 +10,7 @@ use native.Mathlib.Omega.{arith}
 use lib.ListN.{length, getD, set, take, drop, replicate, length-append}
 use lib.Seq.{set-append-seam, take-suc, take-all}
 use Rattle.answer.specs.declared.Check.{Check}
-use Rattle.closure.specs.Limits.{PAIRS}
+use Rattle.closure.specs.Limits.{pairLimit}
 use Rattle.closure.specs.Pairs.{Pair, paired}
 use Rattle.closure.proofs.PairLaws.{pairAt, paired-more, paired-end}
 use Rattle.answer.proofs.RoomLaws.{padded-one}
@@ -80,7 +80,7 @@ pick-all n test pick pairs at items count all part =
     sym (append-nil (part .sofar)) ∙ (rw (paired-end pairs at all) at (part .left)) in
     rw (← e) (part .filled)
 
-pub ids-of : (items : List ℕ) (count : ℕ) (l : List ℕ) → Filled PAIRS items count l
+pub ids-of : (items : List ℕ) (count : ℕ) (l : List ℕ) → Filled pairLimit items count l
     → _≡_ {A = Rattle.hierarchy.specs.declared.Ids.Ids}
     (record { check = Check.Fine; ids = items; count = count }) (idsOf Check.Fine l)
 ids-of items count l f = rw (f .holds, f .counts)
@@ -92,7 +92,7 @@ pub copy-more : (n : ℕ) (items : List ℕ) (l : List ℕ) (i : ℕ) → i < le
 copy-more n items l i h small f =
     rw (add-one i, take-suc l i 0 h, ← add-one i) (filled-more n items i (take i l) (getD l i 0) small f)
 
-pub pairs-of : (items : List ℕ) (l : List ℕ) (i whole : ℕ) → length l ≤ i → Filled (2 * PAIRS) items i (take i l)
+pub pairs-of : (items : List ℕ) (l : List ℕ) (i whole : ℕ) → length l ≤ i → Filled (2 * pairLimit) items i (take i l)
     → whole ≡ length l / 2 →
     _≡_ {A = Rattle.hierarchy.specs.declared.PairList.PairList}
     (record { check = Check.Fine; ids = items; count = whole }) (pairListOf Check.Fine l)

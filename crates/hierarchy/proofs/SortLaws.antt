@@ -12,7 +12,7 @@ use lib.ListN.{length, getD, set, take, drop, replicate, length-set, length-appe
 use lib.ListN.{take-append-drop}
 use lib.Seq.{getD-set-same, getD-set-other, take-suc, take-suc-set, take-at, take-all, drop-cons, getD-take}
 use lib.Seq.{take-append-le, drop-append-le}
-use Rattle.closure.specs.Limits.{CONTOURS}
+use Rattle.closure.specs.Limits.{contourLimit}
 use Rattle.closure.specs.Pairs.{Pair, paired, both}
 use Rattle.closure.proofs.PairLaws.{same-or, pairAt, paired-more, paired-end}
 use mathlib.Mathlib.Data.Bool.Basic.{and-elim-right}
@@ -50,17 +50,17 @@ zeros (suc n) (suc a) = zeros n a
 
 -- what is left to tally decides the whole, and no entry is above the numbers passed
 pub record TallyPart (n : ℕ) (pairs : List ℕ) (at : ℕ) (w : List ℕ) : Type 0 where
-  pub size : length w ≡ CONTOURS
+  pub size : length w ≡ contourLimit
   pub within : at ≤ length pairs
   pub small : (a : ℕ) → getD w a 0 ≤ at
-  pub left : tallied n (paired (drop at pairs)) w ≡ tallied n (paired pairs) (replicate CONTOURS 0)
+  pub left : tallied n (paired (drop at pairs)) w ≡ tallied n (paired pairs) (replicate contourLimit 0)
 
-pub tally-none : (n : ℕ) (pairs : List ℕ) → TallyPart n pairs 0 (replicate CONTOURS 0)
+pub tally-none : (n : ℕ) (pairs : List ℕ) → TallyPart n pairs 0 (replicate contourLimit 0)
 tally-none n pairs =
     record {
-      size = length-replicate {A = ℕ} CONTOURS 0;
+      size = length-replicate {A = ℕ} contourLimit 0;
       within = omega arith;
-      small = λ a. omega (arith, zeros CONTOURS a);
+      small = λ a. omega (arith, zeros contourLimit a);
       left = refl;
     }
 
@@ -68,20 +68,21 @@ module _ (n : ℕ) (pairs : List ℕ) (at : ℕ) (w : List ℕ) (more : at + 1 <
   where
     tally-walk : tallied n (paired (drop (at + 2) pairs))
         (cond (both n (pairAt pairs at)) (heldBack w (getD pairs (at + 1) 0)) w)
-        ≡ tallied n (paired pairs) (replicate CONTOURS 0)
+        ≡ tallied n (paired pairs) (replicate contourLimit 0)
     unfolding tallied
     tally-walk = rw (paired-more pairs at more) at (part .left)
 
-    tally-small : (a : ℕ) → a < CONTOURS → (x : ℕ) → getD (heldBack w a) x 0 ≤ at + 2
+    tally-small : (a : ℕ) → a < contourLimit → (x : ℕ) → getD (heldBack w a) x 0 ≤ at + 2
     tally-small a h x = ⊎-elim
         (λ (e : x ≡ a). rw (e, getD-set-same w a (getD w a 0 + 1) 0 (omega (arith, part .size)))
         (omega (arith, part .small a)))
         (λ (d : x ≡ a → ⊥). rw (getD-set-other w a x (getD w a 0 + 1) 0 d) (omega (arith, part .small x))) (same-or x a)
 
-    pub tally-low : (a : ℕ) → a ≡ getD pairs (at + 1) 0 → both n (pairAt pairs at) ≡ true → n ≤ CONTOURS → a < CONTOURS
+    pub tally-low : (a : ℕ) → a ≡ getD pairs (at + 1) 0 → both n (pairAt pairs at) ≡ true → n ≤ contourLimit
+        → a < contourLimit
     tally-low a q t low = omega (arith, both-low n (pairAt pairs at) t)
 
-    pub tally-hit : (a : ℕ) → a ≡ getD pairs (at + 1) 0 → both n (pairAt pairs at) ≡ true → n ≤ CONTOURS
+    pub tally-hit : (a : ℕ) → a ≡ getD pairs (at + 1) 0 → both n (pairAt pairs at) ≡ true → n ≤ contourLimit
         → TallyPart n pairs (at + 2) (set w a (getD w a 0 + 1))
     tally-hit a q t low = record {
       size = length-set w a (getD w a 0 + 1) ∙ part .size;
@@ -99,7 +100,7 @@ module _ (n : ℕ) (pairs : List ℕ) (at : ℕ) (w : List ℕ) (more : at + 1 <
     }
 
 pub tally-all : (n : ℕ) (pairs : List ℕ) (at : ℕ) (w : List ℕ) → length pairs ≤ at + 1 → TallyPart n pairs at w
-    → w ≡ tallied n (paired pairs) (replicate CONTOURS 0)
+    → w ≡ tallied n (paired pairs) (replicate contourLimit 0)
 unfolding tallied
 tally-all n pairs at w all part = rw (paired-end pairs at all) at (part .left)
 
@@ -108,13 +109,13 @@ tally-all n pairs at w all part = rw (paired-end pairs at all) at (part .left)
 pub record FreePart (w : List ℕ) (n k : ℕ) (order : List ℕ) (count : ℕ) : Type 0 where
   pub within : k ≤ n
   pub few : count ≤ k
-  pub filled : Filled CONTOURS order count (freeBelow w k)
+  pub filled : Filled contourLimit order count (freeBelow w k)
 
-pub free-none : (w : List ℕ) (n : ℕ) (order : List ℕ) → order ≡ replicate CONTOURS 0 → FreePart w n 0 order 0
+pub free-none : (w : List ℕ) (n : ℕ) (order : List ℕ) → order ≡ replicate contourLimit 0 → FreePart w n 0 order 0
 unfolding freeBelow
-free-none w n order e = record { within = omega arith; few = omega arith; filled = rw e (filled-none CONTOURS) }
+free-none w n order e = record { within = omega arith; few = omega arith; filled = rw e (filled-none contourLimit) }
 
-module _ (w : List ℕ) (n k : ℕ) (order : List ℕ) (count : ℕ) (low : n ≤ CONTOURS) (more : k < n)
+module _ (w : List ℕ) (n k : ℕ) (order : List ℕ) (count : ℕ) (low : n ≤ contourLimit) (more : k < n)
     (part : FreePart w n k order count) where
   pub free-yes : getD w k 0 ≡ 0 → FreePart w n (k + 1) (set order count k) (count + 1)
   unfolding freeBelow
@@ -122,7 +123,7 @@ module _ (w : List ℕ) (n k : ℕ) (order : List ℕ) (count : ℕ) (low : n �
     within = omega arith;
     few = omega (arith, part .few);
     filled = rw (add-one k, eq-eqb (getD w k 0) 0 e)
-        (filled-more CONTOURS order count (freeBelow w k) k (omega (arith, part .few)) (part .filled));
+        (filled-more contourLimit order count (freeBelow w k) k (omega (arith, part .few)) (part .filled));
   }
 
   pub free-no : (getD w k 0 ≡ 0 → ⊥) → FreePart w n (k + 1) order count
@@ -134,9 +135,9 @@ module _ (w : List ℕ) (n k : ℕ) (order : List ℕ) (count : ℕ) (low : n �
   }
 
 pub free-all : (w : List ℕ) (n k : ℕ) (order : List ℕ) (count : ℕ) → n ≤ k → FreePart w n k order count
-    → Filled CONTOURS order count (freeBelow w n)
+    → Filled contourLimit order count (freeBelow w n)
 free-all w n k order count all part = let e : k ≡ n =
-    omega (arith, part .within) in subst (λ (z : ℕ). Filled CONTOURS order count (freeBelow w z)) e (part .filled)
+    omega (arith, part .within) in subst (λ (z : ℕ). Filled contourLimit order count (freeBelow w z)) e (part .filled)
 
 -- ---- one position held back less
 
@@ -158,21 +159,21 @@ held-yes : (w : ℕ) → (w ≡ 0 → ⊥) → held w ≡ 1
 held-yes w d = rw (ne-eqb w 0 d)
 
 -- the array is as long as the limit
-roomy-length : (w o : List ℕ) (k : ℕ) → HasRoom w o k → length o ≡ CONTOURS
+roomy-length : (w o : List ℕ) (k : ℕ) → HasRoom w o k → length o ≡ contourLimit
 roomy-length w o k s =
-    ap length (s .filled .holds) ∙ padded-length CONTOURS 0 (take k o) (omega (arith, s .filled .counts, s .room))
+    ap length (s .filled .holds) ∙ padded-length contourLimit 0 (take k o) (omega (arith, s .filled .counts, s .room))
 
-module _ (w o : List ℕ) (k a : ℕ) (roomy : HasRoom w o k) (ha : a < CONTOURS) where
+module _ (w o : List ℕ) (k a : ℕ) (roomy : HasRoom w o k) (ha : a < contourLimit) where
   in-waits : a < length w
   in-waits = omega (arith, roomy .size)
 
   -- a position that one pair holds back has a place left in the order
-  room-next : getD w a 0 ≡ 1 → k + 1 + heldCount (set w a 0) ≤ CONTOURS
+  room-next : getD w a 0 ≡ 1 → k + 1 + heldCount (set w a 0) ≤ contourLimit
   room-next e =
       let h : heldCount (set w a 0) + held (getD w a 0) ≡ heldCount w + held 0 = held-set w a 0 in-waits in
       omega (arith, held-yes (getD w a 0) (omega arith), held-no 0 refl, roomy .room)
 
-  pub room-left : getD w a 0 ≡ 1 → k < CONTOURS
+  pub room-left : getD w a 0 ≡ 1 → k < contourLimit
   room-left e = omega (arith, room-next e)
 
   pub loosen-last : getD w a 0 ≡ 1 → Stands (loosened (standing w o k) a) (set w a 0) (set o k a) (k + 1)
@@ -180,7 +181,7 @@ module _ (w o : List ℕ) (k a : ℕ) (roomy : HasRoom w o k) (ha : a < CONTOURS
   loosen-last e = record {
     roomy = record {
       size = length-set w a 0 ∙ roomy .size;
-      filled = rw longer (filled-more CONTOURS o k (take k o) a (room-left e) (roomy .filled));
+      filled = rw longer (filled-more contourLimit o k (take k o) a (room-left e) (roomy .filled));
       room = room-next e;
     };
     is = rw (longer, e);
@@ -247,7 +248,7 @@ module _ (n x : ℕ) (pairs : List ℕ) (at : ℕ) (s : Kahn) (w o : List ℕ) (
   release-miss t = record { within = omega arith; roomy = part .roomy; left = rw t at release-walk }
 
   -- a pair that counts has its second below the limit
-  pub release-low : (a : ℕ) → a ≡ getD pairs (at + 1) 0 → n ≤ CONTOURS → r ≡ true → a < CONTOURS
+  pub release-low : (a : ℕ) → a ≡ getD pairs (at + 1) 0 → n ≤ contourLimit → r ≡ true → a < contourLimit
   release-low a p low t =
       omega (
         arith,
@@ -315,8 +316,8 @@ queue-end (suc most) n i ps s h = rw (le-ltb 0 (length (drop i (s .queue))) (ome
 pub record QueuePart (n : ℕ) (pairs : List ℕ) (i : ℕ) (s : Kahn) (w o : List ℕ) (k : ℕ) : Type 0 where
   pub roomy : HasRoom w o k
   pub left :
-      queueTaken (CONTOURS - i) n (paired pairs) (firstTaken i (standing w o k))
-      ≡ queueTaken CONTOURS n (paired pairs) s
+      queueTaken (contourLimit - i) n (paired pairs) (firstTaken i (standing w o k))
+      ≡ queueTaken contourLimit n (paired pairs) s
 
 pub queue-none : (n : ℕ) (pairs w o : List ℕ) (k : ℕ) → HasRoom w o k → QueuePart n pairs 0 (standing w o k) w o k
 queue-none n pairs w o k roomy = record { roomy = roomy; left = refl }
@@ -328,21 +329,21 @@ queue-more n pairs i s w o k x w' o' k' h e part stands = record {
   roomy = stands .roomy;
   left =
       let c : k ≡ length (take k o) = part .roomy .filled .counts in
-      let f : CONTOURS - i ≡ suc (CONTOURS - (i + 1)) = omega (arith, part .roomy .room) in
+      let f : contourLimit - i ≡ suc (contourLimit - (i + 1)) = omega (arith, part .roomy .room) in
       let x-is : x ≡ getD (take k o) i 0 = e ∙ sym (getD-take k o i 0 h) in
-      ap (λ (t : Kahn). queueTaken (CONTOURS - (i + 1)) n (paired pairs) (firstTaken (i + 1) t)) (stands .is)
+      ap (λ (t : Kahn). queueTaken (contourLimit - (i + 1)) n (paired pairs) (firstTaken (i + 1) t)) (stands .is)
       ∙ rw (x-is, add-one i)
-      (sym (queue-step (CONTOURS - suc i) n i (paired pairs) (standing w o k) (omega arith))
+      (sym (queue-step (contourLimit - suc i) n i (paired pairs) (standing w o k) (omega arith))
       ∙ (rw (f, add-one i) at (part .left)));
 }
 
 pub queue-all : (n : ℕ) (pairs : List ℕ) (i : ℕ) (s : Kahn) (w o : List ℕ) (k : ℕ) → k ≤ i →
     QueuePart n pairs i s w o k →
-    Filled CONTOURS o k ((queueTaken CONTOURS n (paired pairs) s) .taken)
+    Filled contourLimit o k ((queueTaken contourLimit n (paired pairs) s) .taken)
 queue-all n pairs i s w o k h part =
     let c : k ≡ length (take k o) = part .roomy .filled .counts in
-    let at-end = queue-end (CONTOURS - i) n i (paired pairs) (standing w o k) (omega arith) in
-    let e : (queueTaken CONTOURS n (paired pairs) s) .taken ≡ take k o =
+    let at-end = queue-end (contourLimit - i) n i (paired pairs) (standing w o k) (omega arith) in
+    let e : (queueTaken contourLimit n (paired pairs) s) .taken ≡ take k o =
     ap (λ (t : Kahn). t .taken) (sym (part .left) ∙ at-end) ∙ take-all i (take k o) (omega arith) in
     rw e (part .roomy .filled)
 
@@ -393,8 +394,8 @@ tallied-length n (p ∷ more) w = tallied-length n more (cond (both n p) (heldBa
     go true = length-set w (p .after) (getD w (p .after) 0 + 1)
     go false = refl
 
-pub stands-first : (n : ℕ) (pairs w o : List ℕ) (k : ℕ) → n ≤ CONTOURS →
-    w ≡ tallied n (paired pairs) (replicate CONTOURS 0) → Filled CONTOURS o k (freeBelow w n) →
+pub stands-first : (n : ℕ) (pairs w o : List ℕ) (k : ℕ) → n ≤ contourLimit →
+    w ≡ tallied n (paired pairs) (replicate contourLimit 0) → Filled contourLimit o k (freeBelow w n) →
     Stands (untaken n (paired pairs)) w o k
 unfolding untaken
 stands-first n pairs w o k low e f = record {
@@ -406,22 +407,23 @@ stands-first n pairs w o k low e f = record {
   is = rw (is, e);
 }
   where
-    size : length w ≡ CONTOURS
-    size = ap length e ∙ tallied-length n (paired pairs) (replicate CONTOURS 0)
+    size : length w ≡ contourLimit
+    size = ap length e ∙ tallied-length n (paired pairs) (replicate contourLimit 0)
 
     is : take k o ≡ freeBelow w n
-    is = ap (take k) (f .holds) ∙ take-at (freeBelow w n) (replicate (CONTOURS - length (freeBelow w n)) 0) k
+    is = ap (take k) (f .holds) ∙ take-at (freeBelow w n) (replicate (contourLimit - length (freeBelow w n)) 0) k
         (sym (f .counts))
 
-order-of : (items : List ℕ) (count : ℕ) (l : List ℕ) → Filled CONTOURS items count l
+order-of : (items : List ℕ) (count : ℕ) (l : List ℕ) → Filled contourLimit items count l
     → _≡_ {A = Order} (record { check = Check.Fine; positions = items; count = count }) (orderOf Check.Fine l)
 order-of items count l f = rw (f .holds, f .counts)
 
 -- the whole order, as the code hands it back
 pub sorted-is : (n : ℕ) (pairs w o : List ℕ) (k : ℕ) (o' : List ℕ) (k' : ℕ) → Stands (untaken n (paired pairs)) w o k →
-    Filled CONTOURS o' k' ((queueTaken CONTOURS n (paired pairs) (standing w o k)) .taken) →
+    Filled contourLimit o' k' ((queueTaken contourLimit n (paired pairs) (standing w o k)) .taken) →
     _≡_ {A = Order} (record { check = Check.Fine; positions = o'; count = k' }) (orderOf Check.Fine (sortedBy n pairs))
 unfolding sortedBy
 sorted-is n pairs w o k o' k' first last =
-    order-of o' k' ((queueTaken CONTOURS n (paired pairs) (untaken n (paired pairs))) .taken)
-    (subst (λ (s : Kahn). Filled CONTOURS o' k' ((queueTaken CONTOURS n (paired pairs) s) .taken)) (first .is) last)
+    order-of o' k' ((queueTaken contourLimit n (paired pairs) (untaken n (paired pairs))) .taken)
+    (subst (λ (s : Kahn). Filled contourLimit o' k' ((queueTaken contourLimit n (paired pairs) s) .taken)) (first .is)
+    last)

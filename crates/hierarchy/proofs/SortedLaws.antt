@@ -11,7 +11,7 @@ use lib.Dec.{eqb, ltb}
 use borrow.Author.Tests.{eq-eqb, ne-eqb, eqb-true, eqb-false, not-true, lt-ltb, le-ltb, ltb-true}
 use lib.ListN.{length, getD, set, replicate, length-set, length-append, length-replicate, List·getD-append}
 use lib.Seq.{getD-set-same, getD-set-other, getD-append-seam, take-all}
-use Rattle.closure.specs.Limits.{CONTOURS}
+use Rattle.closure.specs.Limits.{contourLimit}
 use Rattle.closure.specs.Pairs.{Pair, paired, every, someOf, isPair, both}
 use Rattle.closure.specs.Cycle.{linked, onCycle, Acyclic, firstOnCycle}
 use Rattle.answer.specs.declared.Check.{Check}
@@ -220,14 +220,14 @@ free-first w (suc k) = ⊎-elim
 -- every pair into a holds it back while its first is not done, and those from x that are still to be walked do so too;
 -- the order has the positions that nothing holds back, each once, and each after all that is linked to it
 record Mid (n : ℕ) (pairs : List ℕ) (done : ℕ → Bool) (x : ℕ) (rest : List Pair) (w o : List ℕ) : Type 0 where
-  size : length w ≡ CONTOURS
+  size : length w ≡ contourLimit
   counts : (a : ℕ) → a < n → getD w a 0 ≡ pairCount (holds n done a) (paired pairs) + pairCount (goes n x a) rest
   listed : (a : ℕ) → a < n → met o (length o) a ≡ eqb (getD w a 0) 0
   different : Different n o (length o)
   early : (p : ℕ) → p < length o → (b : ℕ) → linked n pairs b (getD o p 0) ≡ true → (q : ℕ) × (q < p) × (getD o q 0 ≡ b)
   known : (b : ℕ) → done b ≡ true → (q : ℕ) × (q < length o) × (getD o q 0 ≡ b)
 
-module _ (n : ℕ) (small : n ≤ CONTOURS) (pairs : List ℕ) (done : ℕ → Bool) (x : ℕ) (p : Pair) (rest : List Pair)
+module _ (n : ℕ) (small : n ≤ contourLimit) (pairs : List ℕ) (done : ℕ → Bool) (x : ℕ) (p : Pair) (rest : List Pair)
     (w o : List ℕ) (mid : Mid n pairs done x (p ∷ rest) w o) where
   count-step : (a : ℕ) → a < n
       → getD w a 0 ≡ pairCount (holds n done a) (paired pairs) + (pairCount (goes n x a) rest + cond (goes n x a p) 1 0)
@@ -361,7 +361,7 @@ record Walked (n : ℕ) (pairs : List ℕ) (done : ℕ → Bool) (x : ℕ) (rest
   mid : Mid n pairs done x rest (s .waits) (s .queue)
   grown : Grown o (s .queue)
 
-walk-one : (n : ℕ) → n ≤ CONTOURS → (pairs : List ℕ) (done : ℕ → Bool) (x : ℕ) (p : Pair) (rest : List Pair)
+walk-one : (n : ℕ) → n ≤ contourLimit → (pairs : List ℕ) (done : ℕ → Bool) (x : ℕ) (p : Pair) (rest : List Pair)
     (s : Kahn) → Mid n pairs done x (p ∷ rest) (s .waits) (s .queue) →
     Walked n pairs done x rest (s .queue) (cond (eqb (p .before) x && both n p) (loosened s (p .after)) s)
 unfolding loosened into v
@@ -384,7 +384,7 @@ walk-one n small pairs done x p rest s mid = ⊎-elim
       grown = grown-none (s .queue);
     })) (yes-or-no (eqb (p .before) x && both n p))
 
-walk-all : (n : ℕ) → n ≤ CONTOURS → (pairs : List ℕ) (done : ℕ → Bool) (x : ℕ) (rest : List Pair) (s : Kahn) →
+walk-all : (n : ℕ) → n ≤ contourLimit → (pairs : List ℕ) (done : ℕ → Bool) (x : ℕ) (rest : List Pair) (s : Kahn) →
     Mid n pairs done x rest (s .waits) (s .queue) →
     Walked n pairs done x [] (s .queue) (released n x rest s)
 unfolding released
@@ -435,8 +435,9 @@ take-next n pairs i s h outer = record {
   known = λ b e. let g = met-at (s .queue) (suc i) b e in (g .0, omega (arith, g .1), g .2);
 }
 
-outer-step : (n : ℕ) → n ≤ CONTOURS → (pairs : List ℕ) (i : ℕ) (s : Kahn) → i < length (s .queue) → Outer n pairs i s →
-    Outer n pairs (suc i) (released n (getD (s .queue) i 0) (paired pairs) s)
+outer-step : (n : ℕ) → n ≤ contourLimit → (pairs : List ℕ) (i : ℕ) (s : Kahn) → i < length (s .queue)
+    → Outer n pairs i s
+    → Outer n pairs (suc i) (released n (getD (s .queue) i 0) (paired pairs) s)
 outer-step n small pairs i s h outer =
     let all = walk-all n small pairs (met (s .queue) (suc i)) (getD (s .queue) i 0) (paired pairs) s
     (take-next n pairs i s h outer) in
@@ -458,7 +459,7 @@ ended-at : (n : ℕ) (pairs : List ℕ) (i : ℕ) (s end : Kahn) → i ≡ lengt
     Outer n pairs i s → Ended n pairs end
 ended-at n pairs i s end e is outer = record { whole = s; is = rw (← e) is; outer = rw (← e) outer }
 
-outer-all : (n : ℕ) → n ≤ CONTOURS → (pairs : List ℕ) (most i : ℕ) (s : Kahn) → CONTOURS ≤ most + i →
+outer-all : (n : ℕ) → n ≤ contourLimit → (pairs : List ℕ) (most i : ℕ) (s : Kahn) → contourLimit ≤ most + i →
     Outer n pairs i s →
     Ended n pairs (queueTaken most n (paired pairs) (firstTaken i s))
 outer-all n small pairs zero i s h outer =
@@ -474,8 +475,8 @@ outer-all n small pairs (suc most) i s h outer = ⊎-elim
 
 -- ---- how it stands at first
 
-tallied-counts : (n : ℕ) → n ≤ CONTOURS → (none : ℕ → Bool) → ((b : ℕ) → none b ≡ false) → (a : ℕ) → a < n
-    → (ps : List Pair) (w : List ℕ) → length w ≡ CONTOURS →
+tallied-counts : (n : ℕ) → n ≤ contourLimit → (none : ℕ → Bool) → ((b : ℕ) → none b ≡ false) → (a : ℕ) → a < n
+    → (ps : List Pair) (w : List ℕ) → length w ≡ contourLimit →
     getD (tallied n ps w) a 0 ≡ getD w a 0 + pairCount (holds n none a) ps
 unfolding tallied pairCount
 tallied-counts n small none no' a h [] w size = omega arith
@@ -496,12 +497,12 @@ tallied-counts n small none no' a h (p ∷ ps) w size = ⊎-elim
     ≡ getD w a 0 + pairCount (holds n none a) ps = tallied-counts n small none no' a h ps w size in omega arith))
     (yes-or-no (both n p))
 
-outer-first : (n : ℕ) → n ≤ CONTOURS → (pairs : List ℕ) → Outer n pairs 0 (untaken n (paired pairs))
+outer-first : (n : ℕ) → n ≤ contourLimit → (pairs : List ℕ) → Outer n pairs 0 (untaken n (paired pairs))
 unfolding untaken anyBelow pairCount
 outer-first n small pairs = record {
   within = omega arith;
   mid = record {
-    size = tallied-length n (paired pairs) (replicate CONTOURS 0);
+    size = tallied-length n (paired pairs) (replicate contourLimit 0);
     counts = λ a h. count a h ∙ omega arith;
     listed = λ a h. free .listed a ∙ rw (lt-ltb a n h);
     different = free .different;
@@ -511,7 +512,7 @@ outer-first n small pairs = record {
 }
   where
     w : List ℕ
-    w = tallied n (paired pairs) (replicate CONTOURS 0)
+    w = tallied n (paired pairs) (replicate contourLimit 0)
 
     o : List ℕ
     o = freeBelow w n
@@ -521,8 +522,8 @@ outer-first n small pairs = record {
 
     count : (a : ℕ) → a < n → getD w a 0 ≡ pairCount (holds n (λ _. false) a) (paired pairs)
     count a h =
-        tallied-counts n small (λ _. false) (λ _. refl) a h (paired pairs) (replicate CONTOURS 0)
-        (length-replicate {A = ℕ} CONTOURS 0) ∙ rw (zeros CONTOURS a) (omega arith)
+        tallied-counts n small (λ _. false) (λ _. refl) a h (paired pairs) (replicate contourLimit 0)
+        (length-replicate {A = ℕ} contourLimit 0) ∙ rw (zeros contourLimit a) (omega arith)
 
     early : (p : ℕ) → p < length o → (b : ℕ) → linked n pairs b (getD o p 0) ≡ true
         → (q : ℕ) × (q < p) × (getD o q 0 ≡ b)
@@ -540,9 +541,9 @@ outer-first n small pairs = record {
 
 -- ---- the whole order
 
-module _ (n : ℕ) (small : n ≤ CONTOURS) (pairs : List ℕ) (free : Acyclic n pairs) where
-  ended : Ended n pairs (queueTaken CONTOURS n (paired pairs) (firstTaken 0 (untaken n (paired pairs))))
-  ended = outer-all n small pairs CONTOURS 0 (untaken n (paired pairs)) (omega arith) (outer-first n small pairs)
+module _ (n : ℕ) (small : n ≤ contourLimit) (pairs : List ℕ) (free : Acyclic n pairs) where
+  ended : Ended n pairs (queueTaken contourLimit n (paired pairs) (firstTaken 0 (untaken n (paired pairs))))
+  ended = outer-all n small pairs contourLimit 0 (untaken n (paired pairs)) (omega arith) (outer-first n small pairs)
 
   end : Kahn
   end = ended .whole
@@ -617,17 +618,17 @@ module _ (n : ℕ) (small : n ≤ CONTOURS) (pairs : List ℕ) (free : Acyclic n
 -- ---- the theorems
 
 -- a legal order exists exactly where no position reaches itself
-pub legal-exactly : (n : ℕ) → n ≤ CONTOURS → (pairs : List ℕ)
+pub legal-exactly : (n : ℕ) → n ≤ contourLimit → (pairs : List ℕ)
     → ((order : List ℕ) × Legal n pairs order) ↔ Acyclic n pairs
 legal-exactly n small pairs =
     ((λ some. legal-acyclic n pairs (some .0) (some .1)), (λ free. (sortedBy n pairs, sorted-legal n small pairs free)))
 
 module _ (contours : ℕ) (pairs : List ℕ) (fine : Check.Fine ≡ pairsCheck contours pairs) where
-  limit : contours ≤ CONTOURS
+  limit : contours ≤ contourLimit
   limit = fine-small contours pairs fine .few
 
   first-on : firstOnCycle contours pairs ≡ lowest (onCycle contours pairs) contours
-  first-on = let e : min contours CONTOURS ≡ contours =
+  first-on = let e : min contours contourLimit ≡ contours =
       omega (arith, limit) in ap (λ (m : ℕ). lowest (onCycle m pairs) m) e
 
   -- where no position reaches itself, the question is answered with a legal order

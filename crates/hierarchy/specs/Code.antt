@@ -6,7 +6,7 @@ use mathlib.Core.Path.{_≡_}
 use Prim.Native.Nat.{ℕ, _+_, _≤_}
 use lib.Dec.{eqb}
 use lib.ListN.{length, take, drop}
-use Rattle.closure.specs.Limits.{CONTOURS}
+use Rattle.closure.specs.Limits.{contourLimit}
 use Rattle.closure.specs.Pairs.{Pair, paired}
 use Rattle.hierarchy.specs.Fill.{Filled}
 use Rattle.hierarchy.specs.Sort.{Kahn}
@@ -35,9 +35,9 @@ firstTaken i s = record { taken = take i (s .queue); queue = drop i (s .queue); 
 
 -- the order has room for every position still held back
 pub record HasRoom (waits order : List ℕ) (count : ℕ) : Type 0 where
-  pub size : length waits ≡ CONTOURS
-  pub filled : Filled CONTOURS order count (take count order)
-  pub room : count + heldCount waits ≤ CONTOURS
+  pub size : length waits ≡ contourLimit
+  pub filled : Filled contourLimit order count (take count order)
+  pub room : count + heldCount waits ≤ contourLimit
 
 -- the arrays hold this
 pub record Stands (s : Kahn) (waits order : List ℕ) (count : ℕ) : Type 0 where

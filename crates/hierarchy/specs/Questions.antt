@@ -8,7 +8,7 @@ use lib.ListN.{length}
 use Rattle.answer.specs.declared.Check.{Check}
 use Rattle.answer.specs.Stage.{orElse, firstRefusal}
 use Rattle.answer.specs.Lowest.{refuseAt, refuseIf}
-use Rattle.closure.specs.Limits.{CONTOURS, PAIRS}
+use Rattle.closure.specs.Limits.{contourLimit, pairLimit}
 use Rattle.closure.specs.Pairs.{Pair, paired, someOf, isPair}
 use Rattle.closure.specs.Cycle.{firstOnCycle}
 use Rattle.answer.specs.declared.Count.{Count}
@@ -28,14 +28,14 @@ unfoldable pub pairsCheck : ℕ → List ℕ → Check
 unfolding firstRefusal
 pairsCheck contours pairs =
     firstRefusal
-    (refuseIf (ltb CONTOURS contours) 4 1
-    ∷ (refuseIf (ltb PAIRS (length pairs / 2 + length pairs % 2)) 4 2
+    (refuseIf (ltb contourLimit contours) 4 1
+    ∷ (refuseIf (ltb pairLimit (length pairs / 2 + length pairs % 2)) 4 2
     ∷ (refuseIf (eqb (length pairs % 2) 1) 10 (length pairs / 2) ∷ [])))
 
 -- then too many ids asked about
 abbrev pub validCheck : ℕ → List ℕ → List ℕ → Check
 validCheck contours pairs ids =
-    orElse (pairsCheck contours pairs) (refuseIf (ltb CONTOURS (length ids)) 15 (length ids))
+    orElse (pairsCheck contours pairs) (refuseIf (ltb contourLimit (length ids)) 15 (length ids))
 
 -- or then a cycle, at the lowest position on one
 abbrev pub sortCheck : ℕ → List ℕ → Check
@@ -49,16 +49,16 @@ verdictOf (Check.Refused r) b = Verdict.Refused r
 
 -- a refusal's list is empty
 abbrev pub pairListOf : Check → List ℕ → PairList
-pairListOf Check.Fine l = record { check = Check.Fine; ids = padded (2 * PAIRS) 0 l; count = length l / 2 }
-pairListOf (Check.Refused r) l = record { check = Check.Refused r; ids = padded (2 * PAIRS) 0 []; count = 0 }
+pairListOf Check.Fine l = record { check = Check.Fine; ids = padded (2 * pairLimit) 0 l; count = length l / 2 }
+pairListOf (Check.Refused r) l = record { check = Check.Refused r; ids = padded (2 * pairLimit) 0 []; count = 0 }
 
 abbrev pub idsOf : Check → List ℕ → Ids
-idsOf Check.Fine l = record { check = Check.Fine; ids = padded PAIRS 0 l; count = length l }
-idsOf (Check.Refused r) l = record { check = Check.Refused r; ids = padded PAIRS 0 []; count = 0 }
+idsOf Check.Fine l = record { check = Check.Fine; ids = padded pairLimit 0 l; count = length l }
+idsOf (Check.Refused r) l = record { check = Check.Refused r; ids = padded pairLimit 0 []; count = 0 }
 
 abbrev pub orderOf : Check → List ℕ → Order
-orderOf Check.Fine l = record { check = Check.Fine; positions = padded CONTOURS 0 l; count = length l }
-orderOf (Check.Refused r) l = record { check = Check.Refused r; positions = padded CONTOURS 0 []; count = 0 }
+orderOf Check.Fine l = record { check = Check.Fine; positions = padded contourLimit 0 l; count = length l }
+orderOf (Check.Refused r) l = record { check = Check.Refused r; positions = padded contourLimit 0 []; count = 0 }
 
 -- ---- the questions
 

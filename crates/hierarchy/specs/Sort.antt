@@ -4,7 +4,7 @@ use mathlib.Core.List.{List, [], _∷_, _++_}
 use Prim.Native.Nat.{ℕ, zero, suc, _+_, _-_}
 use lib.Dec.{ltb, eqb}
 use lib.ListN.{length, getD, set, drop, replicate}
-use Rattle.closure.specs.Limits.{CONTOURS}
+use Rattle.closure.specs.Limits.{contourLimit}
 use Rattle.closure.specs.Pairs.{Pair, paired, both}
 
 -- how far it has come: the positions taken, in their order; the queue of those that nothing holds back any more, in the
@@ -32,7 +32,7 @@ freeBelow w (suc k) = freeBelow w k ++ cond (eqb (getD w k 0) 0) (k ∷ []) []
 unfoldable pub untaken : ℕ → List Pair → Kahn
 unfolding tallied freeBelow
 untaken n ps =
-    let waits = tallied n ps (replicate CONTOURS 0) in
+    let waits = tallied n ps (replicate contourLimit 0) in
     record { taken = []; queue = freeBelow waits n; waits = waits }
 
 -- one pair less holds position a back; where it was the last one, a joins the queue
@@ -67,4 +67,4 @@ queueTaken (suc most) n ps s =
 -- the order of the n positions: each is taken in its turn
 unfoldable pub sortedBy : ℕ → List ℕ → List ℕ
 unfolding paired queueTaken untaken
-sortedBy n pairs = (queueTaken CONTOURS n (paired pairs) (untaken n (paired pairs))) .taken
+sortedBy n pairs = (queueTaken contourLimit n (paired pairs) (untaken n (paired pairs))) .taken

@@ -10,7 +10,7 @@ ghost use mathlib.Core.Bool.{_&&_};
 ghost use lib.Dec.{eqb};
 ghost use Prim.Native.Nat.{_-_, _*_, _≤_, _<_};
 ghost use Rattle.answer.specs.declared.Check.{Check};
-ghost use Rattle.closure.specs.Limits.{CONTOURS, PAIRS};
+ghost use Rattle.closure.specs.Limits.{contourLimit, pairLimit};
 ghost use Rattle.closure.specs.Pairs.{paired, someOf, isPair, both};
 ghost use lib.ListN.{length, replicate};
 ghost use Rattle.keep.specs.Keep.{lastRank, keepsPairs};
@@ -77,7 +77,7 @@ pub fn num_contours(contours: usize, pairs: &[u32]) -> Count
 
 // The pairs copied out.
 fn list_pairs(pairs: &[u32]) -> PairList
-    requires { ⌜ length (now pairs) ≤ 2 * PAIRS ⌝ }
+    requires { ⌜ length (now pairs) ≤ 2 * pairLimit ⌝ }
     ensures { λ r. ⌜ r ≡ pairListOf Check.Fine (now (pairs .entry)) ⌝ }
 {
     let mut ids = [0u32; 2 * PAIRS];
@@ -149,7 +149,7 @@ fn side(b: u32, a: u32, second: bool) -> u32
 
 // The numbers on one side of the pairs that have the id on the other.
 fn list_others(pairs: &[u32], id: u32, second: bool) -> Ids
-    requires { ⌜ length (now pairs) ≤ 2 * PAIRS ⌝ }
+    requires { ⌜ length (now pairs) ≤ 2 * pairLimit ⌝ }
     ensures { λ r. ⌜ r ≡ idsOf Check.Fine (othersOf second id (now (pairs .entry))) ⌝ }
 {
     let mut ids = [0u32; PAIRS];
@@ -268,8 +268,8 @@ fn both_below(b: u32, a: u32, n: usize) -> bool
 
 // How many pairs hold each position back.
 fn tally(pairs: &[u32], n: usize) -> [usize; CONTOURS]
-    requires { ⌜ n ≤ CONTOURS ⌝ }
-    ensures { λ r. ⌜ r ≡ tallied n (paired (now (pairs .entry))) (replicate CONTOURS 0) ⌝ }
+    requires { ⌜ n ≤ contourLimit ⌝ }
+    ensures { λ r. ⌜ r ≡ tallied n (paired (now (pairs .entry))) (replicate contourLimit 0) ⌝ }
 {
     let mut waits = [0usize; CONTOURS];
     let mut at = 0;
@@ -287,8 +287,8 @@ fn tally(pairs: &[u32], n: usize) -> [usize; CONTOURS]
 
 // The positions that nothing holds back, lowest first.
 fn list_free(waits: &[usize; CONTOURS], n: usize, order: &mut [u32; CONTOURS]) -> usize
-    requires { ⌜ (n ≤ CONTOURS) × (now order ≡ replicate CONTOURS 0) ⌝ }
-    ensures { λ r. ⌜ Filled CONTOURS (now (order .exit)) r (freeBelow (now (waits .entry)) n) ⌝ }
+    requires { ⌜ (n ≤ contourLimit) × (now order ≡ replicate contourLimit 0) ⌝ }
+    ensures { λ r. ⌜ Filled contourLimit (now (order .exit)) r (freeBelow (now (waits .entry)) n) ⌝ }
 {
     let mut count = 0;
     let mut k = 0;
@@ -321,7 +321,7 @@ fn loosen(
     order: &mut [u32; CONTOURS],
     count: usize,
 ) -> usize
-    requires { ⌜ (a < CONTOURS) × HasRoom (now waits) (now order) count ⌝ }
+    requires { ⌜ (a < contourLimit) × HasRoom (now waits) (now order) count ⌝ }
     ensures { λ r. ⌜ Stands (loosened (standing (now (waits .entry)) (now (order .entry)) count) a) (now (waits .exit)) (now (order .exit)) r ⌝ }
 {
     let w = waits[a];
@@ -353,7 +353,7 @@ fn release(
     order: &mut [u32; CONTOURS],
     before: usize,
 ) -> usize
-    requires { ⌜ (n ≤ CONTOURS) × HasRoom (now waits) (now order) before ⌝ }
+    requires { ⌜ (n ≤ contourLimit) × HasRoom (now waits) (now order) before ⌝ }
     ensures { λ r. ⌜ Stands (released n x (paired (now (pairs .entry))) (standing (now (waits .entry)) (now (order .entry)) before)) (now (waits .exit)) (now (order .exit)) r ⌝ }
 {
     let mut count = before;
@@ -377,8 +377,8 @@ fn take_queue(
     order: &mut [u32; CONTOURS],
     free: usize,
 ) -> usize
-    requires { ⌜ (n ≤ CONTOURS) × HasRoom (now waits) (now order) free ⌝ }
-    ensures { λ r. ⌜ Filled CONTOURS (now (order .exit)) r ((queueTaken CONTOURS n (paired (now (pairs .entry))) (standing (now (waits .entry)) (now (order .entry)) free)) .taken) ⌝ }
+    requires { ⌜ (n ≤ contourLimit) × HasRoom (now waits) (now order) free ⌝ }
+    ensures { λ r. ⌜ Filled contourLimit (now (order .exit)) r ((queueTaken contourLimit n (paired (now (pairs .entry))) (standing (now (waits .entry)) (now (order .entry)) free)) .taken) ⌝ }
 {
     let mut count = free;
     let mut i = 0;
@@ -392,7 +392,7 @@ fn take_queue(
 
 // The topological order of n positions between which there is no cycle.
 fn sorted(n: usize, pairs: &[u32]) -> Order
-    requires { ⌜ n ≤ CONTOURS ⌝ }
+    requires { ⌜ n ≤ contourLimit ⌝ }
     ensures { λ r. ⌜ r ≡ orderOf Check.Fine (sortedBy n (now (pairs .entry))) ⌝ }
 {
     let mut waits = tally(pairs, n);

@@ -9,7 +9,7 @@ use borrow.Author.Tests.{lt-ltb, le-leb, lt-leb}
 use lib.Dec.{ltb, leb}
 use lib.Ieee.{Float}
 use lib.ListN.{length}
-use Rattle.closure.specs.Limits.{CONTOURS}
+use Rattle.closure.specs.Limits.{contourLimit}
 use Rattle.table.proofs.EachLaws.{onwards, arrive}
 use Rattle.table.specs.Each.{each}
 use Rattle.improve.specs.Code.{unpaired, going, stateOf, Reached}
@@ -149,25 +149,25 @@ module _ (chart : Chart) (most limit : ℕ) (tour : List ℕ) where
   pub too-few : length tour < 3 → Reached 0 tour (searched chart most limit tour)
   too-few h = unworthy chart most limit tour (go (ltb 0 most))
     where
-      go : (b : Bool) → (b && (leb 3 (length tour) && leb (length tour) CONTOURS)) ≡ false
+      go : (b : Bool) → (b && (leb 3 (length tour) && leb (length tour) contourLimit)) ≡ false
       go true = rw (lt-leb 3 (length tour) h)
       go false = refl
 
-  pub too-many : CONTOURS < length tour → Reached 0 tour (searched chart most limit tour)
+  pub too-many : contourLimit < length tour → Reached 0 tour (searched chart most limit tour)
   too-many h = unworthy chart most limit tour (go (ltb 0 most) (leb 3 (length tour)))
     where
-      go : (b d : Bool) → (b && (d && leb (length tour) CONTOURS)) ≡ false
-      go true true = lt-leb (length tour) CONTOURS h
+      go : (b d : Bool) → (b && (d && leb (length tour) contourLimit)) ≡ false
+      go true true = lt-leb (length tour) contourLimit h
       go true false = refl
       go false true = refl
       go false false = refl
 
-  pub worthy : (moves : ℕ) (after : List ℕ) → (most ≡ 0 → ⊥) → 3 ≤ length tour → length tour ≤ CONTOURS
+  pub worthy : (moves : ℕ) (after : List ℕ) → (most ≡ 0 → ⊥) → 3 ≤ length tour → length tour ≤ contourLimit
       → Reached moves after (repeated chart limit (length tour) most (begun chart tour))
       → Reached moves after (searched chart most limit tour)
   unfolding searched
   worthy moves after p h g w =
       let one : ltb 0 most ≡ true = lt-ltb 0 most (omega arith) in
       let two : leb 3 (length tour) ≡ true = le-leb 3 (length tour) h in
-      let three : leb (length tour) CONTOURS ≡ true = le-leb (length tour) CONTOURS g in
+      let three : leb (length tour) contourLimit ≡ true = le-leb (length tour) contourLimit g in
       rw (one, two, three) w

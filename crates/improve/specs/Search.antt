@@ -6,7 +6,7 @@ use lib.Dec.{ltb, leb, eqb}
 use lib.Ieee.{Float, binary64, ofBits, sub, lt}
 use lib.ListN.{length, getD, set, take, drop}
 use Rattle.bytes.specs.Bytes.{rev, slice}
-use Rattle.closure.specs.Limits.{CONTOURS}
+use Rattle.closure.specs.Limits.{contourLimit}
 use Rattle.keep.specs.Keep.{keepsPairs}
 use Rattle.table.specs.Evaluate.{lengthOf}
 use Rattle.table.specs.Each.{each}
@@ -157,7 +157,7 @@ begun chart tour = record { tour = tour; cost = lengthIn chart tour; better = tr
 -- there is something to improve: a pass is allowed, and the tour has three contours or more (and no more than a card
 -- has)
 abbrev pub worthwhile : ℕ → ℕ → Bool
-worthwhile most n = ltb 0 most && (leb 3 n && leb n CONTOURS)
+worthwhile most n = ltb 0 most && (leb 3 n && leb n contourLimit)
 
 -- at most so many passes and so many trials from a tour on
 unfoldable pub searched : Chart → ℕ → ℕ → List ℕ → State

@@ -7,7 +7,7 @@ ghost use mathlib.Core.List.{[]};
 ghost use Prim.Native.Nat.{_+_, _-_, _≤_, _<_, _^_};
 ghost use lib.ListN.{length, set};
 ghost use Rattle.table.specs.Evaluate.{lengthOf};
-ghost use Rattle.closure.specs.Limits.{CONTOURS};
+ghost use Rattle.closure.specs.Limits.{contourLimit};
 ghost use Rattle.keep.specs.Keep.{keepsPairs};
 ghost use Rattle.table.specs.Each.{each};
 ghost use Rattle.improve.specs.Search.{ownerOf, contours, shorter, atLimit, givenBack, alternative, turn, reversed, begun, repeated, searched};
@@ -235,7 +235,7 @@ fn turns(
 
 // No pair of contours is turned round in the tour.
 fn is_legal(owner: &[u8], pairs: &[u8], tour: &[u8]) -> bool
-    requires { do ⌜ (← ⟦tour.len()⟧) ≤ CONTOURS ⌝ }
+    requires { do ⌜ (← ⟦tour.len()⟧) ≤ contourLimit ⌝ }
     ensures { λ r. ⌜ r ≡ keepsPairs (contours (now (owner .entry)) (now (tour .entry))) (now (pairs .entry)) ⌝ }
 {
     let mut order = [0u8; CONTOURS];
@@ -258,7 +258,7 @@ fn weigh(
     tour: &[u8],
     cost: f64,
 ) -> Tried
-    requires { do ⌜ (← ⟦tour.len()⟧) ≤ CONTOURS ⌝ }
+    requires { do ⌜ (← ⟦tour.len()⟧) ≤ contourLimit ⌝ }
     ensures { λ r. let length = lengthOf (now (home .entry)) (now (table .entry)) t (now (tour .entry)) in
         ⌜ Taken (shorter length cost && keepsPairs (contours (now (owner .entry)) (now (tour .entry))) (now (pairs .entry)))
         length cost r ⌝ }
@@ -294,7 +294,7 @@ fn try_reversal(
     j: usize,
     cost: f64,
 ) -> Tried
-    requires { do ⌜ (← ⟦tour.len()⟧) ≤ CONTOURS ⌝ }
+    requires { do ⌜ (← ⟦tour.len()⟧) ≤ contourLimit ⌝ }
     requires { do ⌜ j < (← ⟦tour.len()⟧) ⌝ }
     requires { ⌜ i < j ⌝ }
     ensures { λ r. let new = reversed i j (now (tour .entry)) in
@@ -326,7 +326,7 @@ fn run(
     passes: u32,
     limit: u32,
 ) -> u64
-    requires { do ⌜ (← ⟦tour.len()⟧) ≤ CONTOURS ⌝ }
+    requires { do ⌜ (← ⟦tour.len()⟧) ≤ contourLimit ⌝ }
     ensures { λ r. do
       n ← ⟦tour.len()⟧ .entry
       let chart = chartOf (now (home .entry)) (now (table .entry)) t (now (owner .entry)) (now (first .entry)) (now (pairs .entry)) in

@@ -8,7 +8,7 @@ use lib.ListN.{length, take}
 use Rattle.answer.specs.declared.Check.the-variants.{Fine}
 use Rattle.candidates.specs.Generate.{blank}
 use Rattle.candidates.proofs.CountLaws.{count-some}
-use Rattle.closure.specs.Limits.{CONTOURS}
+use Rattle.closure.specs.Limits.{contourLimit}
 use Rattle.fields.specs.Limits.{candidateLimit, vertexLimit}
 use Rattle.fields.specs.Layout.{contoursOf, perContourOf, vertexCountOf}
 use Rattle.card.specs.Verdict.{checkOf}
@@ -77,5 +77,5 @@ module _ (s : List ℕ) (fine : checkOf s ≡ Fine) where
   pub first-lent : take (instanceOf s .contours + 1) (instanceOf s .first) ≡ firsts s (contoursOf s)
   unfolding heldAt
   first-lent =
-      rw instance-is (padded-front (CONTOURS + 1) 0 (firsts s (contoursOf s)) (contoursOf s + 1)
+      rw instance-is (padded-front (contourLimit + 1) 0 (firsts s (contoursOf s)) (contoursOf s + 1)
       (firsts-length s (contoursOf s)))

@@ -17,7 +17,7 @@ use Rattle.candidates.proofs.CountLaws.{count-within, filled-length}
 use Rattle.candidates.specs.declared.Candidates.{Candidates}
 use Rattle.instance.specs.declared.Instance.{Instance}
 use Rattle.instance.specs.declared.Outline.{Outline}
-use Rattle.closure.specs.Limits.{CONTOURS}
+use Rattle.closure.specs.Limits.{contourLimit}
 use Rattle.fields.specs.Limits.{perContourLimit, candidateLimit, vertexLimit}
 use Rattle.fields.specs.Layout.{contoursOf, perContourOf, exteriorOf, interiorOf, vertexCountOf, typeOf, vertexOffset}
 use Rattle.answer.specs.declared.Point.{Point}
@@ -37,38 +37,38 @@ use Rattle.instance.proofs.RoomLaws.{points-flat, flat-length, flat-mor
 -- ---- how many contours
 
 module _ (s : List ℕ) (n c : ℕ) (e : n ≡ contoursOf s) (f : c ≡ perContourOf s) where
-  pub too-many-contours : CONTOURS < n → 0 ≡ heldOf s
-  too-many-contours h = rw (← e, ← f, lt-leb n CONTOURS h)
+  pub too-many-contours : contourLimit < n → 0 ≡ heldOf s
+  too-many-contours h = rw (← e, ← f, lt-leb n contourLimit h)
 
-  pub none-wanted : n ≤ CONTOURS → c < 1 → 0 ≡ heldOf s
-  none-wanted h g = rw (← e, ← f, le-leb n CONTOURS h, le-ltb 0 c (omega arith))
+  pub none-wanted : n ≤ contourLimit → c < 1 → 0 ≡ heldOf s
+  none-wanted h g = rw (← e, ← f, le-leb n contourLimit h, le-ltb 0 c (omega arith))
 
-  pub too-many-each : n ≤ CONTOURS → 1 ≤ c → perContourLimit < c → 0 ≡ heldOf s
-  too-many-each h g k = rw (← e, ← f, le-leb n CONTOURS h, lt-ltb 0 c g, lt-leb c perContourLimit k)
+  pub too-many-each : n ≤ contourLimit → 1 ≤ c → perContourLimit < c → 0 ≡ heldOf s
+  too-many-each h g k = rw (← e, ← f, le-leb n contourLimit h, lt-ltb 0 c g, lt-leb c perContourLimit k)
 
-  pub too-many-candidates : n ≤ CONTOURS → 1 ≤ c → c ≤ perContourLimit → candidateLimit < n * c → 0 ≡ heldOf s
+  pub too-many-candidates : n ≤ contourLimit → 1 ≤ c → c ≤ perContourLimit → candidateLimit < n * c → 0 ≡ heldOf s
   too-many-candidates h g k l =
-      rw (← e, ← f, le-leb n CONTOURS h, lt-ltb 0 c g, le-leb c perContourLimit k, lt-leb (n * c) candidateLimit l)
+      rw (← e, ← f, le-leb n contourLimit h, lt-ltb 0 c g, le-leb c perContourLimit k, lt-leb (n * c) candidateLimit l)
 
-  pub all-held : n ≤ CONTOURS → 1 ≤ c → c ≤ perContourLimit → n * c ≤ candidateLimit → n ≡ heldOf s
+  pub all-held : n ≤ contourLimit → 1 ≤ c → c ≤ perContourLimit → n * c ≤ candidateLimit → n ≡ heldOf s
   all-held h g k l =
-      rw (← e, ← f, le-leb n CONTOURS h, lt-ltb 0 c g, le-leb c perContourLimit k, le-leb (n * c) candidateLimit l)
+      rw (← e, ← f, le-leb n contourLimit h, lt-ltb 0 c g, le-leb c perContourLimit k, le-leb (n * c) candidateLimit l)
 
 -- a product of so few fits
-pub few : (n c : ℕ) → n ≤ CONTOURS → c ≤ perContourLimit → n * c ≤ CONTOURS * perContourLimit
-few n c h g = mul-le-mul {n₂ = CONTOURS} {m₂ = perContourLimit} h g
+pub few : (n c : ℕ) → n ≤ contourLimit → c ≤ perContourLimit → n * c ≤ contourLimit * perContourLimit
+few n c h g = mul-le-mul {n₂ = contourLimit} {m₂ = perContourLimit} h g
 
 -- what is known where contour k is among those held
 pub record Among (n c k : ℕ) : Type 0 where
   pub below : k < n
-  pub contours : n ≤ CONTOURS
+  pub contours : n ≤ contourLimit
   pub wanted : 1 ≤ c
   pub fit : n * c ≤ candidateLimit
 
 pub among : (n c k : ℕ) → k < cond (roomFor n c) n 0 → Among n c k
-among n c k = go (leb n CONTOURS) (ltb 0 c) (leb c perContourLimit) (leb (n * c) candidateLimit) refl refl refl
+among n c k = go (leb n contourLimit) (ltb 0 c) (leb c perContourLimit) (leb (n * c) candidateLimit) refl refl refl
   where
-    go : (p q r t : Bool) → leb n CONTOURS ≡ p → ltb 0 c ≡ q → leb (n * c) candidateLimit ≡ t
+    go : (p q r t : Bool) → leb n contourLimit ≡ p → ltb 0 c ≡ q → leb (n * c) candidateLimit ≡ t
         → k < cond (p && (q && (r && t))) n 0 → Among n c k
     go false q r t e f g h = absurd (omega arith)
     go true false r t e f g h = absurd (omega arith)
@@ -77,7 +77,7 @@ among n c k = go (leb n CONTOURS) (ltb 0 c) (leb c perContourLimit) (leb (n * c)
     go true true true true e f g h =
         record {
           below = h;
-          contours = leb-true n CONTOURS e;
+          contours = leb-true n contourLimit e;
           wanted = ltb-true 0 c f;
           fit = leb-true (n * c) candidateLimit g;
         }
@@ -119,7 +119,7 @@ module _ (s : List ℕ) where
 
   -- there is room for every contour that is gathered
   pub room-for : (k : ℕ) → k < heldOf s
-      → (k < CONTOURS) × (length (gathered s k) + length (offersOf s k) ≤ candidateLimit)
+      → (k < contourLimit) × (length (gathered s k) + length (offersOf s k) ≤ candidateLimit)
   unfolding gathered
   room-for k h =
       let a = among (contoursOf s) (perContourOf s) k h in
@@ -165,7 +165,7 @@ module _ (s : List ℕ) (k : ℕ) where
 
 -- ---- one contour more
 
-next : (s : List ℕ) (k : ℕ) → k < CONTOURS → length (gathered s k) + length (offersOf s k) ≤ candidateLimit
+next : (s : List ℕ) (k : ℕ) → k < contourLimit → length (gathered s k) + length (offersOf s k) ≤ candidateLimit
     → joined (heldAt s k) (filled (offersOf s k)) k ≡ heldAt s (suc k)
 unfolding joined heldAt filled gathered owners firsts
 next s k h g =
@@ -183,14 +183,15 @@ next s k h g =
     padded-paste candidateLimit 0 (owners s k) (replicate n k) (length (gathered s k)) n (owners-length s k)
     (rw length-replicate (omega arith)) g
     ∙ rw (take-all n (replicate n k) (rw length-replicate (omega arith))) in
-    let first : set (padded (CONTOURS + 1) 0 (firsts s k)) (k + 1) (length (gathered s k ++ l))
-    ≡ padded (CONTOURS + 1) 0 (firsts s k ++ (length (gathered s k ++ l) ∷ [])) =
-    padded-one (CONTOURS + 1) 0 (firsts s k) (length (gathered s k ++ l)) (k + 1) (firsts-length s k) (omega arith) in
+    let first : set (padded (contourLimit + 1) 0 (firsts s k)) (k + 1) (length (gathered s k ++ l))
+    ≡ padded (contourLimit + 1) 0 (firsts s k ++ (length (gathered s k ++ l) ∷ [])) =
+    padded-one (contourLimit + 1) 0 (firsts s k) (length (gathered s k ++ l)) (k + 1) (firsts-length s k)
+    (omega arith) in
     let contours : k + 1 ≡ suc k = add-one k in
     rw (items, owner, ← length-append (gathered s k) l, first) (ap (λ (i : ℕ). record {
       items = padded candidateLimit blank (gathered s (suc k));
       owner = padded candidateLimit 0 (owners s (suc k));
-      first = padded (CONTOURS + 1) 0 (firsts s (suc k));
+      first = padded (contourLimit + 1) 0 (firsts s (suc k));
       contours = i;
       count = length (gathered s (suc k));
     }) contours)

@@ -12,7 +12,7 @@ use borrow.Author.Tests.{le-leb, le-ltb}
 use Rattle.answer.specs.declared.Check.the-variants.{Fine}
 use Rattle.answer.specs.declared.Point.{Point}
 use Rattle.candidates.specs.declared.Candidate.{Candidate}
-use Rattle.closure.specs.Limits.{CONTOURS, PAIRS}
+use Rattle.closure.specs.Limits.{contourLimit, pairLimit}
 use Rattle.fields.specs.Limits.{candidateLimit}
 use Rattle.fields.specs.Layout.{contoursOf, pairsOf}
 use Rattle.card.specs.declared.Named.{Named}
@@ -113,7 +113,7 @@ unfolding namedOf checkOf
 pairs-on s fine =
     let a = accepted s fine in
     let n : namedOf s ≡ namedPairs s =
-    rw (le-ltb CONTOURS (contoursOf s) (a .few-contours), le-ltb PAIRS (pairsOf s) (a .few-pairs)) in
+    rw (le-ltb contourLimit (contoursOf s) (a .few-contours), le-ltb pairLimit (pairsOf s) (a .few-pairs)) in
     let ten : refuseAt 10 (nameFault s) ≡ Fine = is-fine (stagesOf s) fine 10 (lit< tt) in
     let known = ap (refuseAt 10) (named-stopped s (namedOf s) n) ∙ ten in
     record {

@@ -9,7 +9,7 @@ use Rattle.answer.specs.declared.CutDirection.{CutDirection}
 use Rattle.candidates.specs.declared.Candidate.{Candidate}
 use Rattle.candidates.specs.Direction.{directionOf}
 use Rattle.candidates.specs.Generate.{candidatesOf}
-use Rattle.closure.specs.Limits.{CONTOURS}
+use Rattle.closure.specs.Limits.{contourLimit}
 use Rattle.fields.specs.Limits.{perContourLimit, candidateLimit, vertexLimit}
 use Rattle.fields.specs.Layout.{contoursOf, perContourOf, exteriorOf, interiorOf, vertexCountOf, typeOf, vertexOffset}
 use Rattle.fields.specs.Values.{asType, asPreference, pointAt}
@@ -53,7 +53,7 @@ firsts s (suc k) = firsts s k ++ (length (gathered s (suc k)) ∷ [])
 
 -- n contours with c candidates each can be held
 abbrev pub roomFor : ℕ → ℕ → Bool
-roomFor n c = leb n CONTOURS && (ltb 0 c && (leb c perContourLimit && leb (n * c) candidateLimit))
+roomFor n c = leb n contourLimit && (ltb 0 c && (leb c perContourLimit && leb (n * c) candidateLimit))
 
 -- the head asks for no more than can be held; every accepted card's does
 abbrev pub holds : List ℕ → Bool

@@ -5,7 +5,7 @@ use Prim.Native.Nat.{ℕ, _+_, _*_, _≤_, min}
 use lib.Ieee.{Float}
 use lib.ListN.{length, take, replicate}
 use Rattle.points.specs.Numbers.{zero64}
-use Rattle.closure.specs.Limits.{CONTOURS, PAIRS}
+use Rattle.closure.specs.Limits.{contourLimit, pairLimit}
 use Rattle.fields.specs.Limits.{candidateLimit}
 use Rattle.fields.specs.Layout.{contoursOf, pairsOf}
 use Rattle.card.specs.Names.{namedOf, pairsOn}
@@ -40,7 +40,7 @@ pub record Front {A : Type 0} (n : ℕ) (room l : List A) : Type 0 where
 -- what was gathered of a card, as it is where the card is accepted: each part's front is what the search reads
 pub record HeldOn (s : List ℕ) (all : Instance) : Type 0 where
   pub contours : all .contours ≡ contoursOf s
-  pub few-contours : all .contours ≤ CONTOURS
+  pub few-contours : all .contours ≤ contourLimit
   pub count : all .count ≡ countOn s
   pub few : all .count ≤ candidateLimit
   pub few-entries : all .count * all .count ≤ entryLimit

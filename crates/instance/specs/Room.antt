@@ -10,7 +10,7 @@ use Rattle.answer.specs.Room.{padded}
 use Rattle.candidates.specs.declared.Candidates.{Candidates}
 use Rattle.points.specs.Numbers.{zero64}
 use Rattle.candidates.specs.Generate.{blank}
-use Rattle.closure.specs.Limits.{CONTOURS}
+use Rattle.closure.specs.Limits.{contourLimit}
 use Rattle.fields.specs.Limits.{candidateLimit, vertexLimit, perContourLimit}
 use Rattle.instance.specs.declared.Instance.{Instance}
 use Rattle.instance.specs.declared.Outline.{Outline}
@@ -31,7 +31,7 @@ unfolding gathered owners firsts
 heldAt s k = record {
   items = padded candidateLimit blank (gathered s k);
   owner = padded candidateLimit 0 (owners s k);
-  first = padded (CONTOURS + 1) 0 (firsts s k);
+  first = padded (contourLimit + 1) 0 (firsts s k);
   contours = k;
   count = length (gathered s k);
 }
@@ -53,7 +53,7 @@ joined held found k = record {
 
 -- there is room for these candidates of contour k
 pub record Roomy (held : Instance) (found : Candidates) (k : ℕ) : Type 0 where
-  pub below : k < CONTOURS
+  pub below : k < contourLimit
   pub few : found .count ≤ perContourLimit
   pub whole : length (found .items) ≡ perContourLimit
   pub room : held .count + found .count ≤ candidateLimit

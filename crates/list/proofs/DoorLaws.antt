@@ -12,7 +12,7 @@ use Rattle.answer.specs.declared.Check.{Check}
 use Rattle.answer.specs.declared.Check.the-variants.{Fine, Refused}
 use Rattle.answer.specs.declared.Refusal.{Refusal}
 use Rattle.answer.specs.Stage.{orElse, firstRefusal}
-use Rattle.closure.specs.Limits.{CONTOURS}
+use Rattle.closure.specs.Limits.{contourLimit}
 use Rattle.fields.specs.Limits.{candidateLimit}
 use Rattle.fields.specs.Layout.{contoursOf}
 use Rattle.card.specs.Verdict.{checkOf}
@@ -31,16 +31,17 @@ use Rattle.tour_laws.proofs.TourLaws.{tour-long}
 use Rattle.list.specs.Lines.{tourLines, refusalLine, listOf}
 
 -- rooms of the largest size suffice for every accepted card
-same-check : (s : List ℕ) → tourCheck s CONTOURS entryLimit ≡ checkOf s
+same-check : (s : List ℕ) → tourCheck s contourLimit entryLimit ≡ checkOf s
 unfolding tourCheck firstRefusal
 same-check s = go (checkOf s) refl
   where
-    go : (a : Check) → checkOf s ≡ a → orElse a (orElse (roomCheck s CONTOURS entryLimit) Fine) ≡ a
+    go : (a : Check) → checkOf s ≡ a → orElse a (orElse (roomCheck s contourLimit entryLimit) Fine) ≡ a
     go (Refused r) e = refl
     go Fine e =
         let f = few-candidates s e in
         let m : countOn s * countOn s ≤ entryLimit = mul-le-mul {n₂ = candidateLimit} {m₂ = candidateLimit} f f in
-        rw (sym (rooms-fine s CONTOURS entryLimit (contoursOf s) (countOn s) refl refl (accepted s e .few-contours) m))
+        rw (sym (rooms-fine s contourLimit entryLimit (contoursOf s) (countOn s) refl refl
+        (accepted s e .few-contours) m))
 
 module _ (s room : List ℕ) (table : List Float) where
   told-refused : (c : Check) (r : Refusal) (after : List ℕ) (rest : List Float)
@@ -64,7 +65,7 @@ module _ (s room : List ℕ) (table : List Float) where
       let z : _≡_ {A = ℕ} 0 1 = cc in
       absurd (omega arith)
 
-  module _ (seats : length room ≡ CONTOURS) (entries : length table ≡ entryLimit) (told : Toured) (after : List ℕ)
+  module _ (seats : length room ≡ contourLimit) (entries : length table ≡ entryLimit) (told : Toured) (after : List ℕ)
       (rest : List Float) (is : left told after rest ≡ tourOf s room table) where
     as-checked : tourOf s room table ≡ touredUnless (checkOf s) (toured s room table) room table
     unfolding tourOf

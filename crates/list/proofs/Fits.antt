@@ -16,7 +16,7 @@ use Rattle.answer.specs.declared.CutDirection.the-variants.{Ccw, Cw}
 use Rattle.answer.specs.declared.Refusal.{Refusal}
 use Rattle.block.specs.Field.{u32At}
 use Rattle.block.proofs.FieldLaws.{u32-bytes}
-use Rattle.closure.specs.Limits.{CONTOURS}
+use Rattle.closure.specs.Limits.{contourLimit}
 use Rattle.io.specs.Digits.{glyph, digits}
 use Rattle.fields.specs.Layout.{payload, jobOf, contoursOf, idOf, tagOf}
 use Rattle.card.specs.Verdict.{checkOf}
@@ -188,8 +188,8 @@ tour-short s ofBytes fine =
     let stops = stops-short s ofBytes (countOn s) (tourOn s) (omega arith) (tour-among s fine) in
     let all =
     joined (headLine s ++ stopLines s (tourOn s)) (outcomeLines (outcomeOn s))
-    (headLongest + stopLongest * CONTOURS) outcomeLongest
-    (joined (headLine s) (stopLines s (tourOn s)) headLongest (stopLongest * CONTOURS)
+    (headLongest + stopLongest * contourLimit) outcomeLongest
+    (joined (headLine s) (stopLines s (tourOn s)) headLongest (stopLongest * contourLimit)
     (head-short s ofBytes (omega arith)) (omega arith))
     (outcome-short (outcomeOn s)) in
     omega arith

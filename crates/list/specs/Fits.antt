@@ -3,7 +3,7 @@ use mathlib.Core.Path.{_≡_}
 use mathlib.Core.List.{List}
 use Prim.Native.Nat.{ℕ, _+_, _*_, _≤_, _<_, min}
 use lib.ListN.{length, getD, take}
-use Rattle.closure.specs.Limits.{CONTOURS}
+use Rattle.closure.specs.Limits.{contourLimit}
 use Rattle.text.specs.Page.{over}
 use Rattle.list.specs.Lines.{listOf}
 
@@ -23,7 +23,7 @@ outcomeLongest = 50
 
 -- the page on which a list is written
 abbrev pub longest : ℕ
-longest = headLongest + stopLongest * CONTOURS + outcomeLongest
+longest = headLongest + stopLongest * contourLimit + outcomeLongest
 
 -- no list is longer than that page
 abbrev pub Fits : Type 0

@@ -8,7 +8,7 @@ use lib.Ieee.{Float}
 use Rattle.answer.specs.declared.Check.{Check}
 use Rattle.answer.specs.declared.Check.the-variants.{Fine, Refused}
 use Rattle.answer.specs.declared.Refusal.{Refusal}
-use Rattle.closure.specs.Limits.{CONTOURS}
+use Rattle.closure.specs.Limits.{contourLimit}
 use Rattle.fields.specs.Layout.{contoursOf}
 use Rattle.card.specs.Verdict.{checkOf}
 use Rattle.table.specs.Distances.{distancesOf}
@@ -24,12 +24,13 @@ use Rattle.questions.specs.declared.Stops.{Stops}
 use Rattle.questions.specs.Nearest.{nearestIn, nearestOn, noStops, stopsOf, nearestOf}
 
 -- a part for n stops is lent
-pub stops-lent : (n : ℕ) → n ≤ CONTOURS → n ≡ length (take n noStops)
+pub stops-lent : (n : ℕ) → n ≤ contourLimit → n ≡ length (take n noStops)
 stops-lent n h = sym (length-take-le n noStops h)
 
 -- the stops written to it, on the whole room
 pub nearest-is : (p : Prepared) (table : List Float) → let t = p .all .count in let n = p .all .contours in
-    table ≡ distancesOf (take t (p .all .items)) (take t (p .all .owner)) → n ≤ CONTOURS → (part : List ℕ) (count : ℕ)
+    table ≡ distancesOf (take t (p .all .items)) (take t (p .all .owner)) → n ≤ contourLimit
+    → (part : List ℕ) (count : ℕ)
     → Written (nearest (groundOf (take t (p .homes)) table t (take (n + 1) (p .all .first)) [])
     (length (take n noStops))) (take n noStops) count part
     → length part ≡ length (take n noStops)

@@ -4,7 +4,7 @@ use Prim.Native.Nat.{ℕ}
 use lib.ListN.{length, replicate}
 use Rattle.answer.specs.declared.Check.{Check}
 use Rattle.answer.specs.declared.Check.the-variants.{Fine, Refused}
-use Rattle.closure.specs.Limits.{CONTOURS}
+use Rattle.closure.specs.Limits.{contourLimit}
 use Rattle.fields.specs.Layout.{contoursOf}
 use Rattle.card.specs.Verdict.{checkOf}
 use Rattle.start.specs.Nearest.{nearest}
@@ -23,7 +23,7 @@ nearestOn s = nearestIn (chartOn s) (contoursOf s)
 
 -- a room for a stop a contour
 abbrev pub noStops : List ℕ
-noStops = replicate CONTOURS 0
+noStops = replicate contourLimit 0
 
 -- stops as they are handed out
 abbrev pub stopsOf : List ℕ → Stops

@@ -16,7 +16,7 @@ use lib.Seq.{getD-at, getD-set-same, getD-set-other, ext-getD}
 use Rattle.closure.proofs.PairLaws.{same-or}
 use Rattle.closure.proofs.PathLaws.{every-at, pair-linked}
 use Rattle.closure.specs.Cycle.{linked, Acyclic}
-use Rattle.closure.specs.Limits.{CONTOURS}
+use Rattle.closure.specs.Limits.{contourLimit}
 use Rattle.closure.specs.Pairs.{paired, every, both}
 use Rattle.keep.proofs.OrderLaws.{ReadyNext, one-ready, legal-keeps}
 use Rattle.keep.specs.Keep.{readyIn, readyBy, keepsPairs}
@@ -246,7 +246,7 @@ abbrev pub OwnedBy : List ℕ → List ℕ → Type 0
 OwnedBy owner first = (k a : ℕ) → getD first k 0 ≤ a → a < getD first (suc k) 0 → getD owner a 0 ≡ k
 
 module _ (g : Ground) (n : ℕ) (near : Within g n) (free : Acyclic n (g .pairs))
-    (low : every (both n) (paired (g .pairs)) ≡ true) (most : n ≤ CONTOURS) where
+    (low : every (both n) (paired (g .pairs)) ≡ true) (most : n ≤ contourLimit) where
   come : Come g n n (walked g n)
   unfolding walked
   come =
@@ -256,7 +256,7 @@ module _ (g : Ground) (n : ℕ) (near : Within g n) (free : Acyclic n (g .pairs)
 
   nearest-is : nearest g n ≡ walked g n .tour
   unfolding nearest
-  nearest-is = rw (le-leb n CONTOURS most)
+  nearest-is = rw (le-leb n contourLimit most)
 
   -- over pairs without a cycle the start has a stop for every contour
   pub start-finishes : length (nearest g n) ≡ n

@@ -9,7 +9,7 @@ use borrow.Author.Tests.{eq-eqb, ne-eqb, le-leb, lt-leb}
 use lib.Ieee.{Float, lt}
 use lib.ListN.{length, getD, set, take, drop, take-append-drop}
 use lib.Seq.{length-take-le, take-suc-set, drop-set-lt, drop-drop}
-use Rattle.closure.specs.Limits.{CONTOURS}
+use Rattle.closure.specs.Limits.{contourLimit}
 use Rattle.keep.specs.Keep.{readyIn}
 use Rattle.table.specs.Each.{each}
 use Rattle.table.specs.Evaluate.{homeAt, distanceAt}
@@ -151,17 +151,17 @@ rest-kept tour room made a e =
     ∙ drop-drop 1 made room
 
 -- all steps made, the room holds the tour and its old rest
-pub written : (g : Ground) (n : ℕ) (tour room visited : List ℕ) (made : ℕ) → length room ≡ n → n ≤ CONTOURS
+pub written : (g : Ground) (n : ℕ) (tour room visited : List ℕ) (made : ℕ) → length room ≡ n → n ≤ contourLimit
     → made ≤ length tour
     → wayOf tour visited made ≡ each (step g n) n 0 setOut → drop made tour ≡ drop made room
     → Written (nearest g n) room made tour
 unfolding nearest walked
 written g n tour room visited made m h k w e =
-    let q : nearest g n ≡ take made tour = rw (le-leb n CONTOURS h) (sym (ap (λ (x : Way). x .tour) w)) in
+    let q : nearest g n ≡ take made tour = rw (le-leb n contourLimit h) (sym (ap (λ (x : Way). x .tour) w)) in
     let l : length (take made tour) ≡ made = length-take-le made tour k in
     record { counted = rw q (sym l); held = rw (q, l, ← e) (sym (take-append-drop made tour)) }
 
 -- too many contours: nothing is written
-pub unwritten : (g : Ground) (n : ℕ) (room : List ℕ) → CONTOURS < n → Written (nearest g n) room 0 room
+pub unwritten : (g : Ground) (n : ℕ) (room : List ℕ) → contourLimit < n → Written (nearest g n) room 0 room
 unfolding nearest
-unwritten g n room h = rw (lt-leb n CONTOURS h) (record { counted = refl; held = refl })
+unwritten g n room h = rw (lt-leb n contourLimit h) (record { counted = refl; held = refl })

@@ -5,7 +5,7 @@ use Prim.Native.Nat.{ℕ, suc, _-_}
 use lib.Dec.{eqb, leb}
 use lib.Ieee.{Float, lt}
 use lib.ListN.{length, getD}
-use Rattle.closure.specs.Limits.{CONTOURS}
+use Rattle.closure.specs.Limits.{contourLimit}
 use Rattle.closure.specs.Pairs.{Pair, paired, every}
 use Rattle.points.specs.Numbers.{huge}
 use Rattle.table.specs.Each.{each}
@@ -101,4 +101,4 @@ walked g n = each (step g n) n 0 setOut
 
 -- the start: a tour of n contours, or of those that can be reached; none where there are more contours than a card has
 unfoldable pub nearest : Ground → ℕ → List ℕ
-nearest g n = let w = walked g n in cond (leb n CONTOURS) (w .tour) []
+nearest g n = let w = walked g n in cond (leb n contourLimit) (w .tour) []

@@ -4,7 +4,7 @@ use points::HUGE;
 ghost use mathlib.Core.Path.{_≡_};
 ghost use mathlib.Core.List.{[]};
 ghost use Prim.Native.Nat.{_-_};
-ghost use Rattle.closure.specs.Limits.{CONTOURS};
+ghost use Rattle.closure.specs.Limits.{contourLimit};
 ghost use Rattle.table.specs.Each.{each};
 ghost use Rattle.start.specs.Nearest.{Ground, Way, reachOf, closer, offer, offered, isOpen, chosen, nearest};
 ghost use Rattle.start.specs.Code.{groundOf, Tells, Flags, Written};

@@ -1,11 +1,11 @@
--- A page and a place on it: a text is put there byte by byte, as far as the page reaches. Assumes nothing.
+-- A page and an offset on it: a text is put there byte by byte, as far as the page reaches. Assumes nothing.
 use mathlib.Core.Bool.{cond}
 use mathlib.Core.List.{List, [], _∷_}
 use Prim.Native.Nat.{ℕ, _+_}
 use lib.Dec.{ltb}
 use lib.ListN.{length, set}
 
--- the place that is written next, and what the page holds
+-- the offset that is written next, and what the page holds
 pub record Page : Type 0 where
   pub at : ℕ
   pub held : List ℕ

@@ -9,7 +9,7 @@ use lib.ListN.{length, getD, set, length-set}
 use lib.Seq.{set-set}
 use Rattle.bytes.proofs.Laws.{rev-append}
 use Rattle.bytes.specs.Bytes.{rev}
-use Rattle.closure.specs.Limits.{CONTOURS}
+use Rattle.closure.specs.Limits.{contourLimit}
 use Rattle.table.specs.Each.{each}
 use Rattle.table.proofs.EachLaws.{each-keeps}
 use Rattle.start.specs.Nearest.{Ground, Way, chosen, visit, step, setOut, walked, nearest}
@@ -119,7 +119,7 @@ step-below g n t i w bound h =
 -- so the start has no others
 pub start-below : (g : Ground) (n t : ℕ) → ((k : ℕ) → getD (g .first) k 0 ≤ t) → AllBelow t (nearest g n)
 unfolding nearest walked AllBelow
-start-below g n t bound = go (leb n CONTOURS)
+start-below g n t bound = go (leb n contourLimit)
   where
     all : AllBelow t (each (step g n) n 0 setOut .tour)
     all = each-keeps (λ w. AllBelow t (w .tour)) (step g n) n 0 (λ i l h w. step-below g n t i w bound) setOut tt

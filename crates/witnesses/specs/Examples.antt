@@ -1,5 +1,5 @@
--- Cards that meet what the demands ask for, so that none of them speaks of nothing: job 41, one whose search is cut, and
--- one sent back with 12. And what is printed of the first and the last, byte for byte. Assumes nothing.
+-- Cards that meet what the demands ask for, so that none of them speaks of nothing: job 41, one whose search is cut,
+-- and one sent back with 12. And what is printed of the first and the last, byte for byte. Assumes nothing.
 use mathlib.Core.Path.{_≡_}
 use mathlib.Core.List.{[], _∷_}
 use Prim.Native.Nat.{ℕ, _*_, _<_}

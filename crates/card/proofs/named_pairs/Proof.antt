@@ -6,7 +6,7 @@ use denote.Ref.{now}
 use borrow.Author.Needs.{needs}
 use Rattle.answer.specs.Room.{padded}
 use Rattle.answer.proofs.LowestLaws.{Nowhere}
-use Rattle.closure.specs.Limits.{PAIRS}
+use Rattle.closure.specs.Limits.{pairLimit}
 use Rattle.fields.specs.Layout.{pairsOf}
 use Rattle.card.specs.Stages.{unnamed}
 use Rattle.card.specs.Names.{seatsOf}
@@ -18,7 +18,7 @@ use Rattle.card.proofs.named_pairs.Tie as tie
 
 abbrev Inv-loop : tie.InvT-loop
 Inv-loop card m positions₀ q₀ positions q =
-    (m ≡ pairsOf card) × (q ≤ m) × Nowhere (unnamed card) q × (positions ≡ padded (2 * PAIRS) 0 (seatsOf card q))
+    (m ≡ pairsOf card) × (q ≤ m) × Nowhere (unnamed card) q × (positions ≡ padded (2 * pairLimit) 0 (seatsOf card q))
 
 abbrev μ-loop : tie.MeasureT-loop
 μ-loop card m positions₀ q₀ positions q = m - q

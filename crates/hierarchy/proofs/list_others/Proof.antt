@@ -6,7 +6,7 @@ use lib.Dec.{eqb}
 use lib.ListN.{length}
 use borrow.Author.Needs.{needs}
 use borrow.Author.Tests.{eq-eqb, ne-eqb}
-use Rattle.closure.specs.Limits.{PAIRS}
+use Rattle.closure.specs.Limits.{pairLimit}
 use Rattle.hierarchy.specs.Code.{sideOf}
 use Rattle.hierarchy.proofs.FillLaws.{PickPart, pick-none, pick-yes, pick-no, pick-all, ids-of}
 use Rattle.hierarchy.proofs.list_others.Statement.{statement}
@@ -14,7 +14,7 @@ use Rattle.hierarchy.proofs.list_others.Tie as tie
 
 abbrev Inv-loop : tie.InvT-loop
 Inv-loop pairs id second ids₀ count₀ at₀ ids count at =
-    PickPart PAIRS (λ p. eqb (sideOf (not second) p) id) (sideOf second) pairs at ids count
+    PickPart pairLimit (λ p. eqb (sideOf (not second) p) id) (sideOf second) pairs at ids count
 
 abbrev μ-loop : tie.MeasureT-loop
 μ-loop pairs id second ids₀ count₀ at₀ ids count at = length pairs - at

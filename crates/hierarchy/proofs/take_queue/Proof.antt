@@ -2,7 +2,7 @@
 use Prim.Native.Nat.{_-_}
 use mathlib.Core.Path.{refl}
 use borrow.Author.Needs.{needs}
-use Rattle.closure.specs.Limits.{CONTOURS}
+use Rattle.closure.specs.Limits.{contourLimit}
 use Rattle.hierarchy.specs.Code.{standing}
 use Rattle.hierarchy.proofs.SortLaws.{QueuePart, queue-none, queue-more, queue-all}
 use Rattle.hierarchy.proofs.take_queue.Statement.{statement}
@@ -13,7 +13,7 @@ Inv-loop pairs n waits₀ order₀ free count₀ i₀ waits order count i =
     QueuePart n pairs i (standing waits₀ order₀ free) waits order count
 
 abbrev μ-loop : tie.MeasureT-loop
-μ-loop pairs n waits₀ order₀ free count₀ i₀ waits order count i = CONTOURS - i
+μ-loop pairs n waits₀ order₀ free count₀ i₀ waits order count i = contourLimit - i
 
 loop-holds : tie.Need-loop-holds Inv-loop μ-loop
 loop-holds c = queue-none _ _ _ _ _ (c .before .pre .1)

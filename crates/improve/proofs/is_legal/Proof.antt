@@ -7,7 +7,7 @@ use native.Mathlib.Omega.{arith}
 use borrow.Author.Needs.{needs}
 use lib.ListN.{length, take, length-set}
 use lib.Seq.{length-take-le}
-use Rattle.closure.specs.Limits.{CONTOURS}
+use Rattle.closure.specs.Limits.{contourLimit}
 use Rattle.keep.specs.Keep.{keepsPairs}
 use Rattle.improve.specs.Search.{contours}
 use Rattle.improve.proofs.OrderLaws.{order-none, order-more, order-whole}
@@ -16,7 +16,7 @@ use Rattle.improve.proofs.is_legal.Tie as tie
 
 abbrev Inv-loop : tie.InvT-loop
 Inv-loop owner pairs tour order₀ n i₀ order i =
-    (i ≤ length tour) × (length order ≡ CONTOURS) × (take i order ≡ contours owner (take i tour))
+    (i ≤ length tour) × (length order ≡ contourLimit) × (take i order ≡ contours owner (take i tour))
 
 abbrev μ-loop : tie.MeasureT-loop
 μ-loop owner pairs tour order₀ n i₀ order i = length tour - i

@@ -3,7 +3,7 @@ use Prim.Native.Nat.{ℕ}
 use mathlib.Core.Path.{_≡_}
 use lib.ListN.{length, replicate, length-replicate}
 use lib.Ieee.{ofBits, binary64}
-use Rattle.closure.specs.Limits.{CONTOURS}
+use Rattle.closure.specs.Limits.{contourLimit}
 use Rattle.table.specs.Distances.{entryLimit}
 use Rattle.text.proofs.PageLaws.{written}
 use Rattle.list.proofs.DoorLaws.{refused-listed, done-fine, tour-within, tour-whole, done-listed}
@@ -13,8 +13,8 @@ use Rattle.list.proofs.write_list.Statement.{statement}
 use Rattle.list.proofs.write_list.Tie as tie
 
 -- the rooms for the tour and the table
-seats : length {A = ℕ} (replicate CONTOURS 0) ≡ CONTOURS
-seats = length-replicate {A = ℕ} CONTOURS 0
+seats : length {A = ℕ} (replicate contourLimit 0) ≡ contourLimit
+seats = length-replicate {A = ℕ} contourLimit 0
 
 entries : length (replicate entryLimit (ofBits binary64 0)) ≡ entryLimit
 entries = length-replicate entryLimit (ofBits binary64 0)
