@@ -15,6 +15,7 @@ of-fields = record {
   exterior = told _ (λ κs a u v. refl) (λ κs a x. alike);
   interior = told _ (λ κs a u v. refl) (λ κs a x. alike);
   contour-offset = told _ (λ κs a u v. refl) (λ κs a x. alike);
+  pair-offset = told _ (λ κs a u v. refl) (λ κs a x. alike);
   contour-byte = told _ (λ κs a u v. refl) (λ κs a x. alike);
   id = told _ (λ κs a u v. refl) (λ κs a x. alike);
   tag = told _ (λ κs a u v. refl) (λ κs a x. alike);

@@ -4,8 +4,8 @@ use Prim.Native.Nat.{_+_, min, _-_}
 use lib.ListN.{length}
 use Rattle.block.specs.Field.{byteAt}
 use Rattle.fields.specs.Layout.{payload, jobOf, contoursOf, pairsOf, perContourOf, passesOf, moveLimitOf, homeOffset}
-use Rattle.fields.specs.Layout.{exteriorOf, interiorOf, idOf, tagOf, vertexCountOf, typeOf, vertexOffset, beforeIdOf}
-use Rattle.fields.specs.Layout.{beforeTagOf, afterIdOf, afterTagOf}
+use Rattle.fields.specs.Layout.{exteriorOf, interiorOf, idOf, tagOf, vertexCountOf, typeOf, vertexOffset, pairOffset}
+use Rattle.fields.specs.Layout.{beforeIdOf, beforeTagOf, afterIdOf, afterTagOf}
 use Rattle.fields.specs.Values.{asType, asPreference, pointAt}
 use Rattle.card.specs.Stages.{positionOf}
 use Rattle.card.specs.Names.{namedOf}
@@ -41,6 +41,8 @@ pub record OfFields : Type 0 where
   pub contour-offset : Says Fields.contour_offset.ended Fields.contour_offset.Reads.Asked
       Fields.contour_offset.Reads.Learnt
       (λ _ card k offset r. r ≡ min (payload (k + 1) + offset) (length (now card)))
+  pub pair-offset : Says Fields.pair_offset.ended Fields.pair_offset.Reads.Asked Fields.pair_offset.Reads.Learnt
+      (λ _ card q r. r ≡ min (pairOffset (now card) q) (length (now card)))
   pub contour-byte : Says Fields.contour_byte.ended Fields.contour_byte.Reads.Asked Fields.contour_byte.Reads.Learnt
       (λ _ card k offset r. r ≡ byteAt (now card) (payload (k + 1) + offset))
   pub id : Says Fields.id.ended Fields.id.Reads.Asked Fields.id.Reads.Learnt (λ _ card k r. r ≡ idOf (now card) k)

@@ -41,7 +41,7 @@ use Rattle.demands.specs.Starred.{OfRoots, OfSquare, GoesBack, OfNothing
 use Rattle.demands.proofs.Doors.{passed-on}
 
 -- what the list of a card is computed through
-list-computes : Unit {0}
+unfoldable pub list-computes : Unit {0}
 unfolding tour-computes listOf tourLines headLine stopLines stopLine placeLine nameWords wayWord outcomeLines decimalOf
     decimalIn hexOf
 list-computes = tt

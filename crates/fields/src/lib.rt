@@ -207,7 +207,7 @@ fn vertex_offset(card: &[u8], k: usize, j: usize) -> usize
 }
 
 // Where pair q stands, cut off likewise.
-fn pair_offset(card: &[u8], q: usize) -> usize
+pub fn pair_offset(card: &[u8], q: usize) -> usize
     ensures { λ r. ⌜ r ≡ min (pairOffset (now (card .entry)) q) (length (now (card .entry))) ⌝ }
 {
     let first = (block::u16_at(card, CONTOURS_AT) as usize) + 1;

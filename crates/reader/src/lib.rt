@@ -5,12 +5,9 @@ ghost use mathlib.Core.Path.{_≡_};
 ghost use Prim.Native.Nat.{_+_, _*_, _-_, _≤_, min};
 ghost use lib.ListN.{length};
 ghost use Rattle.fields.specs.Limits.{vertexLimit};
-ghost use Rattle.fields.specs.Layout.{pairOffset};
 ghost use Rattle.reader.specs.Fields.{fieldAt};
 ghost use Rattle.reader.specs.Walk.{walk, eights, fourFrom};
 ghost use Rattle.reader.specs.OnCard.{filled, headOf, contourHead, contourRead, pairRead};
-use fields::PAIR_SIZE;
-use fields::PAIRS_A_BLOCK;
 use fields::PAYLOAD_AT;
 use fields::VERTICES;
 
@@ -302,19 +299,11 @@ pub fn read_contour(card: &[u8], k: usize) -> Contour
     }
 }
 
-// Where pair q begins, or the end: the blocks of pairs follow those of contours, one after the other.
-fn pair_at(card: &[u8], q: usize) -> usize
-    ensures { λ r. ⌜ r ≡ min (pairOffset (now (card .entry)) q) (length (now (card .entry))) ⌝ }
-{
-    let k = fields::contours(card) + q / PAIRS_A_BLOCK;
-    fields::contour_offset(card, k, PAIR_SIZE * (q % PAIRS_A_BLOCK))
-}
-
 // Pair q.
 pub fn read_pair(card: &[u8], q: usize) -> Pair
     ensures { λ r. ⌜ r ≡ pairRead (now (card .entry)) q ⌝ }
 {
-    let at = pair_at(card, q);
+    let at = fields::pair_offset(card, q);
     let four = read_four(card, at, Width::Four, Width::Four, Width::Four, Width::Four);
     Pair {
         before_id: four.first,

@@ -6,7 +6,6 @@ use native.Mathlib.Omega.{arith}
 use lib.Dec.{T, lit<}
 use lib.Ieee.Fits.{and-l, and-r}
 use lib.ListN.{length, getD}
-use Rattle.answer.specs.declared.Check.{Check}
 use Rattle.candidates.specs.declared.Candidate.{Candidate}
 use Rattle.card_laws.specs.Examples.{job41, waiting}
 use Rattle.card_laws.specs.Table.{Given, twelve, Past11}
@@ -18,31 +17,26 @@ use Rattle.exact.specs.Grid.{gridPoint, gridPoints}
 use Rattle.table.specs.Distances.{absent, pierced}
 use Rattle.instance.specs.Search.{candidatesOn}
 use Rattle.tour.specs.Search.{outcomeOn}
-use Rattle.tour_laws.proofs.Computes.{tour-computes}
-use Rattle.text.specs.Text as text
-use Rattle.text.specs.Text.{decimalIn, decimalOf, hexOf}
-use Rattle.list.specs.Lines.{headLine, wayWord, nameWords, placeLine, stopLine, stopLines, outcomeLines, tourLines}
-use Rattle.list.specs.Lines.{refusalLine, listUnless, listOf}
 use Rattle.demands.specs.Demand2.{searchOn}
 use Rattle.demands.specs.Demand3.{OnGrid}
 use Rattle.demands.proofs.Demand2.{claim as demand2}
+use Rattle.demands.proofs.Starred.{list-computes, claim as starred}
 use Rattle.witnesses.specs.Examples.{limited, Answered, AnsweredOnGrid, CutByLimit, SentBackWith12, Printed}
 use Rattle.witnesses.specs.Examples.{Claim}
 
 -- what is computed here is computed through these
-unfoldable pub list-computes : Unit {0}
-unfolding tour-computes gridPoints listOf tourLines refusalLine headLine stopLines stopLine placeLine nameWords
-    wayWord outcomeLines decimalOf decimalIn hexOf
-list-computes = tt
+unfoldable pub grid-computes : Unit {0}
+unfolding list-computes gridPoints
+grid-computes = tt
 
 -- ---- answered with a tour, on the grid
 
 job41-answered : Answered job41 3 3
-unfolding list-computes
+unfolding grid-computes
 job41-answered = refl
 
 limited-answered : Answered limited 3 6
-unfolding list-computes
+unfolding grid-computes
 limited-answered = refl
 
 pub each-on : (cs : List Candidate) → T (gridPoints (map pierced cs)) → (a : ℕ) → a < length cs
@@ -54,11 +48,11 @@ each-on (c ∷ cs) h (suc a) l =
     each-on cs (and-r (gridPoint (pierced c)) (gridPoints (map pierced cs)) h) a (omega arith)
 
 job41-on-grid : OnGrid (written job41)
-unfolding list-computes
+unfolding grid-computes
 job41-on-grid = record { home = tt; candidate = each-on (candidatesOn (written job41)) tt }
 
 limited-on-grid : OnGrid (written limited)
-unfolding list-computes
+unfolding grid-computes
 limited-on-grid = record { home = tt; candidate = each-on (candidatesOn (written limited)) tt }
 
 answered-on-grid : AnsweredOnGrid
@@ -72,11 +66,11 @@ answered-on-grid = record {
 -- ---- cut
 
 needs-more : 2 < searchOn (written limited) 0 .moves
-unfolding list-computes
+unfolding grid-computes
 needs-more = lit< tt
 
 limit-is : moveLimitOf (written limited) ≡ 2
-unfolding list-computes
+unfolding grid-computes
 limit-is = refl
 
 -- so by demand 2 it is cut there: the search with the limit need not be computed
@@ -103,13 +97,11 @@ sent-back = record {
 
 -- ---- printed
 
-waiting-printed : listOf (written waiting) ≡ text.bytes "REFUSED 12 AT 1\n"
-unfolding listOf refusalLine decimalOf decimalIn
-waiting-printed = ap (λ (c : Check). listUnless c (written waiting)) (examples .on-a-cycle)
-
 printed : Printed
-unfolding list-computes
-printed = record { job41-printed = refl; waiting-printed = waiting-printed }
+printed = record {
+  job41-printed = starred .of-job41 .printed;
+  waiting-printed = starred .of-cycles .waiting-only .printed;
+}
 
 pub claim : Claim
 claim = (answered-on-grid, cut, sent-back, printed)

@@ -32,7 +32,8 @@ use Rattle.witnesses.specs.Taken.{mm, aligned, bound, free, capped, afte
 use Rattle.witnesses.specs.Taken.{OtherTaken, ReversalTaken, ReversalIllegal, firstPass, secondPass, thirdPass}
 use Rattle.witnesses.specs.Taken.{LineAnswered, Elsewhere, AcceptedTrials, ForbiddenTrial, ThreePasses, CutInside}
 use Rattle.witnesses.specs.Taken.{LinePrinted, Claim}
-use Rattle.witnesses.proofs.Examples.{list-computes, each-on}
+use Rattle.demands.proofs.Starred.{list-computes}
+use Rattle.witnesses.proofs.Examples.{each-on}
 
 -- ---- what the bytes say
 

@@ -5,7 +5,7 @@ use Rattle.reader.proofs.read_pair.Statement.{statement}
 use Rattle.reader.proofs.read_pair.Tie as tie
 
 returns : tie.Need-returns
-returns c = pair-is _ _ _ _ (c .before .pair-at .ensures) (c .read-four .ensures)
+returns c = pair-is _ _ _ _ (c .before .pair-offset .ensures) (c .read-four .ensures)
 
 pub read-pair-spec : {M : Type 1} → statement M
 read-pair-spec = tie.close (tie.spec (λ c κs. search needs) (λ c κs. search needs) returns)
