@@ -10,6 +10,12 @@ use lib.ListN.{length, take, drop, getD, set, replicate, length-append, length-d
 use lib.Seq.{paste, sets-eq, take-append-seam, take-at, drop-at, drop-append-add, drop-append-le, length-take-le}
 use Rattle.answer.specs.Room.{placed, padded}
 
+-- what is read within a list does not hang on what would be read past its end
+pub any-default : {A : Type 0} (l : List A) (a : ℕ) (d e : A) → a < length l → getD l a d ≡ getD l a e
+any-default [] a d e h = absurd (omega arith)
+any-default (x ∷ l) zero d e h = refl
+any-default (x ∷ l) (suc a) d e h = any-default l a d e (omega arith)
+
 -- ---- the front written, the rest kept
 
 module _ {A : Type 0} (l room : List A) where

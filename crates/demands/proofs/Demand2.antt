@@ -4,7 +4,7 @@ use mathlib.Core.Logic.{_⊎_, inl, inr}
 use mathlib.Core.Bool.{Bool, true, false, and-false}
 use mathlib.Core.List.{List, [], _∷_, _++_}
 use Prim.Native.Nat.{ℕ, zero, suc, _+_, _*_, _-_, _≤_, _<_}
-use native.Mathlib.Nat.{sub-zero, min-eq-left, not-suc-le-zero, le-of-suc-le-suc}
+use native.Mathlib.Nat.{sub-zero, min-eq-left}
 use native.Mathlib.Omega.{arith}
 use borrow.Author.Tests.{lt-ltb, le-leb, lt-leb, eq-eqb, ne-eqb}
 use lib.Dec.{ltb}
@@ -16,6 +16,7 @@ use Rattle.points.specs.Distance.{squares, distanceSqOf, distanceOf}
 use Rattle.bytes.specs.Bytes.{rev}
 use Rattle.answer.specs.declared.Point.{Point}
 use Rattle.answer.specs.declared.Check.the-variants.{Fine}
+use Rattle.answer.proofs.RoomLaws.{any-default}
 use Rattle.candidates.specs.declared.Candidate.{Candidate}
 use Rattle.answer.specs.declared.CutDirection.{CutDirection}
 use Rattle.card_laws.specs.Table.{Has}
@@ -69,12 +70,6 @@ unfolding verticesOf tabulated
 vertices-are s k zero = refl
 vertices-are s k (suc v) = ap (λ (l : List Point). l ++ (pointAt s (vertexOffset k v) ∷ [])) (vertices-are s k v)
 
--- within a list it does not matter what is read behind it
-either : (cs : List Candidate) (j : ℕ) (x y : Candidate) → j < length cs → getD cs j x ≡ getD cs j y
-either [] j x y h = absurd (not-suc-le-zero h)
-either (c ∷ cs) zero x y h = refl
-either (c ∷ cs) (suc j) x y h = either cs j x y (le-of-suc-le-suc h)
-
 -- the candidates gathered up to n hold those of each contour before
 gathered-own : (s : List ℕ) (n k j : ℕ) → k < n → j < length (offersOf s k)
     → getD (gathered s n) (length (gathered s k) + j) absent ≡ getD (offersOf s k) j absent
@@ -108,7 +103,7 @@ module _ (s : List ℕ) (fine : checkOf s ≡ Fine) where
       → leaving (getD cs j absent) ≡ pierced (getD cs j absent)
   own-closed cs j all l =
       let c = all j l in
-      subst (λ (q : Candidate). leaving q ≡ pierced q) (either cs j blank absent l)
+      subst (λ (q : Candidate). leaving q ≡ pierced q) (any-default cs j blank absent l)
       (λ i. record { x = c .same-x i; y = c .same-y i })
 
   numbered : Numbered s

@@ -1,8 +1,7 @@
 -- Candidates by number, and numbers by candidate, as the code finds them. Assumes nothing.
 use mathlib.Core.Path.{_≡_, refl, sym, ap, _∙_}
 use mathlib.Core.List.{List, [], _∷_}
-use Prim.Native.Nat.{ℕ, zero, suc, _+_, _-_, _≤_, _<_}
-use native.Mathlib.Nat.{not-suc-le-zero, le-of-suc-le-suc}
+use Prim.Native.Nat.{ℕ, _+_, _-_, _≤_, _<_}
 use native.Mathlib.Omega.{arith}
 use lib.Dec.{leb}
 use lib.ListN.{length, getD}
@@ -25,7 +24,7 @@ use Rattle.instance.specs.declared.Instance.{Instance}
 use Rattle.instance.specs.Room.{heldAt, instanceOf}
 use Rattle.instance.specs.Search.{candidatesOn, countOn, firstsOn}
 use Rattle.instance.specs.Prepared.{HeldOn}
-use Rattle.answer.proofs.RoomLaws.{padded-at}
+use Rattle.answer.proofs.RoomLaws.{any-default, padded-at}
 use Rattle.instance.proofs.FineLaws.{instance-is}
 use Rattle.instance.proofs.OwnerLaws.{gathered-grows, first-at}
 use Rattle.questions.specs.declared.Local.{Local}
@@ -35,12 +34,6 @@ use Rattle.questions.specs.declared.Picked.{Picked}
 use Rattle.questions.specs.declared.Picked.the-variants as picked
 use Rattle.questions.specs.Index.{numberCheck, pickedUnless, pickedOf, placeIn, placeOn, locatedUnless, locatedOf}
 use Rattle.questions.specs.Index.{localCheck, globalOf}
-
--- an element of a list is the same whatever stands past the end
-any-default : {A : Type 0} (l : List A) (a : ℕ) (d e : A) → a < length l → getD l a d ≡ getD l a e
-any-default [] a d e h = absurd (not-suc-le-zero h)
-any-default (x ∷ l) zero d e h = refl
-any-default (x ∷ l) (suc a) d e h = any-default l a d e (le-of-suc-le-suc h)
 
 module _ (s : List ℕ) (all : Instance) (held : HeldOn s all) where
   -- ---- a candidate

@@ -13,6 +13,7 @@ use lib.Seq.{getD-at}
 use Rattle.answer.specs.declared.Point.{Point}
 use Rattle.answer.specs.declared.CutDirection.{CutDirection}
 use Rattle.answer.specs.declared.Check.the-variants.{Fine}
+use Rattle.answer.proofs.RoomLaws.{any-default}
 use Rattle.fields.specs.Limits.{perContourLimit}
 use Rattle.points.specs.Points.{nowhere}
 use Rattle.points.specs.Bad.{badPoint}
@@ -97,12 +98,6 @@ near-both : (l m : List Candidate) → AllNear l → AllNear m → AllNear (l ++
 near-both [] m h g a o = g a o
 near-both (c ∷ l) m h g zero o = h 0 (omega arith)
 near-both (c ∷ l) m h g (suc a) o = near-both l m (λ i k. h (suc i) (omega arith)) g a (omega arith)
-
--- what is read within a list does not hang on what would be read past its end
-any-default : {A : Type 0} (l : List A) (a : ℕ) (d e : A) → a < length l → getD l a d ≡ getD l a e
-any-default [] a d e h = absurd (omega arith)
-any-default (x ∷ l) zero d e h = refl
-any-default (x ∷ l) (suc a) d e h = any-default l a d e (omega arith)
 
 vertex-at : (s : List ℕ) (k m j : ℕ) → j < m → getD (verticesOf s k m) j nowhere ≡ pointAt s (vertexOffset k j)
 unfolding verticesOf
