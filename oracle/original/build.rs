@@ -48,7 +48,7 @@ fn main() {
     let folder = env::var("U_NESTING_SRC").unwrap_or("../shared/docs/src/crates/cutting/src".into());
     let folder = top.join(folder);
 
-    for name in ["config", "cost", "result", "gtsp"] {
+    for name in ["config", "cost", "result"] {
         File::read(&folder, name).write(name);
     }
 
@@ -70,7 +70,22 @@ fn main() {
         )
         .write("hierarchy");
 
+    // The search as it is given shows the fault that request 2026-01 mends: a rejected candidate gives back the
+    // one held when its turn began. In the copies that ours is held against it gives back what stood there before
+    // it: the last one accepted in the turn, or with none the one held.
+    File::read(&folder, "gtsp").write("given");
+    let mended = || {
+        File::read(&folder, "gtsp")
+            .swap("solution[pos] = alt_global;", "let before = solution[pos]; solution[pos] = alt_global;", 1)
+            .swap("solution[pos] = current_global; // Undo", "solution[pos] = before;", 1)
+    };
+    mended().write("gtsp");
+
     // Where a trial is about to begin the counted limit is asked (count::spent in lib.rs). The clock stays
-    // in the copy and is never asked, since the time limit is 0 wherever this copy is called.
-    File::read(&folder, "gtsp").swap("since_check += 1;", "if crate::count::spent() { return; }", 2).write("counted");
+    // in the copy and is never asked, since the time limit is 0 wherever this copy is called. A candidate that is
+    // rejected after another was accepted in its turn is counted (count::kept).
+    mended()
+        .swap("since_check += 1;", "if crate::count::spent() { return; }", 2)
+        .swap("solution[pos] = before;", "solution[pos] = before; crate::count::rejected(before != current_global);", 1)
+        .write("counted");
 }

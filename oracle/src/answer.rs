@@ -5,10 +5,10 @@ use original::config::{CutDirectionPreference, CuttingConfig};
 use original::contour::{ContourType, CutContour};
 use original::hierarchy::CuttingDag;
 use original::result::CutDirection;
-use original::{count, counted, gtsp};
+use original::{count, counted, given, gtsp};
 
-/// A card as the original has it. `instance` is of the original as it is, `counted` of the copy with the
-/// counted limit; both are made by the same code.
+/// A card as the original has it. `instance` is of the original with the rule for a rejected candidate mended,
+/// `counted` of the copy with the counted limit; both are made by the same code.
 pub struct Problem {
     pub instance: gtsp::GtspInstance,
     pub counted: counted::GtspInstance,
@@ -23,6 +23,8 @@ pub struct Found {
     pub moves: u64,
     /// The length's bits.
     pub length: u64,
+    /// The candidates that were rejected after another was accepted in the same turn.
+    pub kept: u64,
 }
 
 /// A preference by its number on a card.
@@ -59,14 +61,26 @@ fn asked(card: &Card) -> (Vec<CutContour>, CuttingDag, CuttingConfig) {
     (contours, dag, config)
 }
 
-/// The original as it is, from a card's fields to the tour and its length: what the speed of a tour is held against.
+/// A copy of the original, from a card's fields to the tour and its length.
+macro_rules! solved_by {
+    ($copy:ident, $card:expr) => {{
+        let (contours, dag, config) = asked($card);
+        let clusters = $copy::discretize_contours(&contours, &config).unwrap();
+        let instance = $copy::build_gtsp_instance(clusters, $card.home);
+        let tour = $copy::solve_constrained(&instance, &dag, &config);
+        let length = $copy::evaluate_solution(&instance, &tour);
+        (tour, length)
+    }};
+}
+
+/// The mended original: what the speed of a tour is held against.
 pub fn solved(card: &Card) -> (Vec<usize>, f64) {
-    let (contours, dag, config) = asked(card);
-    let clusters = gtsp::discretize_contours(&contours, &config).unwrap();
-    let instance = gtsp::build_gtsp_instance(clusters, card.home);
-    let tour = gtsp::solve_constrained(&instance, &dag, &config);
-    let length = gtsp::evaluate_solution(&instance, &tour);
-    (tour, length)
+    solved_by!(gtsp, card)
+}
+
+/// The original as it is given, with the rule of before.
+pub fn solved_before(card: &Card) -> (Vec<usize>, f64) {
+    solved_by!(given, card)
 }
 
 impl Problem {
@@ -87,10 +101,10 @@ impl Problem {
         count::begin(u64::from(limit));
         let tour = counted::solve_constrained(&self.counted, &self.dag, &self.config);
         let length = counted::evaluate_solution(&self.counted, &tour).to_bits();
-        Found { tour, moves: count::moves(), length }
+        Found { tour, moves: count::moves(), length, kept: count::kept() }
     }
 
-    /// The search of the original as it is.
+    /// The search of the mended original, which knows no limit.
     pub fn unlimited(&self) -> Vec<usize> {
         gtsp::solve_constrained(&self.instance, &self.dag, &self.config)
     }
@@ -142,6 +156,32 @@ fn aligned() {
     let head = "JOB 43 CONTOURS 3\n5 50 1 ccw\n";
     assert_eq!(list(0), format!("{head}7 70 0 ccw\n6 60 1 ccw\nMOVES 9\nRAPID 401c000000000000\n"));
     assert_eq!(list(5), format!("{head}6 60 1 ccw\n7 70 0 ccw\nMOVES 5\nRAPID 4020000000000000\n"));
+}
+
+/// The list that crates/witnesses proves of the card with a slit; and the fault of the original as it is given, which comes
+/// back to the start there and tells its length.
+#[test]
+fn slit() {
+    let card = crate::generate::slit();
+    let list = "JOB 45 CONTOURS 3\n5 50 0 ccw\n6 60 0 ccw\n7 70 0 ccw\nMOVES 6\nRAPID 4018000000000000\n";
+    assert_eq!(printed(&card.bytes()), list);
+    assert_eq!(solved(&card), (vec![0, 3, 4], 6.0));
+    assert_eq!(solved_before(&card), (vec![1, 3, 4], 8.0));
+}
+
+/// With up to two candidates a contour a turn has one trial at most, so both rules come to the same; with more they do not
+/// always.
+#[test]
+fn the_rule_of_before_is_seen_from_three_candidates_on() {
+    let mut elsewhere = 0;
+    for case in 0..3000 {
+        let mut card = crate::generate::good(&crate::random::Random::of(1, "rule of before", case));
+        card.limit = 0;
+        let same = solved(&card) == solved_before(&card);
+        assert!(same || card.c > 2, "case {case}");
+        elsewhere += u32::from(!same);
+    }
+    assert!(elsewhere > 100, "{elsewhere} tours differ");
 }
 
 /// Every good card of the generator is good by the second reading, and reads back as it was written.

@@ -37,6 +37,15 @@ pub fn aligned(limit: u32) -> Card {
     card
 }
 
+/// The card of crates/witnesses on which the rule for a rejected candidate shows: a slit with three candidates, of which the
+/// first is better than the one held and the last is not, and two dots, on a line.
+pub fn slit() -> Card {
+    let on = |x| (x, 0.0);
+    let one = |id, vertices| Contour { id, tag: 10 * id, interior: false, vertices };
+    let contours = vec![one(5, vec![on(4.0), on(10.0)]), one(6, vec![on(2.0)]), one(7, vec![on(1.0)])];
+    Card { job: 45, c: 3, passes: 10, home: on(7.0), exterior: AUTO, interior: AUTO, contours, ..Card::default() }
+}
+
 /// Good cards of every shape.
 pub fn good(r: &Random) -> Card {
     let n = match r.below(10) {

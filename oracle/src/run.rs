@@ -12,10 +12,17 @@ pub struct Wanted {
     pub percent: u64,
 }
 
+impl Wanted {
+    /// How many cases of a full size.
+    pub fn of(self, full: u64) -> u64 {
+        (full * self.percent).div_ceil(100)
+    }
+}
+
 /// Tries cases 0, 1, .. of a part. `compare` says how many questions agreed, or how the first differed.
 /// Prints the sum, or the first difference with what repeats it, and says whether all agreed.
 pub fn cases(wanted: Wanted, part: &str, full: u64, compare: impl Fn(&Random) -> Result<u64, String> + Sync) -> bool {
-    let count = (full * wanted.percent).div_ceil(100);
+    let count = wanted.of(full);
     let began = std::time::Instant::now();
     let (next, agreed) = (AtomicU64::new(0), AtomicU64::new(0));
     let differs: Mutex<Option<(u64, String)>> = Mutex::new(None);

@@ -7,6 +7,7 @@ use crate::generate::{good, limit_near};
 use crate::random::Random;
 use crate::run::{Wanted, cases, same};
 use original::gtsp::evaluate_solution;
+use std::sync::atomic::{AtomicU64, Ordering};
 
 unsafe extern "C" {
     fn probe_evaluate(
@@ -100,7 +101,11 @@ pub fn bytes(tour: &[usize]) -> Vec<u8> {
     tour.iter().map(|&g| g as u8).collect()
 }
 
-fn one(r: &Random) -> Result<u64, String> {
+/// Searches with three candidates a contour or more in which a candidate was rejected after another was accepted in the same
+/// turn: one in so many must be, for there alone the rule for a rejected candidate shows.
+const ONE_IN: u64 = 6;
+
+fn one(r: &Random, kept: &AtomicU64) -> Result<u64, String> {
     let mut card = good(r);
     let problem = Problem::of(&card);
     limit_near(r, &mut card, || problem.search(0).moves as u32);
@@ -113,12 +118,17 @@ fn one(r: &Random) -> Result<u64, String> {
     let mut tour = bytes(&start);
     let moves = chart.improve(&mut tour, u32::from(card.passes), card.limit);
     same(what, (&tour, moves), (&bytes(&found.tour), found.moves))?;
-    if card.limit == 0 {
-        same(what, &tour, &bytes(&problem.unlimited()))?;
-    }
-    same(what, chart.evaluate(&tour).to_bits(), found.length)
+    same(what, chart.evaluate(&tour).to_bits(), found.length)?;
+    let mut whole = bytes(&start);
+    chart.improve(&mut whole, u32::from(card.passes), 0);
+    kept.fetch_add(u64::from(card.c > 2 && found.kept > 0), Ordering::Relaxed);
+    same(what, &whole, &bytes(&problem.unlimited()))
 }
 
 pub fn compare(wanted: Wanted) -> bool {
-    cases(wanted, "searches", 120_000, one)
+    let kept = AtomicU64::new(0);
+    let agreed = cases(wanted, "searches", 120_000, |r| one(r, &kept));
+    let (kept, all) = (kept.into_inner(), wanted.of(120_000));
+    println!("searches: {kept} of {all} with c of 3 or more and a candidate rejected after another was accepted in its turn");
+    agreed && kept * ONE_IN >= all
 }

@@ -42,11 +42,13 @@ use Rattle.table.proofs.DistanceLaws.{distances-length, same-contour, other-con
 use Rattle.improve.specs.Search.{Chart, State, lengthIn, shorter, judged, atLimit, tried, swap, reversed, flip}
 use Rattle.improve.specs.Search.{contours, worthwhile, searched}
 use Rattle.improve.specs.States.{taken, declined}
+use Rattle.improve.specs.Kept.{acceptedOf}
 use Rattle.improve.specs.Trials.{other, allMade, others, turnTrials, turnsTrials, rowTrials, passTrials, passesTrials}
 use Rattle.improve.specs.Trials.{trialsOf, Proper, Level}
 use Rattle.improve.proofs.States.{claim as states}
 use Rattle.improve.proofs.ReversalLaws.{turned-parts}
 use Rattle.improve.proofs.Trials.{claim as search-makes}
+use Rattle.improve.proofs.Kept.{claim as kept}
 use Rattle.instance.specs.Gather.{verticesOf, wayOf, offersOf, gathered}
 use Rattle.instance.proofs.FineLaws.{outline-whole}
 use Rattle.instance.proofs.GatherLaws.{owners-length, firsts-length}
@@ -58,7 +60,7 @@ use Rattle.tour.specs.Search.{startOn, endOn, tourOn, outcomeOn}
 use Rattle.tour.specs.Tour.{Left, tourOf}
 use Rattle.demands.specs.Demand2.{ownOn, Numbered, Sized, Rooted, Apart, Paired, longOn, Measured, Terms}
 use Rattle.demands.specs.Demand2.{Leaves, Trials, begunOn, searchOn, Between, othersOn, passesOn, allOn, Making}
-use Rattle.demands.specs.Demand2.{Turns, Rows, Passes, Order, Begins, Cut, Claim}
+use Rattle.demands.specs.Demand2.{Turns, Rows, Passes, Order, Keeping, Even, Begins, Cut, Claim}
 use Rattle.demands.proofs.AskedLaws.{toured-if, done-fine, fine-nothing}
 use Rattle.demands.proofs.NextLaws.{starts}
 use Rattle.tour_laws.proofs.TourLaws.{start-long, tour-long, tour-legal}
@@ -218,9 +220,8 @@ leaves-taken v after tour cost e = record {
   cut-is = ap (λ (u : State). u .cut) e;
 }
 
-leaves-declined : (v after : State) (tour : List ℕ) → after ≡ declined tour v
-    → Leaves v after tour (v .cost) (v .better)
-leaves-declined v after tour e = record {
+leaves-declined : (v after : State) → after ≡ declined v → Leaves v after (v .tour) (v .cost) (v .better)
+leaves-declined v after e = record {
   tour-is = ap (λ (u : State). u .tour) e;
   cost-is = ap (λ (u : State). u .cost) e;
   better-is = ap (λ (u : State). u .better) e;
@@ -231,21 +232,18 @@ leaves-declined v after tour e = record {
 trials : (s : List ℕ) (v : State) → Trials s v
 unfolding swap flip
 trials s v = record {
-  other-taken = λ p held a e.
-      leaves-taken v _ _ _ (ap (judge (set (v .tour) p a) (set (v .tour) p held)) e ∙ states .accepted _ _ _ v);
-  other-left = λ p held a e.
-      leaves-declined v _ _ (ap (judge (set (v .tour) p a) (set (v .tour) p held)) e ∙ states .rejected _ _ _ v);
+  other-taken = λ p a e. leaves-taken v _ _ _ (ap (judge (set (v .tour) p a)) e ∙ states .accepted _ _ v);
+  other-left = λ p a e. leaves-declined v _ (ap (judge (set (v .tour) p a)) e ∙ states .rejected _ _ v);
   reversal-taken = λ i j e l.
-      leaves-taken v _ _ _ (ap (judge (reversed i j (v .tour)) (v .tour)) (rw (e, l)) ∙ states .accepted _ _ _ v);
-  reversal-longer = λ i j e.
-      leaves-declined v _ _ (ap (judge (reversed i j (v .tour)) (v .tour)) (rw e) ∙ states .rejected _ _ _ v);
+      leaves-taken v _ _ _ (ap (judge (reversed i j (v .tour))) (rw (e, l)) ∙ states .accepted _ _ v);
+  reversal-longer = λ i j e. leaves-declined v _ (ap (judge (reversed i j (v .tour))) (rw e) ∙ states .rejected _ _ v);
   reversal-illegal = λ i j l.
-      leaves-declined v _ _ (ap (judge (reversed i j (v .tour)) (v .tour))
-      (rw l (and-false (shorter (longOn s (reversed i j (v .tour))) (v .cost)))) ∙ states .rejected _ _ _ v);
+      leaves-declined v _ (ap (judge (reversed i j (v .tour)))
+      (rw l (and-false (shorter (longOn s (reversed i j (v .tour))) (v .cost)))) ∙ states .rejected _ _ v);
 }
   where
-    judge : List ℕ → List ℕ → Bool → State
-    judge new back accepts = judged accepts new (longOn s new) back v
+    judge : List ℕ → Bool → State
+    judge new accepts = judged accepts new (longOn s new) v
 
 between : (s : List ℕ) → Between s
 between s = record {
@@ -258,10 +256,10 @@ between s = record {
 
 making : (s : List ℕ) (v : State) → Making s v
 unfolding allMade
-making s v = record { none = refl; an-other = λ p held a more. refl; a-stretch = λ i j more. refl }
+making s v = record { none = refl; an-other = λ p a more. refl; a-stretch = λ i j more. refl }
 
 module _ (p held a to : ℕ) where
-  one-candidate : a < to → (a ≡ held → ⊥) → othersOn p held a to ≡ other p held a ∷ othersOn p held (suc a) to
+  one-candidate : a < to → (a ≡ held → ⊥) → othersOn p held a to ≡ other p a ∷ othersOn p held (suc a) to
   unfolding others
   one-candidate h d =
       let left : to - a ≡ suc (to - suc a) = omega arith in
@@ -350,6 +348,24 @@ module _ (s : List ℕ) (fine : checkOf s ≡ Fine) where
 order : (s : List ℕ) → checkOf s ≡ Fine → Order s
 order s fine = record { making = making s; turns = turns s; rows = rows s; passes = passes s fine }
 
+-- ---- what a turn keeps, and the length to beat
+
+keeping : (s : List ℕ) (p : ℕ) (v : State) → Keeping s p v
+unfolding acceptedOf
+keeping s p v = record {
+  nothing = refl;
+  one-more = λ a more e. rw e;
+  no-more = λ a more e. rw e;
+  last-accepted = λ tries front a e. kept .0 .last-accepted (chartOn s) p tries front a v e;
+  none-accepted = λ tries e. kept .0 .none-accepted (chartOn s) p tries v e;
+}
+
+even : (s : List ℕ) → Even s
+even s = record {
+  after-trials = λ k. kept .1 .after-trials (chartOn s) (take k (allOn s)) (begunOn s) refl;
+  in-the-end = λ M. kept .1 .in-the-end (chartOn s) (passesOf s) M (startOn s);
+}
+
 -- ---- the search makes them, and the limit
 
 not-at-limit : (M m : ℕ) → (M ≡ 0) ⊎ (m < M) → atLimit M m ≡ false
@@ -417,6 +433,8 @@ claim s room table told h =
       trials = trials s;
       between = between s;
       order = order s fine;
+      keeping = keeping s;
+      even = even s;
       limit = limit s fine;
       told-so = record {
         tour = ap (λ (l : Left). l .room) all ∙ ap (λ (k : ℕ). tourOn s ++ drop k room) long;

@@ -3,9 +3,10 @@
 -- told is evaluated from the tour handed out; and square roots are IEEE 754's. tourOf is what `tour::tour` promises.
 -- It shuts out a constant tour and the order of the file (Told .tour, with Starts and Order); a start never improved
 -- and a search that idles after its first pass (Passes: the trials of every further pass are in the list; Cut: all of
--- the list is made); an invented number of moves (Told .moves, Cut); the running cost told (Told .rapid). That `tour`
--- promises tourOf and nothing else is said in contracts/specs/Doors; what the candidates of one contour are, in
--- candidates/specs/Generate, two cases of it in Starred. Assumes nothing.
+-- the list is made); a candidate that is found and lost again (Trials .other-left, Keeping, Even); an invented number of
+-- moves (Told .moves, Cut); another length told than that of the tour (Told .rapid). That `tour` promises tourOf and
+-- nothing else is said in contracts/specs/Doors; what the candidates of one contour are, in candidates/specs/Generate,
+-- two cases of it in Starred. Assumes nothing.
 use mathlib.Core.Path.{_≡_}
 use mathlib.Core.Bool.{Bool, true, false}
 use mathlib.Core.Logic.{_⊎_, _↔_}
@@ -36,6 +37,7 @@ use Rattle.improve.specs.Search.{State, contours, lengthIn, legal, shorter, sto
 use Rattle.improve.specs.Search.{begun, searched}
 use Rattle.improve.specs.Trials.{Trial, other, stretch, allMade, others, turnTrials, turnsTrials, rowTrials, passTrials}
 use Rattle.improve.specs.Trials.{passesTrials, trialsOf, Proper, Level}
+use Rattle.improve.specs.Kept.{acceptedOf}
 use Rattle.solve.specs.declared.Outcome.{Outcome}
 use Rattle.solve.specs.Solve.{groundIn}
 use Rattle.tour.specs.declared.Toured.the-variants.{Done}
@@ -188,10 +190,9 @@ pub record Terms (s : List ℕ) : Type 0 where
       → length front + length middle ≡ suc j
       → reversed i j (front ++ (middle ++ back)) ≡ front ++ (reverse middle ++ back)
 
--- the two trials: candidate a at position p, where `held` was held when its turn began; and the stretch from i+1 to j
--- reversed
-abbrev pub otherOn : List ℕ → ℕ → ℕ → ℕ → State → State
-otherOn s p held a v = swap (chartOn s) p held a v
+-- the two trials: candidate a at position p; and the stretch from i+1 to j reversed
+abbrev pub otherOn : List ℕ → ℕ → ℕ → State → State
+otherOn s p a v = swap (chartOn s) p a v
 
 abbrev pub reversalOn : List ℕ → ℕ → ℕ → State → State
 reversalOn s i j v = flip (chartOn s) i j v
@@ -206,13 +207,12 @@ pub record Leaves (before after : State) (tour : List ℕ) (cost : Float) (bette
   pub cut-is : after .cut ≡ before .cut
 
 -- a trial is accepted if it is shorter by more than 1e-10 and, for a reversal, legal: its tour and its length are then
--- held, and its pass has accepted something. If not, a candidate gives the position back the one held when its turn
--- began, a reversal the tour as it was, and the rest stays
+-- held, and its pass has accepted something. One that is not accepted leaves tour and length as they were
 pub record Trials (s : List ℕ) (v : State) : Type 0 where
-  pub other-taken : (p held a : ℕ) → shorter (longOn s (set (v .tour) p a)) (v .cost) ≡ true
-      → Leaves v (otherOn s p held a v) (set (v .tour) p a) (longOn s (set (v .tour) p a)) true
-  pub other-left : (p held a : ℕ) → shorter (longOn s (set (v .tour) p a)) (v .cost) ≡ false
-      → Leaves v (otherOn s p held a v) (set (v .tour) p held) (v .cost) (v .better)
+  pub other-taken : (p a : ℕ) → shorter (longOn s (set (v .tour) p a)) (v .cost) ≡ true
+      → Leaves v (otherOn s p a v) (set (v .tour) p a) (longOn s (set (v .tour) p a)) true
+  pub other-left : (p a : ℕ) → shorter (longOn s (set (v .tour) p a)) (v .cost) ≡ false
+      → Leaves v (otherOn s p a v) (v .tour) (v .cost) (v .better)
   pub reversal-taken : (i j : ℕ) → shorter (longOn s (reversed i j (v .tour))) (v .cost) ≡ true
       → legal (chartOn s) (reversed i j (v .tour)) ≡ true
       → Leaves v (reversalOn s i j v) (reversed i j (v .tour)) (longOn s (reversed i j (v .tour))) true
@@ -239,7 +239,7 @@ pub record Between (s : List ℕ) : Type 0 where
   pub limit-ends : (v : State)
       → stopped v ≡ record { tour = v .tour; cost = v .cost; better = v .better; moves = v .moves; cut = true }
 
--- ---- the order of the trials: a list of `other p held a` and `stretch i j`
+-- ---- the order of the trials: a list of `other p a` and `stretch i j`
 
 -- trials made one after the other
 abbrev pub madeOn : List ℕ → List Trial → State → State
@@ -248,7 +248,7 @@ madeOn s trials v = allMade (chartOn s) trials v
 -- the trials from here on: in a turn, of the candidates from a to before `to`; in the turn of position p; in the turns
 -- from position p on
 abbrev pub othersOn : ℕ → ℕ → ℕ → ℕ → List Trial
-othersOn p held a to = map (other p held) (others held (to - a) a)
+othersOn p held a to = map (other p) (others held (to - a) a)
 
 abbrev pub turnOn : List ℕ → ℕ → State → List Trial
 turnOn s p v = turnTrials (chartOn s) p v
@@ -276,8 +276,7 @@ allOn s = trialsOf (chartOn s) (passesOf s) (startOn s)
 -- each trial of a list is made as it is above
 pub record Making (s : List ℕ) (v : State) : Type 0 where
   pub none : madeOn s [] v ≡ v
-  pub an-other : (p held a : ℕ) (more : List Trial)
-      → madeOn s (other p held a ∷ more) v ≡ madeOn s more (otherOn s p held a v)
+  pub an-other : (p a : ℕ) (more : List Trial) → madeOn s (other p a ∷ more) v ≡ madeOn s more (otherOn s p a v)
   pub a-stretch : (i j : ℕ) (more : List Trial)
       → madeOn s (stretch i j ∷ more) v ≡ madeOn s more (reversalOn s i j v)
 
@@ -289,7 +288,7 @@ pub record Turns (s : List ℕ) : Type 0 where
       let k = getD (ownersOn s) held 0 in
       turnOn s p v ≡ othersOn p held (getD (firstsOn s) k 0) (getD (firstsOn s) (suc k) 0)
   pub candidate : (p held a to : ℕ) → a < to → (a ≡ held → ⊥)
-      → othersOn p held a to ≡ other p held a ∷ othersOn p held (suc a) to
+      → othersOn p held a to ≡ other p a ∷ othersOn p held (suc a) to
   pub but-held : (p a to : ℕ) → a < to → othersOn p a a to ≡ othersOn p a (suc a) to
   pub no-candidate : (p held a to : ℕ) → to ≤ a → othersOn p held a to ≡ []
   pub next-turn : (p : ℕ) (v : State) → p < contoursOf s
@@ -318,6 +317,33 @@ pub record Order (s : List ℕ) : Type 0 where
   pub turns : Turns s
   pub rows : Rows s
   pub passes : Passes s
+
+-- ---- what a turn keeps, and the length to beat
+
+-- of candidates tried at position p one after the other, those that are accepted
+abbrev pub acceptedOn : List ℕ → ℕ → List ℕ → State → List ℕ
+acceptedOn s p tries v = acceptedOf (chartOn s) p tries v
+
+-- from a turn's beginning on, its candidates leave at its position the last one accepted, or with none the one held
+-- when it began, and the rest of the tour as it was: that is what the next one gives back, if it is rejected
+pub record Keeping (s : List ℕ) (p : ℕ) (v : State) : Type 0 where
+  pub nothing : acceptedOn s p [] v ≡ []
+  pub one-more : (a : ℕ) (more : List ℕ) → shorter (longOn s (set (v .tour) p a)) (v .cost) ≡ true
+      → acceptedOn s p (a ∷ more) v ≡ a ∷ acceptedOn s p more (otherOn s p a v)
+  pub no-more : (a : ℕ) (more : List ℕ) → shorter (longOn s (set (v .tour) p a)) (v .cost) ≡ false
+      → acceptedOn s p (a ∷ more) v ≡ acceptedOn s p more (otherOn s p a v)
+  pub last-accepted : (tries front : List ℕ) (a : ℕ) → acceptedOn s p tries v ≡ front ++ (a ∷ [])
+      → madeOn s (map (other p) tries) v .tour ≡ set (v .tour) p a
+  pub none-accepted : (tries : List ℕ) → acceptedOn s p tries v ≡ []
+      → madeOn s (map (other p) tries) v .tour ≡ v .tour
+
+-- at all times the length to beat is the length of the tour held: after the first k trials, and where the search ends,
+-- with a limit of M; 0 is none
+pub record Even (s : List ℕ) : Type 0 where
+  pub after-trials : (k : ℕ)
+      → let v = madeOn s (take k (allOn s)) (begunOn s) in
+      v .cost ≡ longOn s (v .tour)
+  pub in-the-end : (M : ℕ) → searchOn s M .cost ≡ longOn s (searchOn s M .tour)
 
 -- ---- the search makes them, and the limit
 
@@ -370,6 +396,8 @@ pub record Follows (s room : List ℕ) (table : List Float) (told : Outcome) : T
   pub trials : (v : State) → Trials s v
   pub between : Between s
   pub order : Order s
+  pub keeping : (p : ℕ) (v : State) → Keeping s p v
+  pub even : Even s
   pub limit : Cut s
   pub told-so : Told s room table told
 

@@ -6,19 +6,19 @@ use mathlib.Core.Path.{_≡_, refl, sym, subst}
 use Prim.Native.Nat.{ℕ, zero, suc, _+_, _-_, _<_}
 use native.Mathlib.Omega.{arith}
 use lib.Dec.{eqb}
-use lib.ListN.{length, getD}
+use lib.ListN.{length, getD, set}
 use lib.Seq.{set-getD}
 use Rattle.table.proofs.EachLaws.{each-keeps}
-use Rattle.improve.specs.Search.{Chart, State, ownerOf, atLimit, stopped, tried, givenBack, swap, alternative}
+use Rattle.improve.specs.Search.{Chart, State, ownerOf, atLimit, stopped, tried, swap, alternative}
 use Rattle.improve.specs.Search.{turn, flip, reversal, row, fresh, pass, repeated, begun, worthwhile, searched}
 use Rattle.improve.specs.Trials.{Offers}
 
 -- ---- what is asked of a property
 
--- a search with another tour: the one that a rejected candidate gives back
+-- a search whose tour holds at position p what it held when the turn began
 abbrev pub backed : ℕ → ℕ → State → State
 backed p held s =
-    record { tour = givenBack p held (s .tour); cost = s .cost; better = s .better; moves = s .moves; cut = s .cut }
+    record { tour = set (s .tour) p held; cost = s .cost; better = s .better; moves = s .moves; cut = s .cut }
 
 -- a trial may begin
 pub record May (limit : ℕ) (s : State) : Type 0 where
@@ -34,7 +34,7 @@ pub record Carries (chart : Chart) (limit n : ℕ) (P : State → Type 0) (Turn 
   pub enters : (p : ℕ) (s : State) → P s → Turn p (getD (s .tour) p 0) s
   pub rests : (p held : ℕ) (s : State) → atLimit limit (s .moves) ≡ true → Turn p held s → Turn p held (stopped s)
   pub swaps : (p held a : ℕ) (s : State) → p < n → Offers chart held a → May limit s → Turn p held s
-      → Turn p held (swap chart p held a s)
+      → Turn p held (swap chart p a s)
   pub leaves : (p held : ℕ) (s : State) → Turn p held s → P s
 
 tried-keeps : (Q : State → Type 0) (limit : ℕ) (trial : State → State) (s : State) → Q s
@@ -56,10 +56,10 @@ module _ (chart : Chart) (limit n : ℕ) (P : State → Type 0) (Turn : ℕ → 
   unfolding alternative
   alternative-carries p held a h o s q = go (eqb a held)
     where
-      go : (b : Bool) → Turn p held (cond b s (tried limit (swap chart p held a) s))
+      go : (b : Bool) → Turn p held (cond b s (tried limit (swap chart p a) s))
       go true = q
       go false =
-          tried-keeps (Turn p held) limit (swap chart p held a) s q (λ l. carries .rests p held s l q)
+          tried-keeps (Turn p held) limit (swap chart p a) s q (λ l. carries .rests p held s l q)
           (λ m. carries .swaps p held a s h o m q)
 
   pub turn-carries : (p : ℕ) → p < n → (s : State) → P s → P (turn chart limit p s)
@@ -111,17 +111,17 @@ search-carries chart most limit tour P Turn carries q = go (worthwhile most (len
     go true = repeated-carries chart limit (length tour) P Turn carries most (begun chart tour) q
     go false = q
 
--- ---- where the tour given back has the property too
+-- ---- where the tour as the turn found it has the property too
 
--- a property that each trial keeps; in a turn the tour that would be given back has it as well
+-- a property that each trial keeps; in a turn the tour with the candidate held at its beginning has it as well
 pub record Keeps (chart : Chart) (limit n : ℕ) (P : State → Type 0) : Type 0 where
   pub stops : (s : State) → atLimit limit (s .moves) ≡ true → P s → P (stopped s)
   pub begins : (s : State) → P s → P (fresh s)
   pub swaps : (p held a : ℕ) (s : State) → p < n → Offers chart held a → May limit s → P s → P (backed p held s)
-      → P (swap chart p held a s) × P (backed p held (swap chart p held a s))
+      → P (swap chart p a s) × P (backed p held (swap chart p a s))
   pub flips : (i j : ℕ) (s : State) → i < j → j < n → May limit s → P s → P (flip chart i j s)
 
--- the property, and the property of the tour that would be given back
+-- the property, and the property of that tour
 abbrev InTurn : (P : State → Type 0) → ℕ → ℕ → State → Type 0
 InTurn P p held s = P s × P (backed p held s)
 

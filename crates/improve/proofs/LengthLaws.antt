@@ -1,7 +1,7 @@
 -- A search never hands back a tour that is longer than the one handed in, as evaluation has it: by the one induction
--- over a search, since an accepted tour is shorter than what was accepted before, and a tour given back was held
--- before. Assumes nothing.
-use mathlib.Core.Bool.{Bool, true, false, cond, _&&_}
+-- over a search an accepted tour is shorter than what was accepted before, and that is the length of the tour held.
+-- Assumes nothing.
+use mathlib.Core.Bool.{Bool, true, false, _&&_}
 use mathlib.Mathlib.Data.Bool.Basic.{and-elim-left}
 use mathlib.Core.List.{List, [], _∷_}
 use mathlib.Core.Path.{_≡_, refl, sym, subst}
@@ -12,13 +12,13 @@ use lib.Ieee.{Float, fin, binary64, ofBits, ofFields, odd, size, le, sub, fits}
 use lib.Ieee.Fits.{add-fits}
 use lib.IntN.{negsuc}
 use lib.ListN.{length, set}
-use lib.Seq.{set-set}
 use Rattle.table.specs.Evaluate.{homeAt, addLeg, lengthOf}
 use Rattle.table.specs.Walk.{legs, walk}
 use Rattle.improve.specs.Search.{Chart, State, lengthIn, legal, margin, shorter, judged, swap, reversed, flip}
 use Rattle.improve.specs.Search.{searched}
 use Rattle.improve.proofs.FloatOrder.{le-trans-float, lt→le, less-off, le-self}
 use Rattle.improve.proofs.Keeps.{Keeps, search-keeps}
+use Rattle.improve.proofs.Kept.{search-even}
 
 -- ---- evaluations are numbers of the format
 
@@ -54,53 +54,37 @@ shorter-le x c h n e =
 
 -- ---- the search
 
--- neither the length that counts nor the tour held is longer than L
-record NoLonger (chart : Chart) (L : Float) (s : State) : Type 0 where
+-- the length that counts is no longer than L
+record NoLonger (L : Float) (s : State) : Type 0 where
   counts : T (le (s .cost) L)
-  held : T (le (lengthIn chart (s .tour)) L)
   fit : T (fits binary64 (s .cost))
 
 module _ (chart : Chart) (limit n : ℕ) (L : Float) (home : HomeFits (chart .home)) where
-  -- a new tour is accepted, or the tour given back stands
-  judged-no-longer : (accepted : Bool) (new back : List ℕ) (s : State)
-      → (accepted ≡ true → shorter (lengthIn chart new) (s .cost) ≡ true) → NoLonger chart L s
-      → T (le (lengthIn chart back) L) → NoLonger chart L (judged accepted new (lengthIn chart new) back s)
+  judged-no-longer : (accepted : Bool) (new : List ℕ) (s : State)
+      → (accepted ≡ true → shorter (lengthIn chart new) (s .cost) ≡ true) → NoLonger L s
+      → NoLonger L (judged accepted new (lengthIn chart new) s)
   unfolding judged
-  judged-no-longer true new back s e w b =
-      let less : T (le (lengthIn chart new) L) =
-      le-trans-float (lengthIn chart new) (s .cost) L
-      (shorter-le (lengthIn chart new) (s .cost) (w .fit) (le-self (s .cost) L (w .counts)) (e refl)) (w .counts) in
-      record { counts = less; held = less; fit = length-fits (chart .home) (chart .table) (chart .t) new home }
-  judged-no-longer false new back s e w b = record { counts = w .counts; held = b; fit = w .fit }
+  judged-no-longer true new s e w = record {
+    counts = le-trans-float (lengthIn chart new) (s .cost) L
+        (shorter-le (lengthIn chart new) (s .cost) (w .fit) (le-self (s .cost) L (w .counts)) (e refl)) (w .counts);
+    fit = length-fits (chart .home) (chart .table) (chart .t) new home;
+  }
+  judged-no-longer false new s e w = record { counts = w .counts; fit = w .fit }
 
-  with-tour : (s : State) (tour : List ℕ) → NoLonger chart L s → T (le (lengthIn chart tour) L)
-      → NoLonger chart L (record { tour = tour; cost = s .cost; better = s .better; moves = s .moves; cut = s .cut })
-  with-tour s tour w h = record { counts = w .counts; held = h; fit = w .fit }
-
-  back-again : (accepted : Bool) (tour : List ℕ) (p held a : ℕ)
-      → set (cond accepted (set tour p a) (set tour p held)) p held ≡ set tour p held
-  back-again true tour p held a = set-set tour p a held
-  back-again false tour p held a = set-set tour p held held
-
-  no-longer : Keeps chart limit n (NoLonger chart L)
-  unfolding swap flip judged
+  no-longer : Keeps chart limit n (NoLonger L)
+  unfolding swap flip
   no-longer = record {
-    stops = λ s l w. record { counts = w .counts; held = w .held; fit = w .fit };
-    begins = λ s w. record { counts = w .counts; held = w .held; fit = w .fit };
+    stops = λ s l w. record { counts = w .counts; fit = w .fit };
+    begins = λ s w. record { counts = w .counts; fit = w .fit };
     swaps = λ p held a s h o m w b.
         let new = set (s .tour) p a in
-        let back = set (s .tour) p held in
-        let after : NoLonger chart L (judged (shorter (lengthIn chart new) (s .cost)) new (lengthIn chart new) back s) =
-        judged-no-longer (shorter (lengthIn chart new) (s .cost)) new back s (λ e. e) w (b .held) in (
-          after,
-          with-tour (judged (shorter (lengthIn chart new) (s .cost)) new (lengthIn chart new) back s) _ after
-              (subst (λ (z : List ℕ). T (le (lengthIn chart z) L))
-              (sym (back-again (shorter (lengthIn chart new) (s .cost)) (s .tour) p held a)) (b .held)),
-        );
+        let after : NoLonger L (judged (shorter (lengthIn chart new) (s .cost)) new (lengthIn chart new) s) =
+        judged-no-longer (shorter (lengthIn chart new) (s .cost)) new s (λ e. e) w in
+        (after, record { counts = after .counts; fit = after .fit });
     flips = λ i j s h g m w.
         let new = reversed i j (s .tour) in
-        judged-no-longer (shorter (lengthIn chart new) (s .cost) && legal chart new) new (s .tour) s
-        (λ e. and-elim-left _ _ e) w (w .held);
+        judged-no-longer (shorter (lengthIn chart new) (s .cost) && legal chart new) new s
+        (λ e. and-elim-left _ _ e) w;
   }
 
 -- the tour handed back evaluates to no more than the one handed in, where that evaluates to a number
@@ -108,6 +92,7 @@ pub never-longer : (chart : Chart) (most limit : ℕ) (tour : List ℕ) → Home
     → T (le (lengthIn chart tour) (lengthIn chart tour))
     → T (le (lengthIn chart (searched chart most limit tour .tour)) (lengthIn chart tour))
 never-longer chart most limit tour home n =
-    search-keeps chart most limit tour (NoLonger chart (lengthIn chart tour))
+    subst (λ (x : Float). T (le x (lengthIn chart tour))) (search-even chart most limit tour)
+    (search-keeps chart most limit tour (NoLonger (lengthIn chart tour))
     (no-longer chart limit (length tour) (lengthIn chart tour) home)
-    (record { counts = n; held = n; fit = length-fits (chart .home) (chart .table) (chart .t) tour home }) .held
+    (record { counts = n; fit = length-fits (chart .home) (chart .table) (chart .t) tour home }) .counts)

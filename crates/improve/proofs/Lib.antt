@@ -7,5 +7,6 @@ pub mod Keeps
 pub mod TourLaws
 pub mod States
 pub mod Trials
+pub mod Kept
 pub mod FloatOrder
 pub mod LengthLaws

@@ -8,16 +8,14 @@ use Rattle.improve.specs.Search.{Chart, State, lengthIn, judged, stopped
 use Rattle.improve.specs.States.{taken, declined, Claim}
 
 -- an accepted trial says that its pass accepted something
-pub accepted : (new : List ℕ) (length : Float) (back : List ℕ) (s : State)
-    → judged true new length back s ≡ taken new length s
+pub accepted : (new : List ℕ) (length : Float) (s : State) → judged true new length s ≡ taken new length s
 unfolding judged
-accepted new length back s = rw (or-true (s .better))
+accepted new length s = rw (or-true (s .better))
 
 -- any other leaves that as it was
-pub rejected : (new : List ℕ) (length : Float) (back : List ℕ) (s : State)
-    → judged false new length back s ≡ declined back s
+pub rejected : (new : List ℕ) (length : Float) (s : State) → judged false new length s ≡ declined s
 unfolding judged
-rejected new length back s = rw (or-false (s .better))
+rejected new length s = rw (or-false (s .better))
 
 begins : (chart : Chart) (tour : List ℕ)
     → begun chart tour ≡ record { tour = tour; cost = lengthIn chart tour; better = true; moves = 0; cut = false }

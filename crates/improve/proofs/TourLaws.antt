@@ -34,7 +34,7 @@ tour-keeps chart limit n T keeps = record {
   begins = λ s q. q;
   swaps = λ p held a s h o m q b.
       let new : T (set (s .tour) p a) = keeps .swapped p held a (s .tour) h o b in (
-        either (shorter (lengthIn chart (set (s .tour) p a)) (s .cost)) new b,
+        either (shorter (lengthIn chart (set (s .tour) p a)) (s .cost)) new q,
         again p held a s (shorter (lengthIn chart (set (s .tour) p a)) (s .cost)) b,
       );
   flips = λ i j s h g m q. judge i j s h g q (shorter (lengthIn chart (reversed i j (s .tour))) (s .cost))
@@ -46,9 +46,9 @@ tour-keeps chart limit n T keeps = record {
     either false u v = v
 
     again : (p held a : ℕ) (s : State) (b : Bool) → T (set (s .tour) p held)
-        → T (set (cond b (set (s .tour) p a) (set (s .tour) p held)) p held)
+        → T (set (cond b (set (s .tour) p a) (s .tour)) p held)
     again p held a s true w = rw (set-set (s .tour) p a held) w
-    again p held a s false w = rw (set-set (s .tour) p held held) w
+    again p held a s false w = w
 
     judge : (i j : ℕ) (s : State) → i < j → j < n → T (s .tour) → (b l : Bool)
         → legal chart (reversed i j (s .tour)) ≡ l

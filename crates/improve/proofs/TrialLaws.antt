@@ -1,7 +1,7 @@
 -- What one trial does to a search that goes on, and that it leaves an ended one alone. Assumes nothing.
 use mathlib.Core.Bool.{Bool, true, false, cond, _&&_, _||_}
 use mathlib.Core.List.{List, _++_}
-use mathlib.Core.Path.{_≡_, refl, sym, ap, _∙_}
+use mathlib.Core.Path.{_≡_, refl, sym, ap, _∙_, subst}
 use Prim.Native.Nat.{ℕ, suc, _+_, _-_, _<_}
 use native.Mathlib.Numerals.{add-one}
 use native.Mathlib.Omega.{arith}
@@ -9,11 +9,12 @@ use borrow.Author.Tests.{eq-eqb, ne-eqb}
 use lib.Dec.{eqb}
 use lib.Ieee.{Float}
 use lib.ListN.{length, getD, set, take, drop}
+use lib.Seq.{set-getD}
 use Rattle.bytes.specs.Bytes.{rev, slice}
 use Rattle.table.specs.Each.{each}
 use Rattle.improve.specs.Code.{unpaired, distances, Judged, Taken, going, stateOf}
 use Rattle.improve.specs.Search.{Chart, State, lengthIn, legal, shorter, judged, atLimit, stopped, tried}
-use Rattle.improve.specs.Search.{ownerOf, givenBack, swap, alternative, turn, turned, reversed, flip, reversal}
+use Rattle.improve.specs.Search.{ownerOf, swap, alternative, turn, turned, reversed, flip, reversal}
 use Rattle.improve.specs.Search.{row}
 use Rattle.improve.specs.declared.Progress.{Progress}
 use Rattle.improve.specs.declared.Tried.{Tried}
@@ -31,9 +32,9 @@ module _ (chart : Chart) where
   unfolding alternative
   alternative-idle limit p held a s e = go (eqb a held)
     where
-      go : (b : Bool) → cond b s (tried limit (swap chart p held a) s) ≡ s
+      go : (b : Bool) → cond b s (tried limit (swap chart p a) s) ≡ s
       go true = refl
-      go false = tried-idle limit (swap chart p held a) s e
+      go false = tried-idle limit (swap chart p a) s e
 
   pub turn-idle : (limit : ℕ) → Idle (turn chart limit)
   unfolding turn
@@ -68,13 +69,13 @@ module _ (limit : ℕ) (trial : State → State) (s : State) (goes : s .cut ≡ 
       ap (λ (c : Bool). cond c s (cond (atLimit limit (s .moves)) (stopped s) (trial s))) goes
       ∙ ap (λ (b : Bool). cond b (stopped s) (trial s)) e
 
-judged-is : (accepted : Bool) (new : List ℕ) (length : Float) (back tour after : List ℕ) (cost : Float)
+judged-is : (accepted : Bool) (new : List ℕ) (length : Float) (tour after : List ℕ) (cost : Float)
     (better : Bool) (moves : ℕ) (r : Tried)
-    → Judged accepted new length back cost r after
-    → judged accepted new length back (going tour cost better moves)
+    → Judged accepted new length tour cost r after
+    → judged accepted new length (going tour cost better moves)
     ≡ going after (r .cost) (better || r .accepted) (moves + 1)
 unfolding judged
-judged-is accepted new length back tour after cost better moves r w =
+judged-is accepted new length tour after cost better moves r w =
     rw (w .accepts, w .counts, w .holds, add-one moves)
 
 -- the candidate held when the turn began is passed over
@@ -90,19 +91,22 @@ module _ (chart : Chart) (limit p held a : ℕ) (tour : List ℕ) (cost : Float)
       ≡ ended tour cost better moves
   unfolding alternative
   alternative-stops e =
-      rw (ne-eqb a held other) (tried-stops limit (swap chart p held a) _ refl (sym asked ∙ e))
+      rw (ne-eqb a held other) (tried-stops limit (swap chart p a) _ refl (sym asked ∙ e))
 
-  -- before it, another candidate is tried
-  pub alternative-goes : (r : Tried) (after : List ℕ) → flag ≡ false
+  -- before it, another candidate is tried; one that is rejected gives back what stands there
+  pub alternative-goes : (last : ℕ) (r : Tried) (after : List ℕ) → flag ≡ false → last ≡ getD tour p 0
       → Judged (shorter (lengthIn chart (set tour p a)) cost) (set tour p a) (lengthIn chart (set tour p a))
-      (givenBack p held tour) cost r after
+      (set tour p last) cost r after
       → alternative chart limit p held a (going tour cost better moves)
       ≡ going after (r .cost) (better || r .accepted) (moves + 1)
   unfolding alternative swap
-  alternative-goes r after e w =
+  alternative-goes last r after e l w =
+      let stands : set tour p last ≡ tour = ap (set tour p) l ∙ set-getD tour p 0 in
       rw (ne-eqb a held other)
-      (tried-goes limit (swap chart p held a) _ refl (sym asked ∙ e)
-      ∙ judged-is _ _ _ _ tour after cost better moves r w)
+      (tried-goes limit (swap chart p a) _ refl (sym asked ∙ e)
+      ∙ judged-is _ _ _ tour after cost better moves r
+      (subst (λ (b : List ℕ). Judged (shorter (lengthIn chart (set tour p a)) cost) (set tour p a)
+      (lengthIn chart (set tour p a)) b cost r after) stands w))
 
 module _ (chart : Chart) (limit i j : ℕ) (tour : List ℕ) (cost : Float) (better : Bool) (moves : ℕ) (flag : Bool)
     (asked : flag ≡ atLimit limit moves) where
@@ -121,7 +125,7 @@ module _ (chart : Chart) (limit i j : ℕ) (tour : List ℕ) (cost : Float) (bet
   unfolding reversal flip
   reversal-goes r after e w =
       tried-goes limit (flip chart i j) _ refl (sym asked ∙ e)
-      ∙ judged-is _ _ _ _ tour after cost better moves r w
+      ∙ judged-is _ _ _ tour after cost better moves r w
 
 -- ---- turns
 

@@ -30,12 +30,12 @@ triedAll chart limit (trial ∷ more) s = triedAll chart limit more (tried limit
 module _ (chart : Chart) where
   made-cut : (trial : Trial) (s : State) → made chart trial s .cut ≡ s .cut
   unfolding swap flip judged
-  made-cut (other p held a) s = refl
+  made-cut (other p a) s = refl
   made-cut (stretch i j) s = refl
 
   made-moves : (trial : Trial) (s : State) → made chart trial s .moves ≡ suc (s .moves)
   unfolding swap flip judged
-  made-moves (other p held a) s = refl
+  made-moves (other p a) s = refl
   made-moves (stretch i j) s = refl
 
   all-append : (a b : List Trial) (s : State) → allMade chart (a ++ b) s ≡ allMade chart b (allMade chart a s)
@@ -106,19 +106,19 @@ module _ (chart : Chart) where
     -- ---- the loops of a search make their lists
 
     others-tried : (p held k a : ℕ) (s : State)
-        → each (alternative chart limit p held) k a s ≡ triedAll chart limit (map (other p held) (others held k a)) s
+        → each (alternative chart limit p held) k a s ≡ triedAll chart limit (map (other p) (others held k a)) s
     unfolding each alternative others triedAll
     others-tried p held zero a s = refl
     others-tried p held (suc k) a s = go (eqb a held) (others-tried p held k (suc a))
       where
         go : (b : Bool)
             → ((v : State) → each (alternative chart limit p held) k (suc a) v
-            ≡ triedAll chart limit (map (other p held) (others held k (suc a))) v)
-            → each (alternative chart limit p held) k (suc a) (cond b s (tried limit (swap chart p held a) s))
-            ≡ triedAll chart limit (map (other p held)
+            ≡ triedAll chart limit (map (other p) (others held k (suc a))) v)
+            → each (alternative chart limit p held) k (suc a) (cond b s (tried limit (swap chart p a) s))
+            ≡ triedAll chart limit (map (other p)
             (cond b (others held k (suc a)) (a ∷ others held k (suc a)))) s
         go true later = later s
-        go false later = later (tried limit (swap chart p held a) s)
+        go false later = later (tried limit (swap chart p a) s)
 
     turn-tried : (p : ℕ) (s : State) → turn chart limit p s ≡ triedAll chart limit (turnTrials chart p s) s
     unfolding turn turnTrials
@@ -162,7 +162,7 @@ module _ (chart : Chart) where
 
   made-fresh : (trial : Trial) (s : State) → fresh (made chart trial s) ≡ fresh (made chart trial (fresh s))
   unfolding swap flip judged
-  made-fresh (other p held a) s = refl
+  made-fresh (other p a) s = refl
   made-fresh (stretch i j) s = refl
 
   all-fresh : (l : List Trial) (u v : State) → fresh u ≡ fresh v → fresh (allMade chart l u) ≡ fresh (allMade chart l v)
@@ -324,7 +324,7 @@ module _ (chart : Chart) where
   proper-fresh n u v e no-more = no-more
   proper-fresh n u v e (one-turn p held tries h q o w) =
       one-turn p held tries h (q ∙ ap (λ (x : State). getD (x .tour) p 0) e) o
-      (proper-fresh n _ _ (all-fresh (map (other p held) tries) u v e) w)
+      (proper-fresh n _ _ (all-fresh (map (other p) tries) u v e) w)
   proper-fresh n u v e (one-reversal i j h g w) =
       one-reversal i j h g
       (proper-fresh n _ _ (made-fresh (stretch i j) u ∙ ap (λ (x : State). fresh (made chart (stretch i j) x)) e

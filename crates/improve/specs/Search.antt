@@ -59,11 +59,11 @@ shorter new current = lt new (sub binary64 current margin)
 
 -- ---- one trial
 
--- what a trial leaves behind: the new tour and its length where it is accepted, else the tour given back; it counts
--- either way
-unfoldable pub judged : Bool → List ℕ → Float → List ℕ → State → State
-judged accepted new length back s = record {
-  tour = cond accepted new back;
+-- what a trial leaves behind: the new tour and its length where it is accepted, else the tour and the length held
+-- before it; it counts either way
+unfoldable pub judged : Bool → List ℕ → Float → State → State
+judged accepted new length s = record {
+  tour = cond accepted new (s .tour);
   cost = cond accepted length (s .cost);
   better = s .better || accepted;
   moves = suc (s .moves);
@@ -84,20 +84,16 @@ tried limit trial s = let after = trial s in cond (s .cut) s (cond (atLimit limi
 
 -- ---- another candidate of the same contour
 
--- the tour that a rejected candidate gives back: with the candidate that was held when the turn began
-abbrev pub givenBack : ℕ → ℕ → List ℕ → List ℕ
-givenBack p held tour = set tour p held
-
 -- candidate a at position p
-unfoldable pub swap : Chart → ℕ → ℕ → ℕ → State → State
-swap chart p held a s =
+unfoldable pub swap : Chart → ℕ → ℕ → State → State
+swap chart p a s =
     let new = set (s .tour) p a in
     let length = lengthIn chart new in
-    judged (shorter length (s .cost)) new length (givenBack p held (s .tour)) s
+    judged (shorter length (s .cost)) new length s
 
 -- a contour's candidates are tried one by one, but for the one held when the turn began
 unfoldable pub alternative : Chart → ℕ → ℕ → ℕ → ℕ → State → State
-alternative chart limit p held a s = let after = tried limit (swap chart p held a) s in cond (eqb a held) s after
+alternative chart limit p held a s = let after = tried limit (swap chart p a) s in cond (eqb a held) s after
 
 -- the turn of position p: the other candidates of the contour that it holds
 unfoldable pub turn : Chart → ℕ → ℕ → State → State
@@ -122,7 +118,7 @@ unfoldable pub flip : Chart → ℕ → ℕ → State → State
 flip chart i j s =
     let new = reversed i j (s .tour) in
     let length = lengthIn chart new in
-    judged (shorter length (s .cost) && legal chart new) new length (s .tour) s
+    judged (shorter length (s .cost) && legal chart new) new length s
 
 -- that as a trial
 unfoldable pub reversal : Chart → ℕ → ℕ → ℕ → State → State

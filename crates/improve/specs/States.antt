@@ -11,15 +11,13 @@ use Rattle.improve.specs.Search.{Chart, State, lengthIn, judged, stopped
 abbrev pub taken : List ℕ → Float → State → State
 taken tour length s = record { tour = tour; cost = length; better = true; moves = suc (s .moves); cut = s .cut }
 
--- what any other leaves: the tour given back, and one trial more
-abbrev pub declined : List ℕ → State → State
-declined tour s = record { tour = tour; cost = s .cost; better = s .better; moves = suc (s .moves); cut = s .cut }
+-- what any other leaves: everything as it was, and one trial more
+abbrev pub declined : State → State
+declined s = record { tour = s .tour; cost = s .cost; better = s .better; moves = suc (s .moves); cut = s .cut }
 
 pub record States : Type 0 where
-  pub accepted : (new : List ℕ) (length : Float) (back : List ℕ) (s : State)
-      → judged true new length back s ≡ taken new length s
-  pub rejected : (new : List ℕ) (length : Float) (back : List ℕ) (s : State)
-      → judged false new length back s ≡ declined back s
+  pub accepted : (new : List ℕ) (length : Float) (s : State) → judged true new length s ≡ taken new length s
+  pub rejected : (new : List ℕ) (length : Float) (s : State) → judged false new length s ≡ declined s
   pub begins : (chart : Chart) (tour : List ℕ)
       → begun chart tour
       ≡ record { tour = tour; cost = lengthIn chart tour; better = true; moves = 0; cut = false }

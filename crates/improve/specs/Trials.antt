@@ -9,15 +9,14 @@ use lib.ListN.{length, getD, take}
 use Rattle.table.specs.Distances.{listed, chained}
 use Rattle.improve.specs.Search.{Chart, State, ownerOf, swap, flip, fresh, begun, worthwhile, searched}
 
--- a trial: candidate a at position p, which held `held` when its turn began; or the stretch from i+1 to j the other way
--- round
+-- a trial: candidate a at position p; or the stretch from i+1 to j the other way round
 pub data Trial : Type 0 where
-  other : (p held a : ℕ) → Trial
+  other : (p a : ℕ) → Trial
   stretch : (i j : ℕ) → Trial
 
 -- what a trial makes of a search
 abbrev pub made : Chart → Trial → State → State
-made chart (other p held a) s = swap chart p held a s
+made chart (other p a) s = swap chart p a s
 made chart (stretch i j) s = flip chart i j s
 
 -- trials made one after the other
@@ -38,7 +37,7 @@ turnTrials chart p s =
     let held = getD (s .tour) p 0 in
     let k = ownerOf (chart .owner) held in
     let from = getD (chart .first) k 0 in
-    map (other p held) (others held (getD (chart .first) (suc k) 0 - from) from)
+    map (other p) (others held (getD (chart .first) (suc k) 0 - from) from)
 
 -- the turns of k positions from p on: each begins where the one before it has led
 unfoldable pub turnsTrials : Chart → ℕ → ℕ → State → List Trial
@@ -88,8 +87,8 @@ pub data Proper (chart : Chart) (n : ℕ) : State → List Trial → Type 0 wher
   no-more : {s : State} → Proper chart n s []
   one-turn : {s : State} {more : List Trial} (p held : ℕ) (tries : List ℕ) → p < n → held ≡ getD (s .tour) p 0
       → ((i : ℕ) → i < length tries → Another chart held (getD tries i 0))
-      → Proper chart n (allMade chart (map (other p held) tries) s) more
-      → Proper chart n s (map (other p held) tries ++ more)
+      → Proper chart n (allMade chart (map (other p) tries) s) more
+      → Proper chart n s (map (other p) tries ++ more)
   one-reversal : {s : State} {more : List Trial} (i j : ℕ) → i + 2 ≤ j → j < n
       → Proper chart n (flip chart i j s) more → Proper chart n s (stretch i j ∷ more)
 

@@ -10,7 +10,7 @@ ghost use Rattle.table.specs.Evaluate.{lengthOf};
 ghost use Rattle.closure.specs.Limits.{contourLimit};
 ghost use Rattle.keep.specs.Keep.{keepsPairs};
 ghost use Rattle.table.specs.Each.{each};
-ghost use Rattle.improve.specs.Search.{ownerOf, contours, shorter, atLimit, givenBack, alternative, turn, reversed, begun, repeated, searched};
+ghost use Rattle.improve.specs.Search.{ownerOf, contours, shorter, atLimit, alternative, turn, reversed, begun, repeated, searched};
 ghost use Rattle.improve.specs.Code.{Judged, Taken, Reached, going, stateOf, chartOf};
 
 // Where a search stands beside its tour: the length last accepted, whether this pass accepted a
@@ -45,21 +45,21 @@ fn at_limit(limit: u32, moves: u64) -> bool
     (limit as u64) <= moves
 }
 
-// Tries candidate a at position p, where `held` stood when the turn began.
+// Tries candidate a at position p. Where it is rejected, `back` comes there.
 fn try_candidate(
     home: &[f64],
     table: &[f64],
     t: u8,
     tour: &mut [u8],
     p: usize,
-    held: u8,
+    back: u8,
     a: u8,
     cost: f64,
 ) -> Tried
     requires { do ⌜ p < (← ⟦tour.len()⟧) ⌝ }
     ensures { λ r. let new = set (now (tour .entry)) p a in
         let length = lengthOf (now (home .entry)) (now (table .entry)) t new in
-        ⌜ Judged (shorter length cost) new length (givenBack p held (now (tour .entry))) cost r (now (tour .exit)) ⌝ }
+        ⌜ Judged (shorter length cost) new length (set (now (tour .entry)) p back) cost r (now (tour .exit)) ⌝ }
 {
     tour[p] = a;
     let length = table::evaluate_solution(home, table, t, tour);
@@ -69,14 +69,15 @@ fn try_candidate(
             accepted: true,
         };
     }
-    tour[p] = held;
+    tour[p] = back;
     Tried {
         cost: cost,
         accepted: false,
     }
 }
 
-// Tries the candidates from `from` up to `end` at position p, but for the one held there.
+// Tries the candidates from `from` up to `end` at position p, but for the one held when the turn began.
+// A rejected one gives back the last one accepted in this turn, or with none the one held.
 fn alternatives(
     home: &[f64],
     table: &[f64],
@@ -103,6 +104,7 @@ fn alternatives(
     let mut count = moves;
     let mut a = from;
     while a < end {
+        let last = tour[p];
         if a == held {
             a += 1;
             continue;
@@ -115,7 +117,7 @@ fn alternatives(
                 cut: true,
             };
         }
-        let r = try_candidate(home, table, t, tour, p, held, a, shortest);
+        let r = try_candidate(home, table, t, tour, p, last, a, shortest);
         shortest = r.cost;
         found = found | r.accepted;
         count += 1;

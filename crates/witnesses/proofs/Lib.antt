@@ -1,3 +1,4 @@
 pub mod Examples
 pub mod Taken
+pub mod Kept
 pub mod ReadBack

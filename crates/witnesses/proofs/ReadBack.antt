@@ -6,6 +6,7 @@ use Rattle.card_laws.specs.Examples.{asJob41, waits, job41, selfPair, waiting}
 use Rattle.tour_laws.proofs.Computes.{tour-computes}
 use Rattle.witnesses.specs.Examples.{limited}
 use Rattle.witnesses.specs.Taken.{aligned, bound}
+use Rattle.witnesses.specs.Kept.{slit}
 use Rattle.witnesses.specs.ReadBack.{ReadBack, AllReadBack, Claim}
 
 of-empty : ReadBack (asJob41 [] [])
@@ -44,6 +45,10 @@ of-bound : ReadBack bound
 unfolding tour-computes tabulated
 of-bound = refl
 
+of-slit : ReadBack slit
+unfolding tour-computes tabulated
+of-slit = refl
+
 pub claim : Claim
 claim = record {
   of-empty = of-empty;
@@ -55,4 +60,5 @@ claim = record {
   of-aligned = of-aligned;
   of-capped = of-capped;
   of-bound = of-bound;
+  of-slit = of-slit;
 }

@@ -63,11 +63,11 @@ dots = record {
   pairs = 1 ∷ 2 ∷ [];
 }
 
-record Read (s : List ℕ) (chart : Chart) (limit : ℕ) : Type 0 where
-  distances : chartOn s ≡ chart
-  passes : passesOf s ≡ 10
-  contours : contoursOf s ≡ 3
-  limit-is : moveLimitOf s ≡ limit
+pub record Read (s : List ℕ) (chart : Chart) (limit : ℕ) : Type 0 where
+  pub distances : chartOn s ≡ chart
+  pub passes : passesOf s ≡ 10
+  pub contours : contoursOf s ≡ 3
+  pub limit-is : moveLimitOf s ≡ limit
 
 free-read : Read free line 0
 unfolding tour-computes line
@@ -82,7 +82,7 @@ unfolding tour-computes dots
 bound-read = record { distances = refl; passes = refl; contours = refl; limit-is = refl }
 
 -- what is computed on these holds of the card
-carried : (s : List ℕ) (chart : Chart) (limit : ℕ) → Read s chart limit → (P : Chart → ℕ → ℕ → ℕ → Type 0)
+pub carried : (s : List ℕ) (chart : Chart) (limit : ℕ) → Read s chart limit → (P : Chart → ℕ → ℕ → ℕ → Type 0)
     → P chart 10 3 limit → P (chartOn s) (passesOf s) (contoursOf s) (moveLimitOf s)
 carried s chart limit r P w =
     subst (λ (c : Chart). P c (passesOf s) (contoursOf s) (moveLimitOf s)) (sym (r .distances))
@@ -90,7 +90,7 @@ carried s chart limit r P w =
     (subst (λ (n : ℕ). P chart 10 n (moveLimitOf s)) (sym (r .contours)) (subst (P chart 10 3) (sym (r .limit-is)) w)))
 
 -- and what holds of two states holds of those that are computed
-both : (P : State → State → Type 0) {v w x y : State} → v ≡ x → w ≡ y → P x y → P v w
+pub both : (P : State → State → Type 0) {v w x y : State} → v ≡ x → w ≡ y → P x y → P v w
 both P {v = v} {y = y} e f h = subst (P v) (sym f) (subst (λ (u : State). P u y) (sym e) h)
 
 -- ---- the start
@@ -109,13 +109,13 @@ start-is = carried free line 0 free-read (λ c k n M. startIn c n ≡ 0 ∷ 2 �
 -- ---- the end
 
 -- where a search with a limit ends
-abbrev endIn : Chart → ℕ → ℕ → ℕ → State
+abbrev pub endIn : Chart → ℕ → ℕ → ℕ → State
 endIn chart most n M = searched chart most M (startIn chart n)
 
-record Ends (chart : Chart) (v : State) (tour : List ℕ) (length moves : ℕ) : Type 0 where
-  tour-is : v .tour ≡ tour
-  tour-long : lengthIn chart (v .tour) ≡ mm length
-  moves-are : v .moves ≡ moves
+pub record Ends (chart : Chart) (v : State) (tour : List ℕ) (length moves : ℕ) : Type 0 where
+  pub tour-is : v .tour ≡ tour
+  pub tour-long : lengthIn chart (v .tour) ≡ mm length
+  pub moves-are : v .moves ≡ moves
 
 free-computed : Ends line (endIn line 10 3 0) (1 ∷ 4 ∷ 3 ∷ []) 7 9
 unfolding tour-computes line
@@ -129,7 +129,7 @@ end-is : (s : List ℕ) → endIn (chartOn s) (passesOf s) (contoursOf s) (moveL
 unfolding endOn
 end-is s = refl
 
-ends : (s : List ℕ) (chart : Chart) (limit : ℕ) → Read s chart limit → (tour : List ℕ) (length moves : ℕ)
+pub ends : (s : List ℕ) (chart : Chart) (limit : ℕ) → Read s chart limit → (tour : List ℕ) (length moves : ℕ)
     → Ends chart (endIn chart 10 3 limit) tour length moves → Ends (chartOn s) (endOn s) tour length moves
 ends s chart limit r tour length moves w =
     subst (λ (v : State). Ends (chartOn s) v tour length moves) (end-is s)
@@ -162,12 +162,12 @@ cut-inside =
 -- ---- the trials
 
 -- where a search stands after M trials
-abbrev afterIn : Chart → ℕ → ℕ → ℕ → State
+abbrev pub afterIn : Chart → ℕ → ℕ → ℕ → State
 afterIn chart most n zero = begun chart (startIn chart n)
 afterIn chart most n (suc M) = searched chart most (suc M) (startIn chart n)
 
 -- a search that was cut: the tour held, so many millimetres long, and whether the pass has accepted a trial
-abbrev held : List ℕ → ℕ → Bool → ℕ → State
+abbrev pub held : List ℕ → ℕ → Bool → ℕ → State
 held tour length better moves = record { tour = tour; cost = mm length; better = better; moves = moves; cut = true }
 
 after1 : afterIn line 10 3 1 ≡ held (0 ∷ 2 ∷ 4 ∷ []) 12 false 1
@@ -341,11 +341,11 @@ line-answered = record {
 -- ---- printed
 
 -- an answered card is fine
-fine-of : (s room : List ℕ) (table : List Float) (told : Outcome) → tourOf s room table .answer ≡ Done told
+pub fine-of : (s room : List ℕ) (table : List Float) (told : Outcome) → tourOf s room table .answer ≡ Done told
     → checkOf s ≡ Fine
 fine-of s room table told h = exactly s .fine-if (fine-nothing s room table (toured-if s room table told h) .sound)
 
-printed-by : (s tour : List ℕ) (length moves : ℕ) → checkOf s ≡ Fine → Ends (chartOn s) (endOn s) tour length moves
+pub printed-by : (s tour : List ℕ) (length moves : ℕ) → checkOf s ≡ Fine → Ends (chartOn s) (endOn s) tour length moves
     → tourLines s tour (record { moves = moves; length = mm length }) ≡ listOf s
 unfolding listOf
 printed-by s tour length moves fine e = rw (fine, e .tour-long, e .tour-is, e .moves-are) refl

@@ -7,6 +7,7 @@ use Rattle.card_laws.specs.Write.{written}
 use Rattle.card_laws.specs.Examples.{asJob41, waits, job41, selfPair, waiting}
 use Rattle.witnesses.specs.Examples.{limited}
 use Rattle.witnesses.specs.Taken.{aligned, bound}
+use Rattle.witnesses.specs.Kept.{slit}
 
 abbrev pub ReadBack : Card → Type 0
 ReadBack c = cardOf (written c) ≡ c
@@ -21,6 +22,7 @@ pub record AllReadBack : Type 0 where
   pub of-aligned : ReadBack (aligned 0)
   pub of-capped : ReadBack (aligned 5)
   pub of-bound : ReadBack bound
+  pub of-slit : ReadBack slit
 
 abbrev pub Claim : Type 0
 Claim = AllReadBack

@@ -11,7 +11,7 @@ fn example(name: &str) -> Vec<u8> {
 
 #[test]
 fn every_example_prints_its_list() {
-    for name in ["job-41", "sheet", "refused"] {
+    for name in ["job-41", "sheet", "refused", "slit"] {
         let due = String::from_utf8(example(&format!("{name}.list"))).unwrap();
         assert_eq!(list(&example(&format!("{name}.card"))), due, "{name}");
     }
@@ -23,6 +23,13 @@ fn job_41() {
     assert_eq!(check(&card), Ok(()));
     let found = tour(&card).unwrap();
     assert_eq!((found.candidates.as_slice(), found.moves, found.length), ([2, 1, 0].as_slice(), 1, 24.0));
+}
+
+/// The candidate taken in the first turn is kept, though the next one tried is no better.
+#[test]
+fn slit() {
+    let found = tour(&example("slit.card")).unwrap();
+    assert_eq!((found.candidates.as_slice(), found.moves, found.length), ([0, 3, 4].as_slice(), 6, 6.0));
 }
 
 #[test]

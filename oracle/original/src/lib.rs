@@ -1,7 +1,7 @@
 //! The original's own modules, as build.rs copies them, and stand-ins for what they import.
 //!
-//! `gtsp` is the original search, unchanged. `counted` is the same file with its limit by the clock
-//! replaced by a count of trials.
+//! `given` is the original search, unchanged. `gtsp` is the same file with the rule for a rejected candidate
+//! mended, and `counted` that with its limit by the clock replaced by a count of trials.
 
 #![allow(dead_code, unused, unexpected_cfgs, clippy::all)]
 
@@ -12,7 +12,7 @@ macro_rules! copied {
         $(pub mod $name { include!(concat!(env!("OUT_DIR"), "/", stringify!($name), ".rs")); })*
     };
 }
-copied!(config contour cost result hierarchy gtsp counted);
+copied!(config contour cost result hierarchy given gtsp counted);
 
 pub type Result<T> = std::result::Result<T, Error>;
 
@@ -75,23 +75,35 @@ pub mod geom {
     }
 }
 
-/// The counted move limit of the copy `counted`.
+/// The counted move limit of the copy `counted`, and what else it counts.
 pub mod count {
     use std::cell::Cell;
     thread_local! {
         static LIMIT: Cell<u64> = const { Cell::new(0) };
         static MOVES: Cell<u64> = const { Cell::new(0) };
+        static KEPT: Cell<u64> = const { Cell::new(0) };
     }
 
     /// Before a search: no trial yet, and at most `limit` of them (0: as many as it takes).
     pub fn begin(limit: u64) {
         LIMIT.set(limit);
         MOVES.set(0);
+        KEPT.set(0);
     }
 
     /// The trials that began since.
     pub fn moves() -> u64 {
         MOVES.get()
+    }
+
+    /// The candidates since that were rejected after another was accepted in the same turn.
+    pub fn kept() -> u64 {
+        KEPT.get()
+    }
+
+    /// A candidate is rejected, in a turn that has accepted another or not.
+    pub fn rejected(after_another: bool) {
+        KEPT.set(KEPT.get() + u64::from(after_another));
     }
 
     /// A trial is about to begin: whether it may not. Otherwise it is counted.

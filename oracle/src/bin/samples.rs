@@ -38,14 +38,16 @@ fn refused() -> Card {
 /// The examples: each card beside its list.
 fn examples() {
     fs::create_dir_all("examples").unwrap();
-    for (name, card) in [("job-41", generate::job_41()), ("sheet", plates()), ("refused", refused())] {
+    let cards =
+        [("job-41", generate::job_41()), ("sheet", plates()), ("refused", refused()), ("slit", generate::slit())];
+    for (name, card) in cards {
         fs::write(format!("examples/{name}.card"), card.bytes()).unwrap();
         fs::write(format!("examples/{name}.list"), printed(&card.bytes())).unwrap();
     }
 }
 
 /// The cards that the program `replay` runs over, each after its length in four bytes, and what it must print: first the
-/// edges that the paper names, then cards from the generator, by turns good and damaged. Most are small, so that the file
+/// edges that the paper names, then the card with a slit, then cards from the generator, by turns good and damaged. Most are small, so that the file
 /// is; every twenty-fifth has any size up to one byte too many.
 fn replay(crate_folder: &Path) {
     let (mut cards, mut lists) = (Vec::new(), String::new());
@@ -56,7 +58,7 @@ fn replay(crate_folder: &Path) {
     };
     let edges = edges().into_iter().map(|(card, _)| card.bytes());
     let random = (0..2000).map(|case| (case, made(case))).filter(|(case, bytes)| kept(case, bytes)).map(|made| made.1);
-    for bytes in edges.chain(random) {
+    for bytes in edges.chain([generate::slit().bytes()]).chain(random) {
         cards.extend((bytes.len() as u32).to_le_bytes());
         cards.extend(&bytes);
         lists += &printed(&bytes);

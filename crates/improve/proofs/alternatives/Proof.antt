@@ -32,10 +32,13 @@ abbrev μ-loop : tie.MeasureT-loop
 loop-holds : tie.Need-loop-holds Inv-loop μ-loop
 loop-holds c = (sym (begin _ _ _ _), refl, omega arith, omega arith, omega arith)
 
+slice-read-last : tie.Need-slice-read-last Inv-loop μ-loop
+slice-read-last c = omega (arith, c .before .before .loop .inv .1)
+
 loop-again : tie.Need-loop-again Inv-loop μ-loop
 loop-again c =
-    let l = c .before .before .loop in (
-      carry _ _ _ _ _ _ (l .inv .0) (c .before .loop-test .taken) (alternative-held _ _ _ _ _ _ (c .if1 .taken)),
+    let l = c .before .before .before .loop in (
+      carry _ _ _ _ _ _ (l .inv .0) (c .before .before .loop-test .taken) (alternative-held _ _ _ _ _ _ (c .if1 .taken)),
       l
           .inv .1,
       omega arith,
@@ -44,28 +47,28 @@ loop-again c =
     )
 
 same-length : tie.Need-same-length Inv-loop μ-loop
-same-length c = c .before .before .before .before .loop .inv .1
+same-length c = c .before .before .before .before .before .loop .inv .1
 
 returns : tie.Need-returns Inv-loop μ-loop
 returns c =
-    let l = c .before .before .before .before .loop in (
-      halt _ _ _ _ _ _ (alternative-idle _ _ _ _) (l .inv .0) (c .before .before .before .loop-test .taken)
+    let l = c .before .before .before .before .before .loop in (
+      halt _ _ _ _ _ _ (alternative-idle _ _ _ _) (l .inv .0) (c .before .before .before .before .loop-test .taken)
           (alternative-stops _ _ _ _ _ _ _ _ _ _ (c .before .before .if1 .left) (c .before .at-limit .ensures)
           (c .if2 .taken)) refl,
       omega arith,
     )
 
 try-candidate-requires : tie.Need-try-candidate-requires Inv-loop μ-loop
-try-candidate-requires c κs = omega (arith, c .before .before .before .before .before .loop .inv .1)
+try-candidate-requires c κs = omega (arith, c .before .before .before .before .before .before .loop .inv .1)
 
 loop-again-2 : tie.Need-loop-again-2 Inv-loop μ-loop
 loop-again-2 c =
-    let l = c .before .before .before .before .before .before .before .before .before .loop in (
-      carry _ _ _ _ _ _ (l .inv .0) (c .before .before .before .before .before .before .before .before .loop-test
+    let l = c .before .before .before .before .before .before .before .before .before .before .loop in (
+      carry _ _ _ _ _ _ (l .inv .0) (c .before .before .before .before .before .before .before .before .before .loop-test
           .taken)
           (alternative-goes _ _ _ _ _ _ _ _ _ _ (c .before .before .before .before .before .before .before .if1 .left)
-          (c .before .before .before .before .before .before .at-limit .ensures) _ _
-          (c .before .before .before .before .before .if2 .left)
+          (c .before .before .before .before .before .before .at-limit .ensures) _ _ _
+          (c .before .before .before .before .before .if2 .left) refl
           (c .before .before .before .try-candidate .ensures)),
       c .before .before .before .try-candidate .kept .1 .1 .1 .0 ∙ l .inv .1,
       omega arith,
@@ -88,6 +91,7 @@ alternatives-spec =
     Inv-loop
     μ-loop
     loop-holds
+    slice-read-last
     (λ c. omega arith) (λ c. omega arith)
     loop-again
     (λ c κs. search needs)

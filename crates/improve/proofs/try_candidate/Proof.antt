@@ -1,4 +1,4 @@
--- `improve::try_candidate` meets its contract: a rejected candidate is overwritten by the one held. Assumes nothing.
+-- `improve::try_candidate` meets its contract: a rejected candidate is overwritten. Assumes nothing.
 use borrow.Author.Needs.{needs}
 use lib.Seq.{set-set}
 use Rattle.improve.proofs.TrialLaws.{accepts, rejects}
