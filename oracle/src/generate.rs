@@ -2,8 +2,8 @@
 
 use crate::card::{Card, Contour, seal};
 use crate::limits::{
-    AUTO, BLOCK, CARD_BYTES, CHECK_AT, CONTOURS, PAIR, PAIRS, PAIRS_A_BLOCK, PASSES, PAYLOAD_AT, PER_CONTOUR, REACH,
-    VERTEX, VERTICES, contour, head, shared,
+    AUTO, BLOCK, CANDIDATES, CARD_BYTES, CHECK_AT, CONTOURS, PAIR, PAIRS, PAIRS_A_BLOCK, PASSES, PAYLOAD_AT,
+    PER_CONTOUR, REACH, VERTEX, VERTICES, contour, head, shared,
 };
 use crate::random::{KINDS, Kind, Random};
 
@@ -85,6 +85,14 @@ pub fn sized(r: &Random, n: usize) -> Card {
         card.contours.push(Contour { id, tag, interior: r.one_in(2), vertices: outline(r, kind) });
     }
     pairs(r, &mut card);
+    card
+}
+
+/// Good cards with three contours or more and three candidates a contour or more, so that a turn has two trials or more.
+pub fn turning(r: &Random) -> Card {
+    let n = r.from(3, CANDIDATES / 3);
+    let mut card = sized(r, n);
+    card.c = r.from(3, shared(n).min(PER_CONTOUR)) as u16;
     card
 }
 

@@ -3,7 +3,7 @@
 
 use crate::answer::Problem;
 use crate::card::Card;
-use crate::generate::{good, limit_near};
+use crate::generate::{good, limit_near, turning};
 use crate::random::Random;
 use crate::run::{Wanted, cases, same};
 use original::gtsp::evaluate_solution;
@@ -101,12 +101,12 @@ pub fn bytes(tour: &[usize]) -> Vec<u8> {
     tour.iter().map(|&g| g as u8).collect()
 }
 
-/// Searches with three candidates a contour or more in which a candidate was rejected after another was accepted in the same
-/// turn: one in so many must be, for there alone the rule for a rejected candidate shows.
+/// One search in so many must have three candidates a contour or more and a candidate that is rejected after another was
+/// accepted in the same turn: there alone the rule for a rejected candidate shows.
 const ONE_IN: u64 = 6;
 
 fn one(r: &Random, kept: &AtomicU64) -> Result<u64, String> {
-    let mut card = good(r);
+    let mut card = if r.one_in(2) { turning(r) } else { good(r) };
     let problem = Problem::of(&card);
     limit_near(r, &mut card, || problem.search(0).moves as u32);
     let what = || format!("{card:?}");
@@ -129,6 +129,8 @@ pub fn compare(wanted: Wanted) -> bool {
     let kept = AtomicU64::new(0);
     let agreed = cases(wanted, "searches", 120_000, |r| one(r, &kept));
     let (kept, all) = (kept.into_inner(), wanted.of(120_000));
-    println!("searches: {kept} of {all} with c of 3 or more and a candidate rejected after another was accepted in its turn");
-    agreed && kept * ONE_IN >= all
+    let enough = kept * ONE_IN >= all;
+    let few = if enough { "" } else { ": TOO FEW" };
+    println!("searches: {kept} with c of 3 or more and a candidate rejected after one accepted in the same turn{few}");
+    agreed && enough
 }
