@@ -5,7 +5,7 @@
 #   make differential  the comparisons in full size          make bench   the speed figures
 #   make soak SECONDS=600 SEED=7   comparisons from a seed for a time
 #   make fuzz SECONDS=600 SEED=7   any bytes through the exports, between guard pages, led by what they reach
-#   make examples      writes examples/ and what crates/replay runs over, from the original's answers
+#   make examples      writes examples/ and what crates/replay runs over, from the mended original's answers
 #   make fmt           formats Rattle and Rust
 
 # The folder of the Rust original, from the top of the repository.

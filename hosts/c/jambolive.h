@@ -47,8 +47,9 @@ uint64_t jl_check(const uint8_t *card, size_t bytes);
 /* Writes a good card's tour, a candidate of each contour in the order of cutting, to the first entries of `tour`, the
  * number of trials to `moves` and the length's f64 bits to `length`. A card that is not good gets its refusal 1 to 12
  * first, whatever the room; then refusal 13, with the entries needed as its place, where `room` entries are too few.
- * In the turn of a position the search keeps the last candidate that it accepted (request 2026-01): with three candidates
- * a contour or more a tour may be another than that of a library from before, and with fewer it is the same. */
+ * In the turn of a position the search keeps the last candidate that it accepted, where a library from before request
+ * 2026-01 did not: with three candidates a contour or more the tour may be another than then, mostly shorter and now and
+ * then longer; with fewer it is the same (docs/DIFFERENCES.md). */
 uint64_t jl_tour(const uint8_t *card, size_t bytes, uint8_t *tour, size_t room, uint64_t *moves, uint64_t *length);
 
 /* Writes the position of the contour that a candidate belongs to, and its number within that contour. A card that is not

@@ -83,7 +83,7 @@ fn main() {
 
     // Where a trial is about to begin the counted limit is asked (count::spent in lib.rs). The clock stays
     // in the copy and is never asked, since the time limit is 0 wherever this copy is called. A candidate that is
-    // rejected after another was accepted in its turn is counted (count::kept).
+    // rejected after another was accepted in its turn is counted (count::rejected).
     mended()
         .swap("since_check += 1;", "if crate::count::spent() { return; }", 2)
         .swap("solution[pos] = before;", "solution[pos] = before; crate::count::rejected(before != current_global);", 1)

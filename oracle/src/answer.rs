@@ -1,4 +1,4 @@
-//! The original's answers to a good card.
+//! The original's answers to a good card, with the rule for a rejected candidate mended (oracle/original/build.rs).
 
 use crate::card::{Card, Contour};
 use original::config::{CutDirectionPreference, CuttingConfig};
@@ -24,7 +24,7 @@ pub struct Found {
     /// The length's bits.
     pub length: u64,
     /// The candidates that were rejected after another was accepted in the same turn.
-    pub kept: u64,
+    pub rejected_after: u64,
 }
 
 /// A preference by its number on a card.
@@ -101,7 +101,7 @@ impl Problem {
         count::begin(u64::from(limit));
         let tour = counted::solve_constrained(&self.counted, &self.dag, &self.config);
         let length = counted::evaluate_solution(&self.counted, &tour).to_bits();
-        Found { tour, moves: count::moves(), length, kept: count::kept() }
+        Found { tour, moves: count::moves(), length, rejected_after: count::rejected_after() }
     }
 
     /// The search of the mended original, which knows no limit.

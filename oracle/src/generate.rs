@@ -88,7 +88,7 @@ pub fn sized(r: &Random, n: usize) -> Card {
     card
 }
 
-/// Good cards with three contours or more and three candidates a contour or more, so that a turn has two trials or more.
+/// Good cards with three contours or more and up to three candidates a contour or more, so that a turn may have two trials.
 pub fn turning(r: &Random) -> Card {
     let n = r.from(3, CANDIDATES / 3);
     let mut card = sized(r, n);

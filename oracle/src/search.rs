@@ -1,4 +1,4 @@
-//! The search against the original's gtsp.rs, on good cards: what a tour's length is, and what is made of the
+//! The search against the original's gtsp.rs, mended, on good cards: what a tour's length is, and what is made of the
 //! original's start in so many passes and trials.
 
 use crate::answer::Problem;
@@ -101,11 +101,13 @@ pub fn bytes(tour: &[usize]) -> Vec<u8> {
     tour.iter().map(|&g| g as u8).collect()
 }
 
+const ALL: u64 = 120_000;
+
 /// One search in so many must have three candidates a contour or more and a candidate that is rejected after another was
 /// accepted in the same turn: there alone the rule for a rejected candidate shows.
 const ONE_IN: u64 = 6;
 
-fn one(r: &Random, kept: &AtomicU64) -> Result<u64, String> {
+fn one(r: &Random, telling: &AtomicU64) -> Result<u64, String> {
     let mut card = if r.one_in(2) { turning(r) } else { good(r) };
     let problem = Problem::of(&card);
     limit_near(r, &mut card, || problem.search(0).moves as u32);
@@ -121,16 +123,18 @@ fn one(r: &Random, kept: &AtomicU64) -> Result<u64, String> {
     same(what, chart.evaluate(&tour).to_bits(), found.length)?;
     let mut whole = bytes(&start);
     chart.improve(&mut whole, u32::from(card.passes), 0);
-    kept.fetch_add(u64::from(card.c > 2 && found.kept > 0), Ordering::Relaxed);
+    telling.fetch_add(u64::from(card.c > 2 && found.rejected_after > 0), Ordering::Relaxed);
     same(what, &whole, &bytes(&problem.unlimited()))
 }
 
 pub fn compare(wanted: Wanted) -> bool {
-    let kept = AtomicU64::new(0);
-    let agreed = cases(wanted, "searches", 120_000, |r| one(r, &kept));
-    let (kept, all) = (kept.into_inner(), wanted.of(120_000));
-    let enough = kept * ONE_IN >= all;
+    let telling = AtomicU64::new(0);
+    if !cases(wanted, "searches", ALL, |r| one(r, &telling)) {
+        return false;
+    }
+    let telling = telling.into_inner();
+    let enough = telling * ONE_IN >= wanted.of(ALL);
     let few = if enough { "" } else { ": TOO FEW" };
-    println!("searches: {kept} with c of 3 or more and a candidate rejected after one accepted in the same turn{few}");
-    agreed && enough
+    println!("searches: {telling} with c of 3 or more and a candidate rejected after one accepted in the same turn{few}");
+    enough
 }

@@ -60,7 +60,7 @@ use Rattle.tour.specs.Search.{startOn, endOn, tourOn, outcomeOn}
 use Rattle.tour.specs.Tour.{Left, tourOf}
 use Rattle.demands.specs.Demand2.{ownOn, Numbered, Sized, Rooted, Apart, Paired, longOn, Measured, Terms}
 use Rattle.demands.specs.Demand2.{Leaves, Trials, begunOn, searchOn, Between, othersOn, passesOn, allOn, Making}
-use Rattle.demands.specs.Demand2.{Turns, Rows, Passes, Order, Keeping, Even, Begins, Cut, Claim}
+use Rattle.demands.specs.Demand2.{Turns, Rows, Passes, Order, Keeping, AlwaysEven, Begins, Cut, Claim}
 use Rattle.demands.proofs.AskedLaws.{toured-if, done-fine, fine-nothing}
 use Rattle.demands.proofs.NextLaws.{starts}
 use Rattle.tour_laws.proofs.TourLaws.{start-long, tour-long, tour-legal}
@@ -353,14 +353,14 @@ order s fine = record { making = making s; turns = turns s; rows = rows s; passe
 keeping : (s : List ℕ) (p : ℕ) (v : State) → Keeping s p v
 unfolding acceptedOf
 keeping s p v = record {
-  nothing = refl;
-  one-more = λ a more e. rw e;
-  no-more = λ a more e. rw e;
+  none = refl;
+  accepted = λ a more e. rw e;
+  rejected = λ a more e. rw e;
   last-accepted = λ tries front a e. kept .0 .last-accepted (chartOn s) p tries front a v e;
   none-accepted = λ tries e. kept .0 .none-accepted (chartOn s) p tries v e;
 }
 
-even : (s : List ℕ) → Even s
+even : (s : List ℕ) → AlwaysEven s
 even s = record {
   after-trials = λ k. kept .1 .after-trials (chartOn s) (take k (allOn s)) (begunOn s) refl;
   in-the-end = λ M. kept .1 .in-the-end (chartOn s) (passesOf s) M (startOn s);

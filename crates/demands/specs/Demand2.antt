@@ -3,10 +3,10 @@
 -- told is evaluated from the tour handed out; and square roots are IEEE 754's. tourOf is what `tour::tour` promises.
 -- It shuts out a constant tour and the order of the file (Told .tour, with Starts and Order); a start never improved
 -- and a search that idles after its first pass (Passes: the trials of every further pass are in the list; Cut: all of
--- the list is made); a candidate that is found and lost again (Trials .other-left, Keeping, Even); an invented number of
--- moves (Told .moves, Cut); another length told than that of the tour (Told .rapid). That `tour` promises tourOf and
--- nothing else is said in contracts/specs/Doors; what the candidates of one contour are, in candidates/specs/Generate,
--- two cases of it in Starred. Assumes nothing.
+-- the list is made); a candidate that is found and lost again (Trials .other-left, Keeping, AlwaysEven); an invented
+-- number of moves (Told .moves, Cut); another length told than that of the tour (Told .rapid). That `tour` promises
+-- tourOf and nothing else is said in contracts/specs/Doors; what the candidates of one contour are, in
+-- candidates/specs/Generate, two cases of it in Starred. Assumes nothing.
 use mathlib.Core.Path.{_≡_}
 use mathlib.Core.Bool.{Bool, true, false}
 use mathlib.Core.Logic.{_⊎_, _↔_}
@@ -327,10 +327,10 @@ acceptedOn s p tries v = acceptedOf (chartOn s) p tries v
 -- from a turn's beginning on, its candidates leave at its position the last one accepted, or with none the one held
 -- when it began, and the rest of the tour as it was: that is what the next one gives back, if it is rejected
 pub record Keeping (s : List ℕ) (p : ℕ) (v : State) : Type 0 where
-  pub nothing : acceptedOn s p [] v ≡ []
-  pub one-more : (a : ℕ) (more : List ℕ) → shorter (longOn s (set (v .tour) p a)) (v .cost) ≡ true
+  pub none : acceptedOn s p [] v ≡ []
+  pub accepted : (a : ℕ) (more : List ℕ) → shorter (longOn s (set (v .tour) p a)) (v .cost) ≡ true
       → acceptedOn s p (a ∷ more) v ≡ a ∷ acceptedOn s p more (otherOn s p a v)
-  pub no-more : (a : ℕ) (more : List ℕ) → shorter (longOn s (set (v .tour) p a)) (v .cost) ≡ false
+  pub rejected : (a : ℕ) (more : List ℕ) → shorter (longOn s (set (v .tour) p a)) (v .cost) ≡ false
       → acceptedOn s p (a ∷ more) v ≡ acceptedOn s p more (otherOn s p a v)
   pub last-accepted : (tries front : List ℕ) (a : ℕ) → acceptedOn s p tries v ≡ front ++ (a ∷ [])
       → madeOn s (map (other p) tries) v .tour ≡ set (v .tour) p a
@@ -339,7 +339,7 @@ pub record Keeping (s : List ℕ) (p : ℕ) (v : State) : Type 0 where
 
 -- at all times the length to beat is the length of the tour held: after the first k trials, and where the search ends,
 -- with a limit of M; 0 is none
-pub record Even (s : List ℕ) : Type 0 where
+pub record AlwaysEven (s : List ℕ) : Type 0 where
   pub after-trials : (k : ℕ)
       → let v = madeOn s (take k (allOn s)) (begunOn s) in
       v .cost ≡ longOn s (v .tour)
@@ -397,7 +397,7 @@ pub record Follows (s room : List ℕ) (table : List Float) (told : Outcome) : T
   pub between : Between s
   pub order : Order s
   pub keeping : (p : ℕ) (v : State) → Keeping s p v
-  pub even : Even s
+  pub even : AlwaysEven s
   pub limit : Cut s
   pub told-so : Told s room table told
 

@@ -2,23 +2,17 @@
 -- nothing.
 use mathlib.Core.Bool.{Bool, true, false, not, cond, _&&_}
 use mathlib.Core.List.{List}
-use mathlib.Core.Path.{_≡_, refl, sym, subst}
+use mathlib.Core.Path.{_≡_, refl}
 use Prim.Native.Nat.{ℕ, zero, suc, _+_, _-_, _<_}
 use native.Mathlib.Omega.{arith}
 use lib.Dec.{eqb}
-use lib.ListN.{length, getD, set}
-use lib.Seq.{set-getD}
+use lib.ListN.{length, getD}
 use Rattle.table.proofs.EachLaws.{each-keeps}
 use Rattle.improve.specs.Search.{Chart, State, ownerOf, atLimit, stopped, tried, swap, alternative}
 use Rattle.improve.specs.Search.{turn, flip, reversal, row, fresh, pass, repeated, begun, worthwhile, searched}
 use Rattle.improve.specs.Trials.{Offers}
 
 -- ---- what is asked of a property
-
--- a search whose tour holds at position p what it held when the turn began
-abbrev pub backed : ℕ → ℕ → State → State
-backed p held s =
-    record { tour = set (s .tour) p held; cost = s .cost; better = s .better; moves = s .moves; cut = s .cut }
 
 -- a trial may begin
 pub record May (limit : ℕ) (s : State) : Type 0 where
@@ -111,45 +105,26 @@ search-carries chart most limit tour P Turn carries q = go (worthwhile most (len
     go true = repeated-carries chart limit (length tour) P Turn carries most (begun chart tour) q
     go false = q
 
--- ---- where the tour as the turn found it has the property too
+-- ---- where every trial keeps it by itself
 
--- a property that each trial keeps; in a turn the tour with the candidate held at its beginning has it as well
+-- a property that each trial keeps, whatever its turn has done before
 pub record Keeps (chart : Chart) (limit n : ℕ) (P : State → Type 0) : Type 0 where
   pub stops : (s : State) → atLimit limit (s .moves) ≡ true → P s → P (stopped s)
   pub begins : (s : State) → P s → P (fresh s)
-  pub swaps : (p held a : ℕ) (s : State) → p < n → Offers chart held a → May limit s → P s → P (backed p held s)
-      → P (swap chart p a s) × P (backed p held (swap chart p a s))
+  pub swaps : (p a : ℕ) (s : State) → p < n → May limit s → P s → P (swap chart p a s)
   pub flips : (i j : ℕ) (s : State) → i < j → j < n → May limit s → P s → P (flip chart i j s)
-
--- the property, and the property of that tour
-abbrev InTurn : (P : State → Type 0) → ℕ → ℕ → State → Type 0
-InTurn P p held s = P s × P (backed p held s)
-
-keeps-carries : (chart : Chart) (limit n : ℕ) (P : State → Type 0) → Keeps chart limit n P
-    → Carries chart limit n P (InTurn P)
-keeps-carries chart limit n P keeps = record {
-  stops = keeps .stops;
-  begins = keeps .begins;
-  flips = keeps .flips;
-  enters = λ p s q. (q, back p s q);
-  rests = λ p held s l q. (keeps .stops s l (q .0), keeps .stops (backed p held s) l (q .1));
-  swaps = λ p held a s h o m q. keeps .swaps p held a s h o m (q .0) (q .1);
-  leaves = λ p held s q. q .0;
-}
-  where
-    back : (p : ℕ) (s : State) → P s → P (backed p (getD (s .tour) p 0) s)
-    back p s q =
-        subst (λ (x : List ℕ). P (record {
-          tour = x;
-          cost = s .cost;
-          better = s .better;
-          moves = s .moves;
-          cut = s .cut;
-        })) (sym (set-getD (s .tour) p 0)) q
 
 -- what every trial keeps, the search keeps
 pub search-keeps : (chart : Chart) (most limit : ℕ) (tour : List ℕ) (P : State → Type 0)
     → Keeps chart limit (length tour) P
     → P (begun chart tour) → P (searched chart most limit tour)
 search-keeps chart most limit tour P keeps q =
-    search-carries chart most limit tour P (InTurn P) (keeps-carries chart limit (length tour) P keeps) q
+    search-carries chart most limit tour P (λ p held. P) (record {
+      stops = keeps .stops;
+      begins = keeps .begins;
+      flips = keeps .flips;
+      enters = λ p s w. w;
+      rests = λ p held s l w. keeps .stops s l w;
+      swaps = λ p held a s h o m w. keeps .swaps p a s h m w;
+      leaves = λ p held s w. w;
+    }) q

@@ -76,11 +76,9 @@ module _ (chart : Chart) (limit n : ℕ) (L : Float) (home : HomeFits (chart .ho
   no-longer = record {
     stops = λ s l w. record { counts = w .counts; fit = w .fit };
     begins = λ s w. record { counts = w .counts; fit = w .fit };
-    swaps = λ p held a s h o m w b.
+    swaps = λ p a s h m w.
         let new = set (s .tour) p a in
-        let after : NoLonger L (judged (shorter (lengthIn chart new) (s .cost)) new (lengthIn chart new) s) =
-        judged-no-longer (shorter (lengthIn chart new) (s .cost)) new s (λ e. e) w in
-        (after, record { counts = after .counts; fit = after .fit });
+        judged-no-longer (shorter (lengthIn chart new) (s .cost)) new s (λ e. e) w;
     flips = λ i j s h g m w.
         let new = reversed i j (s .tour) in
         judged-no-longer (shorter (lengthIn chart new) (s .cost) && legal chart new) new s

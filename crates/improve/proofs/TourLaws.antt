@@ -2,20 +2,20 @@
 -- more trials than it may. Each by the one induction over a search. Assumes nothing.
 use mathlib.Core.Bool.{Bool, true, false, cond, _&&_}
 use mathlib.Core.List.{List, [], _∷_, _++_}
-use mathlib.Core.Path.{_≡_, refl, sym, ap, _∙_}
+use mathlib.Core.Path.{_≡_, refl, sym, ap, _∙_, subst}
 use Prim.Native.Nat.{ℕ, zero, suc, _+_, _≤_, _<_}
 use native.Mathlib.Omega.{arith}
 use borrow.Author.Tests.{lt-ltb, leb-false}
 use lib.Dec.{eqb}
 use lib.ListN.{length, getD, set, length-set}
-use lib.Seq.{set-set}
+use lib.Seq.{set-getD, set-set}
 use Rattle.bytes.proofs.Laws.{rev-append}
 use Rattle.bytes.specs.Bytes.{rev}
 use Rattle.keep.specs.Keep.{keepsPairs}
 use Rattle.improve.specs.Search.{Chart, State, lengthIn, ownerOf, contours, legal, shorter, judged, atLimit, swap}
 use Rattle.improve.specs.Search.{turned, reversed, flip, searched}
 use Rattle.improve.specs.Trials.{Offers}
-use Rattle.improve.proofs.Keeps.{Keeps, search-keeps}
+use Rattle.improve.proofs.Keeps.{Carries, search-carries, Keeps, search-keeps}
 use Rattle.improve.proofs.ReversalLaws.{Parts, parts, turned-parts, length-turned}
 
 -- ---- properties of the tour alone
@@ -26,17 +26,24 @@ pub record KeepsTour (chart : Chart) (n : ℕ) (T : List ℕ → Type 0) : Type 
   pub flipped : (i j : ℕ) (tour : List ℕ) → i < j → j < n → legal chart (reversed i j tour) ≡ true → T tour
       → T (reversed i j tour)
 
-pub tour-keeps : (chart : Chart) (limit n : ℕ) (T : List ℕ → Type 0) → KeepsTour chart n T
-    → Keeps chart limit n (λ s. T (s .tour))
+-- during a turn, the tour has the property, and so has it with the candidate that the turn found
+abbrev InTurn : (List ℕ → Type 0) → ℕ → ℕ → State → Type 0
+InTurn T p held s = T (s .tour) × T (set (s .tour) p held)
+
+tour-carries : (chart : Chart) (limit n : ℕ) (T : List ℕ → Type 0) → KeepsTour chart n T
+    → Carries chart limit n (λ s. T (s .tour)) (InTurn T)
 unfolding swap flip judged
-tour-keeps chart limit n T keeps = record {
+tour-carries chart limit n T keeps = record {
   stops = λ s l q. q;
   begins = λ s q. q;
-  swaps = λ p held a s h o m q b.
-      let new : T (set (s .tour) p a) = keeps .swapped p held a (s .tour) h o b in (
-        either (shorter (lengthIn chart (set (s .tour) p a)) (s .cost)) new q,
-        again p held a s (shorter (lengthIn chart (set (s .tour) p a)) (s .cost)) b,
+  enters = λ p s q. (q, subst T (sym (set-getD (s .tour) p 0)) q);
+  rests = λ p held s l q. q;
+  swaps = λ p held a s h o m q.
+      let new : T (set (s .tour) p a) = keeps .swapped p held a (s .tour) h o (q .1) in (
+        either (shorter (lengthIn chart (set (s .tour) p a)) (s .cost)) new (q .0),
+        again p held a s (shorter (lengthIn chart (set (s .tour) p a)) (s .cost)) (q .1),
       );
+  leaves = λ p held s q. q .0;
   flips = λ i j s h g m q. judge i j s h g q (shorter (lengthIn chart (reversed i j (s .tour))) (s .cost))
       (legal chart (reversed i j (s .tour))) refl;
 }
@@ -58,6 +65,14 @@ tour-keeps chart limit n T keeps = record {
     judge i j s h g q false true e = q
     judge i j s h g q false false e = q
 
+-- and so the search keeps it
+pub tour-kept : (chart : Chart) (most limit : ℕ) (tour : List ℕ) (T : List ℕ → Type 0)
+    → KeepsTour chart (length tour) T → T tour
+    → T (searched chart most limit tour .tour)
+tour-kept chart most limit tour T keeps q =
+    search-carries chart most limit tour (λ s. T (s .tour)) (InTurn T)
+    (tour-carries chart limit (length tour) T keeps) q
+
 -- ---- as long as it was
 
 long-enough : (chart : Chart) (n : ℕ) → KeepsTour chart n (λ tour. length tour ≡ n)
@@ -69,8 +84,7 @@ long-enough chart n = record {
 pub same-length : (chart : Chart) (most limit : ℕ) (tour : List ℕ)
     → length (searched chart most limit tour .tour) ≡ length tour
 same-length chart most limit tour =
-    search-keeps chart most limit tour (λ s. length (s .tour) ≡ length tour)
-    (tour-keeps chart limit (length tour) _ (long-enough chart (length tour))) refl
+    tour-kept chart most limit tour (λ l. length l ≡ length tour) (long-enough chart (length tour)) refl
 
 -- ---- the same contours
 
@@ -167,8 +181,7 @@ alike chart n from grouped = record {
 pub contours-kept : (chart : Chart) (most limit : ℕ) (tour : List ℕ) → Grouped (chart .owner) (chart .first)
     → Shuffled (contours (chart .owner) (searched chart most limit tour .tour)) (contours (chart .owner) tour)
 contours-kept chart most limit tour grouped =
-    search-keeps chart most limit tour (λ s. Alike (chart .owner) (length tour) tour (s .tour))
-    (tour-keeps chart limit (length tour) _ (alike chart (length tour) tour grouped))
+    tour-kept chart most limit tour (Alike (chart .owner) (length tour) tour) (alike chart (length tour) tour grouped)
     (record { long = refl; shuffled = λ x. refl }) .shuffled
 
 -- ---- legal
@@ -187,8 +200,7 @@ pub legal-kept : (chart : Chart) (most limit : ℕ) (tour : List ℕ) → Groupe
     → legal chart tour ≡ true
     → legal chart (searched chart most limit tour .tour) ≡ true
 legal-kept chart most limit tour grouped e =
-    search-keeps chart most limit tour (λ s. legal chart (s .tour) ≡ true)
-    (tour-keeps chart limit (length tour) _ (lawful chart (length tour) grouped)) e
+    tour-kept chart most limit tour (λ l. legal chart l ≡ true) (lawful chart (length tour) grouped) e
 
 -- ---- no more trials than allowed
 
@@ -201,7 +213,7 @@ unfolding swap flip judged
 within chart limit n h = record {
   stops = λ s l q. q;
   begins = λ s q. q;
-  swaps = λ p held a s g o m q b. (room-left limit (s .moves) h (m .room), room-left limit (s .moves) h (m .room));
+  swaps = λ p a s g m q. room-left limit (s .moves) h (m .room);
   flips = λ i j s g k m q. room-left limit (s .moves) h (m .room);
 }
 

@@ -321,9 +321,11 @@ module _ (chart : Chart) where
   -- ---- each trial is proper
 
   proper-fresh : (n : ℕ) {l : List Trial} (u v : State) → fresh u ≡ fresh v → Proper chart n u l → Proper chart n v l
+  unfolding turnTrials
   proper-fresh n u v e no-more = no-more
-  proper-fresh n u v e (one-turn p held tries h q o w) =
-      one-turn p held tries h (q ∙ ap (λ (x : State). getD (x .tour) p 0) e) o
+  proper-fresh n u v e (one-turn p held tries h q t o w) =
+      one-turn p held tries h (q ∙ ap (λ (x : State). getD (x .tour) p 0) e)
+      (ap (λ (x : State). turnTrials chart p x) (sym e) ∙ t) o
       (proper-fresh n _ _ (all-fresh (map (other p) tries) u v e) w)
   proper-fresh n u v e (one-reversal i j h g w) =
       one-reversal i j h g
@@ -357,7 +359,7 @@ module _ (chart : Chart) where
         let k = ownerOf (chart .owner) held in
         let from = getD (chart .first) k 0 in
         let to = getD (chart .first) (suc k) 0 in
-        one-turn p held (others held (to - from) from) h refl
+        one-turn p held (others held (to - from) from) h refl refl
         (others-differ held (to - from) from (omega arith) (omega arith)) w
 
     proper-turns : (k p : ℕ) (s : State) (more : List Trial) → p + k ≤ n

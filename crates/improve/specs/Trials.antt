@@ -81,11 +81,12 @@ pub record Another (chart : Chart) (held a : ℕ) : Type 0 where
   pub offers : Offers chart held a
   pub differs : a ≡ held → ⊥
 
--- trials on a tour of n from s on, each in its place: a turn is of a position of the tour and tries, against what that
--- position held when it began, other candidates of that contour alone; a reversal is of two contours or more
+-- trials on a tour of n from s on, each in its place: a turn is whole, is of a position of the tour and tries, against
+-- what that position held when it began, other candidates of that contour alone; a reversal is of two contours or more
 pub data Proper (chart : Chart) (n : ℕ) : State → List Trial → Type 0 where
   no-more : {s : State} → Proper chart n s []
   one-turn : {s : State} {more : List Trial} (p held : ℕ) (tries : List ℕ) → p < n → held ≡ getD (s .tour) p 0
+      → turnTrials chart p s ≡ map (other p) tries
       → ((i : ℕ) → i < length tries → Another chart held (getD tries i 0))
       → Proper chart n (allMade chart (map (other p) tries) s) more
       → Proper chart n s (map (other p) tries ++ more)

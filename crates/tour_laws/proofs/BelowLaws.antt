@@ -15,9 +15,8 @@ use Rattle.table.proofs.EachLaws.{each-keeps}
 use Rattle.start.specs.Nearest.{Ground, Way, chosen, visit, step, setOut, walked, nearest}
 use Rattle.start.proofs.ChoiceLaws.{chosen-fair}
 use Rattle.improve.specs.Search.{Chart, ownerOf, turned, searched}
-use Rattle.improve.proofs.Keeps.{search-keeps}
 use Rattle.improve.proofs.ReversalLaws.{Parts, parts, turned-parts, length-turned}
-use Rattle.improve.proofs.TourLaws.{KeepsTour, tour-keeps}
+use Rattle.improve.proofs.TourLaws.{KeepsTour, tour-kept}
 use Rattle.tour_laws.specs.Visits.{AllBelow}
 
 -- what stands in such a list is below t
@@ -94,8 +93,7 @@ pub below-kept : (chart : Chart) (most limit t : ℕ) (tour : List ℕ) → ((k 
     → AllBelow t tour
     → AllBelow t (searched chart most limit tour .tour)
 below-kept chart most limit t tour bound h =
-    search-keeps chart most limit tour (λ s. Held t (length tour) (s .tour))
-    (tour-keeps chart limit (length tour) _ (held-kept chart t (length tour) bound))
+    tour-kept chart most limit tour (Held t (length tour)) (held-kept chart t (length tour) bound)
     (record { long = refl; below = h }) .below
 
 -- ---- the start

@@ -1,4 +1,4 @@
 pub mod Examples
 pub mod Taken
-pub mod Kept
+pub mod Slit
 pub mod ReadBack

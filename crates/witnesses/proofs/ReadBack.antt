@@ -6,7 +6,7 @@ use Rattle.card_laws.specs.Examples.{asJob41, waits, job41, selfPair, waiting}
 use Rattle.tour_laws.proofs.Computes.{tour-computes}
 use Rattle.witnesses.specs.Examples.{limited}
 use Rattle.witnesses.specs.Taken.{aligned, bound}
-use Rattle.witnesses.specs.Kept.{slit}
+use Rattle.witnesses.specs.Slit.{slit}
 use Rattle.witnesses.specs.ReadBack.{ReadBack, AllReadBack, Claim}
 
 of-empty : ReadBack (asJob41 [] [])

@@ -7,7 +7,7 @@ use Rattle.card_laws.specs.Write.{written}
 use Rattle.card_laws.specs.Examples.{asJob41, waits, job41, selfPair, waiting}
 use Rattle.witnesses.specs.Examples.{limited}
 use Rattle.witnesses.specs.Taken.{aligned, bound}
-use Rattle.witnesses.specs.Kept.{slit}
+use Rattle.witnesses.specs.Slit.{slit}
 
 abbrev pub ReadBack : Card → Type 0
 ReadBack c = cardOf (written c) ≡ c

@@ -44,8 +44,9 @@ pub struct Tour {
     pub length: f64,
 }
 
-/// Finds a card's tour. In the turn of a position the search keeps the last candidate that it accepted (request 2026-01):
-/// with three candidates a contour or more a tour may be another than that of a library from before.
+/// Finds a card's tour. In the turn of a position the search keeps the last candidate that it accepted, where a library from
+/// before request 2026-01 did not: with three candidates a contour or more the tour may be another than then, mostly shorter
+/// and now and then longer; with fewer it is the same (docs/DIFFERENCES.md).
 pub fn tour(card: &[u8]) -> Result<Tour, Refusal> {
     let mut room = [0; CONTOURS];
     let (moves, length) = tour_into(card, &mut room)?;

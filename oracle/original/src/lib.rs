@@ -81,14 +81,14 @@ pub mod count {
     thread_local! {
         static LIMIT: Cell<u64> = const { Cell::new(0) };
         static MOVES: Cell<u64> = const { Cell::new(0) };
-        static KEPT: Cell<u64> = const { Cell::new(0) };
+        static AFTER: Cell<u64> = const { Cell::new(0) };
     }
 
     /// Before a search: no trial yet, and at most `limit` of them (0: as many as it takes).
     pub fn begin(limit: u64) {
         LIMIT.set(limit);
         MOVES.set(0);
-        KEPT.set(0);
+        AFTER.set(0);
     }
 
     /// The trials that began since.
@@ -97,13 +97,13 @@ pub mod count {
     }
 
     /// The candidates since that were rejected after another was accepted in the same turn.
-    pub fn kept() -> u64 {
-        KEPT.get()
+    pub fn rejected_after() -> u64 {
+        AFTER.get()
     }
 
     /// A candidate is rejected, in a turn that has accepted another or not.
     pub fn rejected(after_another: bool) {
-        KEPT.set(KEPT.get() + u64::from(after_another));
+        AFTER.set(AFTER.get() + u64::from(after_another));
     }
 
     /// A trial is about to begin: whether it may not. Otherwise it is counted.

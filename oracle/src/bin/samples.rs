@@ -1,4 +1,4 @@
-//! `samples [FOLDER]`: writes the cards of examples/ and, from the original's answers, their lists; with the folder of
+//! `samples [FOLDER]`: writes the cards of examples/ and, from the mended original's answers, their lists; with the folder of
 //! the crate `replay` also its cards and what it must print.
 
 use oracle::answer::printed;
@@ -47,8 +47,8 @@ fn examples() {
 }
 
 /// The cards that the program `replay` runs over, each after its length in four bytes, and what it must print: first the
-/// edges that the paper names, then the card with a slit, then cards from the generator, by turns good and damaged. Most are small, so that the file
-/// is; every twenty-fifth has any size up to one byte too many.
+/// edges that the paper names, then the card with a slit, then cards from the generator, by turns good and damaged. Most are
+/// small, so that the file is; every twenty-fifth has any size up to one byte too many.
 fn replay(crate_folder: &Path) {
     let (mut cards, mut lists) = (Vec::new(), String::new());
     let kept = |case: &u64, bytes: &[u8]| bytes.len() <= if case % 25 == 0 { CARD_BYTES + 1 } else { 6 * BLOCK };

@@ -38,7 +38,8 @@ slice-read-last c = omega (arith, c .before .before .loop .inv .1)
 loop-again : tie.Need-loop-again Inv-loop μ-loop
 loop-again c =
     let l = c .before .before .before .loop in (
-      carry _ _ _ _ _ _ (l .inv .0) (c .before .before .loop-test .taken) (alternative-held _ _ _ _ _ _ (c .if1 .taken)),
+      carry _ _ _ _ _ _ (l .inv .0) (c .before .before .loop-test .taken)
+          (alternative-held _ _ _ _ _ _ (c .if1 .taken)),
       l
           .inv .1,
       omega arith,
@@ -64,8 +65,8 @@ try-candidate-requires c κs = omega (arith, c .before .before .before .before .
 loop-again-2 : tie.Need-loop-again-2 Inv-loop μ-loop
 loop-again-2 c =
     let l = c .before .before .before .before .before .before .before .before .before .before .loop in (
-      carry _ _ _ _ _ _ (l .inv .0) (c .before .before .before .before .before .before .before .before .before .loop-test
-          .taken)
+      carry _ _ _ _ _ _ (l .inv .0)
+          (c .before .before .before .before .before .before .before .before .before .loop-test .taken)
           (alternative-goes _ _ _ _ _ _ _ _ _ _ (c .before .before .before .before .before .before .before .if1 .left)
           (c .before .before .before .before .before .before .at-limit .ensures) _ _ _
           (c .before .before .before .before .before .if2 .left) refl

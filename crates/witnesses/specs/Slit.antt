@@ -2,7 +2,7 @@
 -- gives back the one taken; by the rule of before it gave back the one held when the turn began, and so the search came
 -- to another tour, longer than the length it went by. Assumes nothing.
 use mathlib.Core.Path.{_≡_}
-use mathlib.Core.Bool.{true, false, cond}
+use mathlib.Core.Bool.{false, cond}
 use mathlib.Core.List.{List, [], _∷_}
 use Prim.Native.Nat.{ℕ, zero, suc, _-_}
 use lib.Dec.{eqb}
@@ -39,8 +39,8 @@ slit =
       pairs = [];
     }
 
-abbrev pub kept : List ℕ
-kept = written slit
+abbrev pub slitBytes : List ℕ
+slitBytes = written slit
 
 -- ---- a candidate taken, and the next no better
 
@@ -54,12 +54,12 @@ pub record OtherLeft (chart : Chart) (v after : State) (p a : ℕ) : Type 0 wher
 -- the first turn finds candidate 1 and tries the other two: it skips the one that it found, though another has been
 -- taken by then. Candidate 0 is taken, candidate 2 is not, and the position keeps candidate 0
 pub record OneTurn : Type 0 where
-  pub start-is : startOn kept ≡ 1 ∷ 3 ∷ 4 ∷ []
-  pub start-long : begunOn kept .cost ≡ mm 8
-  pub tries : turnOn kept 0 (begunOn kept) ≡ other 0 0 ∷ other 0 2 ∷ []
-  pub first : OtherTaken (chartOn kept) (afterOn kept 0) (afterOn kept 1) 0 0
-  pub second : OtherLeft (chartOn kept) (afterOn kept 1) (afterOn kept 2) 0 2
-  pub keeps : afterOn kept 2 .tour ≡ 0 ∷ 3 ∷ 4 ∷ []
+  pub start-is : startOn slitBytes ≡ 1 ∷ 3 ∷ 4 ∷ []
+  pub start-long : begunOn slitBytes .cost ≡ mm 8
+  pub tries : turnOn slitBytes 0 (begunOn slitBytes) ≡ other 0 0 ∷ other 0 2 ∷ []
+  pub first : OtherTaken (chartOn slitBytes) (afterOn slitBytes 0) (afterOn slitBytes 1) 0 0
+  pub second : OtherLeft (chartOn slitBytes) (afterOn slitBytes 1) (afterOn slitBytes 2) 0 2
+  pub keeps : afterOn slitBytes 2 .tour ≡ 0 ∷ 3 ∷ 4 ∷ []
 
 -- ---- the rule of before
 
@@ -76,7 +76,7 @@ swapBefore chart p held a s =
       cut = after .cut;
     }
 
--- turns, passes and the search without a limit, else as they are
+-- turns, passes and the search without a limit of three contours or more, else as they are
 unfoldable pub alternativeBefore : Chart → ℕ → ℕ → ℕ → State → State
 alternativeBefore chart p held a s = let after = swapBefore chart p held a s in cond (eqb a held) s after
 
@@ -101,23 +101,25 @@ searchBefore s = repeatedBefore (chartOn s) (contoursOf s) (passesOf s) (begun (
 -- ---- two tours
 
 -- the tour is 6 mm long. By the rule of before it was the start again, 8 mm long, while the length to beat was 6 mm, so
--- that nothing could come after it
+-- that no later trial was accepted
 pub record TwoTours : Type 0 where
   pub answered : Answered slit 3 5
-  pub on-grid : OnGrid kept
-  pub tour-is : tourOn kept ≡ 0 ∷ 3 ∷ 4 ∷ []
-  pub tour-long : outcomeOn kept .length ≡ mm 6
-  pub moves-are : outcomeOn kept .moves ≡ 6
-  pub before-is : searchBefore kept .tour ≡ 1 ∷ 3 ∷ 4 ∷ []
-  pub before-long : longOn kept (searchBefore kept .tour) ≡ mm 8
-  pub before-went-by : searchBefore kept .cost ≡ mm 6
-  pub differ : tourOn kept ≡ searchBefore kept .tour → ⊥
+  pub on-grid : OnGrid slitBytes
+  pub tour-is : tourOn slitBytes ≡ 0 ∷ 3 ∷ 4 ∷ []
+  pub tour-long : outcomeOn slitBytes .length ≡ mm 6
+  pub moves-are : outcomeOn slitBytes .moves ≡ 6
+  pub before-is : searchBefore slitBytes .tour ≡ 1 ∷ 3 ∷ 4 ∷ []
+  pub before-long : longOn slitBytes (searchBefore slitBytes .tour) ≡ mm 8
+  pub before-went-by : searchBefore slitBytes .cost ≡ mm 6
+  pub before-moves : searchBefore slitBytes .moves ≡ 6
+  pub differ : tourOn slitBytes ≡ searchBefore slitBytes .tour → ⊥
 
 -- the list, as `list::write_list` writes it
-pub record KeptPrinted : Type 0 where
-  pub kept-printed :
-      listOf kept ≡ bytes "JOB 45 CONTOURS 3\n5 50 0 ccw\n6 60 0 ccw\n7 70 0 ccw\nMOVES 6\nRAPID 4018000000000000\n"
+pub record SlitPrinted : Type 0 where
+  pub slit-printed :
+      listOf slitBytes
+      ≡ bytes "JOB 45 CONTOURS 3\n5 50 0 ccw\n6 60 0 ccw\n7 70 0 ccw\nMOVES 6\nRAPID 4018000000000000\n"
 
 -- all of them: what stands apart is proved apart
 abbrev pub Claim : Type 0
-Claim = OneTurn × TwoTours × KeptPrinted
+Claim = OneTurn × TwoTours × SlitPrinted
