@@ -84,7 +84,7 @@ tried limit trial s = let after = trial s in cond (s .cut) s (cond (atLimit limi
 
 -- ---- another candidate of the same contour
 
--- candidate a at position p
+-- candidate a at position p; Kept says what one that is rejected gives back
 unfoldable pub swap : Chart → ℕ → ℕ → State → State
 swap chart p a s =
     let new = set (s .tour) p a in
