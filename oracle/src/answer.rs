@@ -61,12 +61,18 @@ fn asked(card: &Card) -> (Vec<CutContour>, CuttingDag, CuttingConfig) {
     (contours, dag, config)
 }
 
+/// A card's instance, as a copy of the original makes it.
+macro_rules! instance_by {
+    ($copy:ident, $card:expr, $contours:expr, $config:expr) => {
+        $copy::build_gtsp_instance($copy::discretize_contours($contours, $config).unwrap(), $card.home)
+    };
+}
+
 /// A copy of the original, from a card's fields to the tour and its length.
 macro_rules! solved_by {
     ($copy:ident, $card:expr) => {{
         let (contours, dag, config) = asked($card);
-        let clusters = $copy::discretize_contours(&contours, &config).unwrap();
-        let instance = $copy::build_gtsp_instance(clusters, $card.home);
+        let instance = instance_by!($copy, $card, &contours, &config);
         let tour = $copy::solve_constrained(&instance, &dag, &config);
         let length = $copy::evaluate_solution(&instance, &tour);
         (tour, length)
@@ -86,11 +92,9 @@ pub fn solved_before(card: &Card) -> (Vec<usize>, f64) {
 impl Problem {
     pub fn of(card: &Card) -> Problem {
         let (contours, dag, config) = asked(card);
-        let clusters = gtsp::discretize_contours(&contours, &config).unwrap();
-        let again = counted::discretize_contours(&contours, &config).unwrap();
         Problem {
-            instance: gtsp::build_gtsp_instance(clusters, card.home),
-            counted: counted::build_gtsp_instance(again, card.home),
+            instance: instance_by!(gtsp, card, &contours, &config),
+            counted: instance_by!(counted, card, &contours, &config),
             dag,
             config,
         }

@@ -16,34 +16,28 @@ pub fn job_41() -> Card {
     card
 }
 
-/// The card of crates/witnesses whose search accepts candidates and a reversal, also in its second pass: two slits and a dot
-/// on a line.
-pub fn aligned(limit: u32) -> Card {
+/// A card of crates/witnesses: all stands on the line y = 0, home and each contour's vertices by their x; ids count from 5.
+fn on_a_line(job: u32, c: u16, home: f64, contours: &[&[f64]]) -> Card {
     let on = |x| (x, 0.0);
-    let one = |id, vertices| Contour { id, tag: 10 * id, interior: false, vertices };
-    let contours = vec![one(5, vec![on(2.0), on(10.0)]), one(6, vec![on(1.0), on(8.0)]), one(7, vec![on(9.0)])];
-    let mut card = Card {
-        job: 43,
-        c: 2,
-        passes: 10,
-        limit,
-        home: on(5.0),
-        exterior: AUTO,
-        interior: AUTO,
-        contours,
-        ..Card::default()
+    let along = |(id, xs): (u32, &&[f64])| {
+        let vertices = xs.iter().map(|&x| on(x)).collect();
+        Contour { id, tag: 10 * id, interior: false, vertices }
     };
+    let contours = (5..).zip(contours).map(along).collect();
+    Card { job, c, passes: 10, home: on(home), exterior: AUTO, interior: AUTO, contours, ..Card::default() }
+}
+
+/// The one whose search accepts candidates and a reversal, also in its second pass: two slits and a dot.
+pub fn aligned(limit: u32) -> Card {
+    let mut card = Card { limit, ..on_a_line(43, 2, 5.0, &[&[2.0, 10.0], &[1.0, 8.0], &[9.0]]) };
     card.pairs.push(card.pair(0, 1));
     card
 }
 
-/// The card of crates/witnesses on which the rule for a rejected candidate shows: a slit with three candidates, of which the
-/// first is better than the one held and the last is not, and two dots, on a line.
+/// The one on which the rule for a rejected candidate shows: a slit with three candidates, of which the first is better than
+/// the one held and the last is not, and two dots.
 pub fn slit() -> Card {
-    let on = |x| (x, 0.0);
-    let one = |id, vertices| Contour { id, tag: 10 * id, interior: false, vertices };
-    let contours = vec![one(5, vec![on(4.0), on(10.0)]), one(6, vec![on(2.0)]), one(7, vec![on(1.0)])];
-    Card { job: 45, c: 3, passes: 10, home: on(7.0), exterior: AUTO, interior: AUTO, contours, ..Card::default() }
+    on_a_line(45, 3, 7.0, &[&[4.0, 10.0], &[2.0], &[1.0]])
 }
 
 /// Good cards of every shape.

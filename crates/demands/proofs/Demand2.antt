@@ -41,7 +41,6 @@ use Rattle.table.specs.Walk.{legs, walk}
 use Rattle.table.proofs.DistanceLaws.{distances-length, same-contour, other-contour, homes-length, homes-at}
 use Rattle.improve.specs.Search.{Chart, State, lengthIn, shorter, judged, atLimit, tried, swap, reversed, flip}
 use Rattle.improve.specs.Search.{contours, worthwhile, searched}
-use Rattle.improve.specs.States.{taken, declined}
 use Rattle.improve.specs.Kept.{acceptedOf}
 use Rattle.improve.specs.Trials.{other, allMade, others, turnTrials, turnsTrials, rowTrials, passTrials, passesTrials}
 use Rattle.improve.specs.Trials.{trialsOf, Proper, Level}
@@ -210,18 +209,11 @@ terms s fine =
       is-reversed = λ i j front middle back. turned-parts front middle back (suc i) (suc j);
     }
 
-leaves-taken : (v after : State) (tour : List ℕ) (cost : Float) → after ≡ taken tour cost v
-    → Leaves v after tour cost true
-leaves-taken v after tour cost e = record {
-  tour-is = ap (λ (u : State). u .tour) e;
-  cost-is = ap (λ (u : State). u .cost) e;
-  better-is = ap (λ (u : State). u .better) e;
-  moves-is = ap (λ (u : State). u .moves) e;
-  cut-is = ap (λ (u : State). u .cut) e;
-}
-
-leaves-declined : (v after : State) → after ≡ declined v → Leaves v after (v .tour) (v .cost) (v .better)
-leaves-declined v after e = record {
+-- what a trial leaves, field by field
+leaves : (v after : State) (tour : List ℕ) (cost : Float) (better : Bool)
+    → after ≡ record { tour = tour; cost = cost; better = better; moves = suc (v .moves); cut = v .cut }
+    → Leaves v after tour cost better
+leaves v after tour cost better e = record {
   tour-is = ap (λ (u : State). u .tour) e;
   cost-is = ap (λ (u : State). u .cost) e;
   better-is = ap (λ (u : State). u .better) e;
@@ -232,13 +224,13 @@ leaves-declined v after e = record {
 trials : (s : List ℕ) (v : State) → Trials s v
 unfolding swap flip
 trials s v = record {
-  other-taken = λ p a e. leaves-taken v _ _ _ (ap (judge (set (v .tour) p a)) e ∙ states .accepted _ _ v);
-  other-left = λ p a e. leaves-declined v _ (ap (judge (set (v .tour) p a)) e ∙ states .rejected _ _ v);
+  other-taken = λ p a e. leaves v _ _ _ _ (ap (judge (set (v .tour) p a)) e ∙ states .accepted _ _ v);
+  other-left = λ p a e. leaves v _ _ _ _ (ap (judge (set (v .tour) p a)) e ∙ states .rejected _ _ v);
   reversal-taken = λ i j e l.
-      leaves-taken v _ _ _ (ap (judge (reversed i j (v .tour))) (rw (e, l)) ∙ states .accepted _ _ v);
-  reversal-longer = λ i j e. leaves-declined v _ (ap (judge (reversed i j (v .tour))) (rw e) ∙ states .rejected _ _ v);
+      leaves v _ _ _ _ (ap (judge (reversed i j (v .tour))) (rw (e, l)) ∙ states .accepted _ _ v);
+  reversal-longer = λ i j e. leaves v _ _ _ _ (ap (judge (reversed i j (v .tour))) (rw e) ∙ states .rejected _ _ v);
   reversal-illegal = λ i j l.
-      leaves-declined v _ (ap (judge (reversed i j (v .tour)))
+      leaves v _ _ _ _ (ap (judge (reversed i j (v .tour)))
       (rw l (and-false (shorter (longOn s (reversed i j (v .tour))) (v .cost)))) ∙ states .rejected _ _ v);
 }
   where

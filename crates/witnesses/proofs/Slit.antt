@@ -11,7 +11,7 @@ use Rattle.improve.specs.Search.{Chart, State, lengthIn, begun}
 use Rattle.improve.specs.Trials.{other, turnTrials, others}
 use Rattle.instance.specs.Search.{candidatesOn, chartOn}
 use Rattle.solve.specs.Solve.{startIn}
-use Rattle.tour.specs.Search.{startOn, endOn, tourOn}
+use Rattle.tour.specs.Search.{endOn, tourOn}
 use Rattle.tour_laws.proofs.Computes.{tour-computes}
 use Rattle.text.specs.Text.{bytes}
 use Rattle.list.specs.Lines.{tourLines}
@@ -46,23 +46,15 @@ read = record { distances = refl; passes = refl; contours = refl; limit-is = ref
 
 -- ---- the first turn
 
-start-computed : startIn line 3 ≡ 1 ∷ 3 ∷ 4 ∷ []
-unfolding tour-computes line
-start-computed = refl
-
-start-is : startOn slitBytes ≡ 1 ∷ 3 ∷ 4 ∷ []
-start-is = carried slitBytes line 0 read (λ c k n M. startIn c n ≡ 1 ∷ 3 ∷ 4 ∷ []) start-computed
-
-begun-computed : begun line (startIn line 3) .cost ≡ mm 8
-unfolding tour-computes line
-begun-computed = refl
+-- where the search begins
+abbrev atFirst : State
+atFirst = record { tour = 1 ∷ 3 ∷ 4 ∷ []; cost = mm 8; better = true; moves = 0; cut = false }
 
 tries-computed : turnTrials line 0 (begun line (startIn line 3)) ≡ other 0 0 ∷ other 0 2 ∷ []
 unfolding tour-computes line turnTrials others
 tries-computed = refl
 
-after0 : afterIn line 10 3 0
-    ≡ record { tour = 1 ∷ 3 ∷ 4 ∷ []; cost = mm 8; better = true; moves = 0; cut = false }
+after0 : afterIn line 10 3 0 ≡ atFirst
 unfolding tour-computes line
 after0 = refl
 
@@ -74,9 +66,7 @@ after2 : afterIn line 10 3 2 ≡ held (0 ∷ 3 ∷ 4 ∷ []) 6 true 2
 unfolding tour-computes line
 after2 = refl
 
-first-computed : OtherTaken line
-    (record { tour = 1 ∷ 3 ∷ 4 ∷ []; cost = mm 8; better = true; moves = 0; cut = false })
-    (held (0 ∷ 3 ∷ 4 ∷ []) 6 true 1) 0 0
+first-computed : OtherTaken line atFirst (held (0 ∷ 3 ∷ 4 ∷ []) 6 true 1) 0 0
 unfolding tour-computes line
 first-computed = record { is-shorter = refl; tour-is = refl; cost-is = refl; counted = refl }
 
@@ -86,8 +76,11 @@ second-computed = record { not-shorter = refl; tour-is = refl; cost-is = refl; c
 
 one-turn : OneTurn
 one-turn = record {
-  start-is = start-is;
-  start-long = carried slitBytes line 0 read (λ c k n M. begun c (startIn c n) .cost ≡ mm 8) begun-computed;
+  start-is =
+      carried slitBytes line 0 read (λ c k n M. startIn c n ≡ 1 ∷ 3 ∷ 4 ∷ []) (ap (λ (v : State). v .tour) after0);
+  start-long =
+      carried slitBytes line 0 read (λ c k n M. begun c (startIn c n) .cost ≡ mm 8)
+      (ap (λ (v : State). v .cost) after0);
   tries = carried slitBytes line 0 read (λ c k n M. turnTrials c 0 (begun c (startIn c n)) ≡ other 0 0 ∷ other 0 2 ∷ [])
       tries-computed;
   first =
