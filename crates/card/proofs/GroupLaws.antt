@@ -6,7 +6,7 @@ use mathlib.Core.List.{List, [], _∷_, _++_}
 use Prim.Native.Nat.{ℕ, zero, suc, _+_, _*_, _≤_, _<_}
 use native.Mathlib.Omega.{arith}
 use lib.Dec.{lit<}
-use lib.ListN.{length, take, getD, length-take, List·getD-eq-default}
+use lib.ListN.{length, getD, List·getD-eq-default}
 use borrow.Author.Count.{below-none, below-more}
 use borrow.Author.Tests.{ltb-false}
 use Rattle.answer.specs.declared.Refusal.{Refusal}
@@ -17,14 +17,12 @@ use Rattle.answer.specs.declared.Check.the-variants.{Fine, Refused}
 use Rattle.answer.specs.Stage.{orElse, firstRefusal}
 use Rattle.answer.specs.Lowest.{refuseAt}
 use Rattle.answer.proofs.LowestLaws.{is-absent}
-use Rattle.answer.proofs.RoomLaws.{padded-front}
 use Rattle.answer.proofs.StageLaws.{refused-is, fine-is, is-fine}
 use Rattle.closure.specs.Limits.{contourLimit, pairLimit}
 use Rattle.closure.specs.Cycle.{firstOnCycle}
-use Rattle.card.specs.declared.Named.{Named}
 use Rattle.fields.specs.Layout.{contoursOf, pairsOf}
-use Rattle.card.specs.Stages.{headFaults, headFault, nameFault}
-use Rattle.card.specs.Names.{pairsOn, namedPairs}
+use Rattle.card.specs.Stages.{headFaults, headFault}
+use Rattle.card.specs.Names.{pairsOn}
 use Rattle.card.specs.Verdict.{cycleFault, cardStages, pairStages, checkOf}
 
 module _ (x a : Check) (more : List Check) (is : a ≡ x) where
@@ -72,34 +70,10 @@ module _ (xs more : List Check) (a : Check) (is : a ≡ firstRefusal xs) where
   group-passed : (b : Check) → a ≡ Fine → b ≡ firstRefusal more → b ≡ firstRefusal (xs ++ more)
   group-passed b e f = rw (in-turn xs more, ← is, e) f
 
--- ---- the pairs' stage, from the record that holds it
-
-fine-absent : (number : ℕ) (f : Found) → refuseAt number f ≡ Fine → f ≡ Absent
+-- a stage that is fine found nothing
+pub fine-absent : (number : ℕ) (f : Found) → refuseAt number f ≡ Fine → f ≡ Absent
 fine-absent number (At k) e = let z : _≡_ {A = ℕ} 0 1 = cc in absurd (omega arith)
 fine-absent number Absent e = refl
-
-module _ (s : List ℕ) (r : Named) (is : r ≡ namedPairs s) where
-  pub named-stopped : r .stopped ≡ nameFault s
-  unfolding namedPairs
-  named-stopped = rw is
-
-  -- where every id is known, the positions that are used are all pairs'
-  module _ {a : Check} (made : a ≡ refuseAt 10 (r .stopped)) (e : a ≡ Fine) where
-    named-known : nameFault s ≡ Absent
-    named-known = sym named-stopped ∙ fine-absent 10 (r .stopped) (sym made ∙ e)
-
-    pub named-seats : take (r .count) (r .positions) ≡ pairsOn s
-    unfolding namedPairs
-    named-seats = rw (is, named-known) (padded-front (2 * pairLimit) 0 (pairsOn s) (length (pairsOn s)) refl)
-
-    pub named-whole : r .count ≡ length (take (r .count) (r .positions))
-    unfolding namedPairs
-    named-whole =
-        let count : r .count ≡ length (pairsOn s) = rw (is, named-known) in
-        count ∙ sym (ap length named-seats)
-
-    pub named-within : r .count ≤ length (r .positions)
-    named-within = omega (arith, length-take (r .count) (r .positions), named-whole)
 
 -- ---- the counts that the first stages let pass
 

@@ -3,4 +3,5 @@ pub mod FaultLaws
 pub mod SpareLaws
 pub mod FarLaws
 pub mod NameLaws
+pub mod RuleLaws
 pub mod GroupLaws

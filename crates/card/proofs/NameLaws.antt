@@ -9,19 +9,19 @@ use native.Mathlib.Numerals.{add-one}
 use native.Mathlib.Omega.{arith}
 use lib.Dec.{eqb, ltb}
 use borrow.Author.Tests.{ltb-false}
-use lib.ListN.{length, getD, set, replicate, length-append, List·getD-append}
+use lib.ListN.{length, take, getD, set, replicate, length-append, length-take, List·getD-append}
 use lib.Seq.{getD-at, getD-append-add}
 use Rattle.answer.specs.declared.Found.{Found}
 use Rattle.answer.specs.declared.Found.the-variants.{At, Absent}
 use Rattle.answer.specs.Room.{padded}
 use Rattle.answer.proofs.LowestLaws.{Nowhere, is-at}
-use Rattle.answer.proofs.RoomLaws.{padded-two}
+use Rattle.answer.proofs.RoomLaws.{padded-two, padded-front}
 use Rattle.answer.proofs.Truth.{or-none}
 use Rattle.card.specs.declared.Named.{Named}
 use Rattle.closure.specs.Limits.{contourLimit, pairLimit}
 use Rattle.fields.specs.Layout.{tagOf, contoursOf, pairsOf, beforeIdOf, beforeTagOf, afterIdOf, afterTagOf}
 use Rattle.card.specs.Stages.{isAt, seekOf, positionOf, unnamed, nameFault, beforeOf, afterOf, otherTag}
-use Rattle.card.specs.Names.{seatsOf, namedPairs, namedOf}
+use Rattle.card.specs.Names.{seatsOf, writtenOn, pairsOn, seatLimit, namedAs, namedPairs, AllNamed, namedOf}
 use Rattle.card.proofs.LoopLaws.{found-here, none-found}
 
 -- ---- the two contours of a pair
@@ -59,7 +59,7 @@ seats-length s (suc q) =
     omega (arith, length-append (seatsOf s q) (beforeOf s q ∷ afterOf s q ∷ []), seats-length s q)
 
 -- before any pair the places are zero
-pub places-none : (s : List ℕ) → replicate (2 * pairLimit) 0 ≡ padded (2 * pairLimit) 0 (seatsOf s 0)
+pub places-none : (s : List ℕ) → replicate seatLimit 0 ≡ padded seatLimit 0 (seatsOf s 0)
 unfolding seatsOf
 places-none s = refl
 
@@ -68,21 +68,21 @@ unfolding seatsOf
 seats-more s q = rw (add-one q)
 
 -- two more places are filled
-pub places-more : (s p : List ℕ) (q b a : ℕ) → q < pairLimit → p ≡ padded (2 * pairLimit) 0 (seatsOf s q)
+pub places-more : (s p : List ℕ) (q b a : ℕ) → q < pairLimit → p ≡ padded seatLimit 0 (seatsOf s q)
     → b ≡ beforeOf s q
     → a ≡ afterOf s q
-    → set (set p (2 * q) b) (2 * q + 1) a ≡ padded (2 * pairLimit) 0 (seatsOf s (q + 1))
+    → set (set p (2 * q) b) (2 * q + 1) a ≡ padded seatLimit 0 (seatsOf s (q + 1))
 places-more s p q b a h e f g =
     rw (e, f, g, seats-more s q)
-    (padded-two (2 * pairLimit) 0 (seatsOf s q) (beforeOf s q) (afterOf s q) (2 * q) (seats-length s q) (omega arith))
+    (padded-two seatLimit 0 (seatsOf s q) (beforeOf s q) (afterOf s q) (2 * q) (seats-length s q) (omega arith))
 
 -- ---- what the loop hands out
 
 module _ (s p : List ℕ) (q : ℕ) (before : Nowhere (unnamed s) q)
-    (filled : p ≡ padded (2 * pairLimit) 0 (seatsOf s q)) where
+    (filled : p ≡ padded seatLimit 0 (seatsOf s q)) where
   -- so many positions are used
   counted : (stop : Found) → _≡_ {A = Named} (record { stopped = stop; positions = p; count = 2 * q })
-      (record { stopped = stop; positions = padded (2 * pairLimit) 0 (seatsOf s q); count = length (seatsOf s q) })
+      (namedAs stop (seatsOf s q))
   counted stop = rw (filled, seats-length s q)
 
   pub named-until : q < pairsOf s → unnamed s q ≡ true
@@ -139,6 +139,32 @@ tags-compared s p m q b a tb pb ta pa e h eb ea etb epb eta epa =
 pub seats-handed : (s p : List ℕ) (m : ℕ) → p ≡ seatsOf s m → length p ≡ 2 * m
 seats-handed s p m e = ap length e ∙ seats-length s m
 
+-- ---- the record that holds them
+
+pub named-stopped : (s : List ℕ) (r : Named) → r ≡ namedPairs s → r .stopped ≡ nameFault s
+unfolding namedPairs
+named-stopped s r is = rw is
+
+-- every written pair, where every id is known
+pub all-named : (s : List ℕ) (r : Named) → contoursOf s ≤ contourLimit → pairsOf s ≤ pairLimit → r ≡ namedPairs s
+    → r .stopped ≡ Absent
+    → AllNamed s r
+unfolding namedPairs
+all-named s r n m is stop =
+    let known : nameFault s ≡ Absent = sym (named-stopped s r is) ∙ stop in
+    record { few-contours = n; few-pairs = m; are = is ∙ rw known }
+
+-- the positions that are used are the pairs'
+module _ (stop : Found) (known : List ℕ) {r : Named} (is : r ≡ namedAs stop known) where
+  pub named-front : take (r .count) (r .positions) ≡ known
+  named-front = rw is (padded-front seatLimit 0 known (length known) refl)
+
+  pub named-whole : r .count ≡ length (take (r .count) (r .positions))
+  named-whole = ap (λ (n : Named). n .count) is ∙ sym (ap length named-front)
+
+  pub named-within : r .count ≤ length (r .positions)
+  named-within = omega (arith, length-take (r .count) (r .positions), named-whole)
+
 -- ---- more contours or pairs than a card takes
 
 module _ (s : List ℕ) (n m : ℕ) (count : n ≡ contoursOf s) (pairs : m ≡ pairsOf s) where
@@ -146,7 +172,7 @@ module _ (s : List ℕ) (n m : ℕ) (count : n ≡ contoursOf s) (pairs : m ≡ 
   asked = rw (count, pairs)
 
   pub too-many : (ltb contourLimit n || ltb pairLimit m) ≡ true
-      → _≡_ {A = Named} (record { stopped = At 0; positions = replicate (2 * pairLimit) 0; count = 0 }) (namedOf s)
+      → _≡_ {A = Named} (record { stopped = At 0; positions = replicate seatLimit 0; count = 0 }) (namedOf s)
   unfolding namedOf seatsOf
   too-many h = rw (asked, h)
 
@@ -156,6 +182,16 @@ module _ (s : List ℕ) (n m : ℕ) (count : n ≡ contoursOf s) (pairs : m ≡ 
         let both = or-none (ltb contourLimit (contoursOf s)) (ltb pairLimit (pairsOf s)) (asked ∙ few) in
         (ltb-false _ _ (both .0), ltb-false _ _ (both .1))
 
-    pub few-named : (r : Named) → r ≡ namedPairs s → r ≡ namedOf s
+    -- with an id unknown, the pairs before its pair; else those by rule join the written ones
+    pub stopped-named : (r : Named) (q : ℕ) → r ≡ namedPairs s → r .stopped ≡ At q → r ≡ namedOf s
+    unfolding namedOf namedPairs
+    stopped-named r q e stop =
+        let known : nameFault s ≡ At q = sym (named-stopped s r e) ∙ stop in
+        e ∙ rw (asked, few, known)
+
+    pub joined-named : (r joined : Named) → r ≡ namedPairs s → r .stopped ≡ Absent → joined ≡ namedAs Absent (pairsOn s)
+        → joined ≡ namedOf s
     unfolding namedOf
-    few-named r e = rw (asked, few) e
+    joined-named r joined e stop is =
+        let known : nameFault s ≡ Absent = sym (named-stopped s r e) ∙ stop in
+        is ∙ rw (asked, few, known)

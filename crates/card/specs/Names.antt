@@ -1,7 +1,9 @@
--- A card's pairs as positions of contours, as far as the ids are known. Assumes nothing.
+-- A card's pairs as positions of contours: those written, as far as their ids are known, and those by rule. Assumes
+-- nothing.
+use mathlib.Core.Path.{_≡_}
 use mathlib.Core.Bool.{cond, _||_}
 use mathlib.Core.List.{List, [], _∷_, _++_}
-use Prim.Native.Nat.{ℕ, zero, suc, _*_}
+use Prim.Native.Nat.{ℕ, zero, suc, _+_, _*_, _≤_}
 use lib.Dec.{ltb}
 use lib.ListN.{length}
 use Rattle.answer.specs.declared.Found.{Found}
@@ -11,33 +13,53 @@ use Rattle.card.specs.declared.Named.{Named}
 use Rattle.closure.specs.Limits.{contourLimit, pairLimit}
 use Rattle.fields.specs.Layout.{contoursOf, pairsOf}
 use Rattle.card.specs.Stages.{nameFault, beforeOf, afterOf}
+use Rattle.card.specs.Rules.{rulesOf}
 
--- the first so many pairs as positions, before and after in turn
+-- the first so many written pairs as positions, before and after in turn
 unfoldable pub seatsOf : List ℕ → ℕ → List ℕ
 seatsOf s zero = []
 seatsOf s (suc q) = seatsOf s q ++ (beforeOf s q ∷ afterOf s q ∷ [])
 
--- all pairs of a card as positions, before and after in turn
+-- all written pairs
+abbrev pub writtenOn : List ℕ → List ℕ
+writtenOn s = seatsOf s (pairsOf s)
+
+-- all pairs of a card: the written ones, then those by rule, by the interior's position
 abbrev pub pairsOn : List ℕ → List ℕ
-pairsOn s = seatsOf s (pairsOf s)
+pairsOn s = writtenOn s ++ rulesOf s (contoursOf s)
+
+-- the room for them: two positions a pair, and no contour goes before two by rule
+abbrev pub seatLimit : ℕ
+seatLimit = 2 * (pairLimit + contourLimit)
+
+-- these pairs, and where the work stopped; positions without a pair are zero
+abbrev pub namedAs : Found → List ℕ → Named
+namedAs stop known = record { stopped = stop; positions = padded seatLimit 0 known; count = length known }
 
 -- the place found, or the count if none was
 abbrev pub upTo : ℕ → Found → ℕ
 upTo count (At q) = q
 upTo count Absent = count
 
--- the pairs before the one at which the work stopped, or all of them; two positions a pair, those without a pair zero
-abbrev pub namedBefore : List ℕ → Found → Named
-namedBefore s stop =
-    let known = seatsOf s (upTo (pairsOf s) stop) in
-    record { stopped = stop; positions = padded (2 * pairLimit) 0 known; count = length known }
-
--- the work stops at the first pair that names an unknown id
+-- the written pairs: the work stops at the first that names an unknown id
 unfoldable pub namedPairs : List ℕ → Named
 unfolding seatsOf nameFault
-namedPairs s = namedBefore s (nameFault s)
+namedPairs s = namedAs (nameFault s) (seatsOf s (upTo (pairsOf s) (nameFault s)))
 
--- and before the first pair, where there are more contours or pairs than a card takes
+-- every written pair of a card with no more contours and pairs than one takes, each id known
+pub record AllNamed (s : List ℕ) (named : Named) : Type 0 where
+  pub few-contours : contoursOf s ≤ contourLimit
+  pub few-pairs : pairsOf s ≤ pairLimit
+  pub are : named ≡ namedAs Absent (writtenOn s)
+
+-- all pairs, those by rule only where no written one is at fault
+abbrev pub knownBefore : List ℕ → Found → List ℕ
+knownBefore s (At q) = seatsOf s q
+knownBefore s Absent = pairsOn s
+
+-- where there are more contours or pairs than a card takes, the work stops before the first
 unfoldable pub namedOf : List ℕ → Named
-unfolding namedPairs
-namedOf s = cond (ltb contourLimit (contoursOf s) || ltb pairLimit (pairsOf s)) (namedBefore s (At 0)) (namedPairs s)
+unfolding seatsOf rulesOf nameFault
+namedOf s =
+    let stop = cond (ltb contourLimit (contoursOf s) || ltb pairLimit (pairsOf s)) (At 0) (nameFault s) in
+    namedAs stop (knownBefore s stop)

@@ -1,6 +1,6 @@
 -- When a card goes back: a stage for each row of the table, in the order in which they are looked at. A stage finds the
 -- lowest place at which its test holds. Assumes nothing.
-use mathlib.Core.Bool.{Bool, true, false, not, cond, _||_}
+use mathlib.Core.Bool.{Bool, true, false, not, cond, _||_, _&&_}
 use mathlib.Core.List.{List, [], _∷_}
 use Prim.Native.Nat.{ℕ, zero, suc, _+_, _*_, _-_, _/_, _%_, min}
 use lib.ListN.{length, getD}
@@ -15,9 +15,10 @@ use Rattle.fields.specs.Limits.{cardBytes, perContourLimit, candidateLimit, pas
 use Rattle.fields.specs.Limits.{farthest}
 use Rattle.card.specs.declared.Asked.{Asked}
 use Rattle.card.specs.declared.Asked.the-variants.{Checks, Starts, Spares, Contours, Ids, Points}
-use Rattle.fields.specs.Layout.{blocksOf, payload, contoursOf, pairsOf, perContourOf, passesOf, homeOffset, exteriorOf}
-use Rattle.fields.specs.Layout.{interiorOf, idOf, tagOf, vertexCountOf, typeOf, fillerOf, vertexOffset, beforeIdOf}
-use Rattle.fields.specs.Layout.{beforeTagOf, afterIdOf, afterTagOf, headSize, contourSize, vertexSize, pairSize}
+use Rattle.fields.specs.Layout.{blocksOf, payload, versionOf, hasParts, contoursOf, pairsOf, perContourOf, passesOf}
+use Rattle.fields.specs.Layout.{homeOffset, exteriorOf, interiorOf, idOf, tagOf, vertexCountOf, typeOf, fillerOf}
+use Rattle.fields.specs.Layout.{vertexOffset, beforeIdOf, beforeTagOf, afterIdOf, afterTagOf}
+use Rattle.fields.specs.Layout.{headSize, contourSize, vertexSize, pairSize, partOffset}
 
 -- this place, if the test holds
 abbrev pub foundIf : Bool → ℕ → Found
@@ -55,8 +56,13 @@ checkFault s = lowest (badCheck s) (blocksOf s)
 abbrev pub kindDue : List ℕ → ℕ → ℕ
 kindDue s b = cond (eqb b 0) 1 (cond (leb b (contoursOf s)) 2 3)
 
+-- the versions that there are
+abbrev pub isVersion : ℕ → Bool
+isVersion v = eqb v 1 || eqb v 2
+
+-- every block is of block 0's version
 abbrev pub badStart : List ℕ → ℕ → Bool
-badStart s b = not (starts s (blockBytes * b) (kindDue s b) 1 b)
+badStart s b = not (isVersion (versionOf s) && starts s (blockBytes * b) (kindDue s b) (versionOf s) b)
 
 unfoldable pub startFault : List ℕ → ℕ → Found
 unfolding lowest
@@ -103,14 +109,18 @@ contourFault s = lowest (badContour s) (contoursOf s)
 abbrev pub pairsIn : List ℕ → ℕ → ℕ
 pairsIn s b = min pairsABlock (pairsOf s - pairsABlock * (b - (contoursOf s + 1)))
 
--- how many bytes of block b's payload are fields
+-- how many bytes at the front of block b's payload are fields
 abbrev pub usedIn : List ℕ → ℕ → ℕ
 usedIn s b =
     let contour = contourSize + vertexSize * vertexCountOf s (b - 1) in
     cond (eqb b 0) headSize (cond (leb b (contoursOf s)) contour (pairSize * pairsIn s b))
 
+-- where block b's spare bytes end: a version 2 contour has its part and copy behind them
+abbrev pub spareEnd : List ℕ → ℕ → ℕ
+spareEnd s b = cond (eqb (kindDue s b) 2 && hasParts s) partOffset payloadBytes
+
 abbrev pub badSpare : List ℕ → ℕ → Bool
-badSpare s b = not (zerosAt s (payload b + usedIn s b) (payloadBytes - usedIn s b))
+badSpare s b = not (zerosAt s (payload b + usedIn s b) (spareEnd s b - usedIn s b))
 
 unfoldable pub spareFault : List ℕ → Found
 unfolding lowest

@@ -10,11 +10,12 @@ use Rattle.closure.specs.Cycle.{firstOnCycle}
 use Rattle.fields.specs.Layout.{blocksOf, contoursOf}
 use Rattle.card.specs.Stages.{lengthFault, checkFault, startFault, headFault, countFault, contourFault}
 use Rattle.card.specs.Stages.{spareFault, farFault, repeatFault, nameFault, tagFault}
+use Rattle.card.specs.Rules.{rulesOf}
 use Rattle.card.specs.Names.{seatsOf, pairsOn}
 
--- 12: the lowest contour that can be reached from itself by pairs
+-- 12: the lowest contour that can be reached from itself by pairs, written or by rule
 unfoldable pub cycleFault : List ℕ → Found
-unfolding seatsOf
+unfolding seatsOf rulesOf
 cycleFault s = firstOnCycle (contoursOf s) (pairsOn s)
 
 -- what comes before the pairs: the file, its head, the blocks, the contours

@@ -5,13 +5,15 @@ ghost use mathlib.Core.Bool.{false};
 ghost use lib.ListN.{getD};
 ghost use Prim.Native.Nat.{_+_, _*_, _<_, _≤_};
 ghost use Rattle.answer.specs.declared.Check.the-variants.{Fine};
+ghost use Rattle.answer.specs.declared.Found.the-variants.{Absent};
 ghost use Rattle.answer.specs.Lowest.{refuseAt, lowest};
 ghost use Rattle.answer.specs.Stage.{firstRefusal};
 ghost use Rattle.closure.specs.Limits.{contourLimit, pairLimit};
 ghost use Rattle.fields.specs.Layout.{contoursOf, pairsOf};
-ghost use Rattle.card.specs.Stages.{lengthFault, kindDue, badStart, headFaults, headFault, countFault, badContour, usedIn, badSpare, tooFar, farPoint, farVertex, farPlace, isAt, seekOf, repeats, positionOf, tagFault, faultAt};
-ghost use Rattle.card.specs.Names.{pairsOn, namedPairs, namedOf};
-ghost use Rattle.card.specs.Verdict.{cardStages, seatStages, pairStages, checkOf};
+ghost use Rattle.card.specs.Stages.{lengthFault, kindDue, isVersion, badStart, headFaults, headFault, countFault, badContour, usedIn, spareEnd, badSpare, tooFar, farPoint, farVertex, farPlace, isAt, seekOf, repeats, positionOf, tagFault, faultAt};
+ghost use Rattle.card.specs.Rules.{isHole, isOutline, outlineOf};
+ghost use Rattle.card.specs.Names.{writtenOn, pairsOn, namedAs, namedPairs, AllNamed, namedOf};
+ghost use Rattle.card.specs.Verdict.{cycleFault, cardStages, seatStages, pairStages, checkOf};
 use answer::Check;
 use answer::Found;
 use block::BLOCK;
@@ -29,6 +31,7 @@ use fields::INTERIOR_AT;
 use fields::PAIR_SIZE;
 use fields::PAIRS_A_BLOCK;
 use fields::PAIRS_AT;
+use fields::PART_AT;
 use fields::PASSES;
 use fields::PAYLOAD_AT;
 use fields::PER_CONTOUR;
@@ -42,20 +45,17 @@ use fields::Y_AT;
 // The bytes of a block's payload.
 const PAYLOAD: usize = 500;
 
-// The version of every block.
-const VERSION: u8 = 1;
-
 // The bits of 1,048,576.
 const FARTHEST: u64 = 0x4130_0000_0000_0000;
 
-// The positions of all pairs that a card can have, two a pair.
-pub const SEATS: usize = 2 * PAIRS;
+// The positions of all pairs that a card can have, two a pair: those written, and by rule one for a contour.
+pub const SEATS: usize = 2 * (PAIRS + CONTOURS);
 
 // The rows of the table that come before the pairs', one of them twice.
 const STAGES: usize = 10;
 
 // A card's pairs as positions of contours, before and after in turn: the first count of the positions, the rest 0. They are all of
-// its pairs, or those before the one at which the work stopped.
+// its pairs, or those before the written one at which the work stopped.
 pub struct Named {
     pub stopped: Found,
     pub positions: [u8; SEATS],
@@ -112,12 +112,20 @@ fn kind_due(card: &[u8], b: usize) -> u8
     3
 }
 
-// 3: whether block b does not start as is due.
+// Whether there is such a version.
+fn is_known(version: u8) -> bool
+    ensures { λ r. ⌜ r ≡ isVersion version ⌝ }
+{
+    (version == 1) | (version == 2)
+}
+
+// 3: whether block b does not start as is due; its version is block 0's.
 fn bad_start(card: &[u8], b: usize) -> bool
     requires { ⌜ 512 * b < 18446744073709551616 ⌝ }
     ensures { λ r. ⌜ r ≡ badStart (now (card .entry)) b ⌝ }
 {
-    !block::starts_as(card, BLOCK * b, kind_due(card, b), VERSION, b)
+    let version = fields::version(card);
+    !(is_known(version) & block::starts_as(card, BLOCK * b, kind_due(card, b), version, b))
 }
 
 // Whether each of the head's fields is bad, by its number; there is no field 0.
@@ -176,7 +184,7 @@ fn bad_contour(card: &[u8], k: usize) -> bool
             | (fields::contour_byte(card, k, FILLER_AT) != 0))
 }
 
-// How many bytes of block b's payload are fields.
+// How many bytes at the front of block b's payload are fields.
 fn used(card: &[u8], b: usize) -> usize
     requires { ⌜ 512 * b < 18446744073709551616 ⌝ }
     ensures { λ r. ⌜ r ≡ usedIn (now (card .entry)) b ⌝ }
@@ -200,16 +208,27 @@ fn used(card: &[u8], b: usize) -> usize
     PAIR_SIZE * (m - before)
 }
 
+// Where block b's spare bytes end: a version 2 contour has its part and copy behind them.
+fn spare_end(card: &[u8], b: usize) -> usize
+    ensures { λ r. ⌜ r ≡ spareEnd (now (card .entry)) b ⌝ }
+{
+    if (kind_due(card, b) == 2) & fields::has_parts(card) {
+        return PART_AT;
+    }
+    PAYLOAD
+}
+
 // 7: whether block b's payload has a spare byte that is not 0.
 fn bad_spare(card: &[u8], b: usize) -> bool
     requires { ⌜ 512 * b < 18446744073709551616 ⌝ }
     ensures { λ r. ⌜ r ≡ badSpare (now (card .entry)) b ⌝ }
 {
     let u = used(card, b);
-    if PAYLOAD <= u {
+    let end = spare_end(card, b);
+    if end <= u {
         return false;
     }
-    !block::zeros_at(card, BLOCK * b + PAYLOAD_AT + u, PAYLOAD - u)
+    !block::zeros_at(card, BLOCK * b + PAYLOAD_AT + u, end - u)
 }
 
 // Whether a coordinate is not finite or too large in size: its bits without the sign are above those of 1,048,576.
@@ -321,7 +340,7 @@ fn first_bad(card: &[u8], asked: Asked, count: usize) -> Found
     Found::Absent
 }
 
-// 10: the pairs' positions; an id that no contour has ends the work.
+// 10: the written pairs' positions; an id that no contour has ends the work.
 fn named_pairs(card: &[u8]) -> Named
     requires { ⌜ (contoursOf (now card) ≤ contourLimit) × (pairsOf (now card) ≤ pairLimit) ⌝ }
     ensures { λ r. ⌜ r ≡ namedPairs (now (card .entry)) ⌝ }
@@ -355,6 +374,66 @@ fn named_pairs(card: &[u8]) -> Named
     }
 }
 
+// Whether contour k is an interior of a part.
+fn is_hole(card: &[u8], k: usize) -> bool
+    ensures { λ r. ⌜ r ≡ isHole (now (card .entry)) k ⌝ }
+{
+    (fields::contour_byte(card, k, TYPE_AT) == 1) & (fields::part(card, k) != 0)
+}
+
+// Whether contour j is an exterior with contour k's part and copy.
+fn is_outline(card: &[u8], k: usize, j: usize) -> bool
+    ensures { λ r. ⌜ r ≡ isOutline (now (card .entry)) k j ⌝ }
+{
+    (fields::contour_byte(card, j, TYPE_AT) == 0)
+        & ((fields::part(card, j) == fields::part(card, k))
+            & (fields::copy(card, j) == fields::copy(card, k)))
+}
+
+// What contour k goes before by rule: a hole before the first such exterior.
+fn outline_of(card: &[u8], k: usize) -> Found
+    ensures { λ r. ⌜ r ≡ outlineOf (now (card .entry)) k ⌝ }
+{
+    if !is_hole(card, k) {
+        return Found::Absent;
+    }
+    let n = fields::contours(card);
+    let mut j: usize = 0;
+    while j < n {
+        if is_outline(card, k, j) {
+            return Found::At(j);
+        }
+        j += 1;
+    }
+    Found::Absent
+}
+
+// The pairs by rule, behind the written ones.
+fn join_rules(card: &[u8], named: Named) -> Named
+    requires { ⌜ AllNamed (now card) named ⌝ }
+    ensures { λ r. ⌜ r ≡ namedAs Absent (pairsOn (now (card .entry))) ⌝ }
+{
+    let n = fields::contours(card);
+    let mut positions = named.positions;
+    let mut count = named.count;
+    let mut k: usize = 0;
+    while k < n {
+        let Found::At(j) = outline_of(card, k) else {
+            k += 1;
+            continue;
+        };
+        positions[count] = k as u8;
+        positions[count + 1] = j as u8;
+        count += 2;
+        k += 1;
+    }
+    Named {
+        stopped: Found::Absent,
+        positions,
+        count,
+    }
+}
+
 // A card's pairs as positions. Where there are more contours or pairs than a card takes, no pair is looked at.
 pub fn pair_places(card: &[u8]) -> Named
     ensures { λ r. ⌜ r ≡ namedOf (now (card .entry)) ⌝ }
@@ -366,7 +445,11 @@ pub fn pair_places(card: &[u8]) -> Named
             count: 0,
         };
     }
-    named_pairs(card)
+    let named = named_pairs(card);
+    match named.stopped {
+        Found::At(_) => named,
+        Found::Absent => join_rules(card, named),
+    }
 }
 
 // A byte as a position.
@@ -376,9 +459,9 @@ fn wide(x: u8) -> usize
     x as usize
 }
 
-// 11: the first pair with a tag that is not its contour's. The pairs' positions are handed in.
+// 11: the first pair with a tag that is not its contour's. The written pairs' positions are handed in.
 fn tag_fault(card: &[u8], seats: &[u8]) -> Found
-    requires { ⌜ now seats ≡ pairsOn (now card) ⌝ }
+    requires { ⌜ now seats ≡ writtenOn (now card) ⌝ }
     ensures { λ r. ⌜ r ≡ tagFault (now (card .entry)) ⌝ }
 {
     let m = fields::pairs(card);
@@ -432,16 +515,29 @@ fn check_stages(card: &[u8]) -> Check
     Check::Fine
 }
 
-// 11, 12: the pairs, once their positions are known.
-fn check_seats(card: &[u8], seats: &[u8]) -> Check
-    requires { ⌜ now seats ≡ pairsOn (now card) ⌝ }
+// 12: the first contour that pairs, written or by rule, lead back to. The written pairs' positions are handed in.
+fn cycle_fault(card: &[u8], named: Named) -> Found
+    requires { ⌜ AllNamed (now card) named ⌝ }
+    ensures { λ r. ⌜ r ≡ cycleFault (now (card .entry)) ⌝ }
+{
+    let joined = join_rules(card, named);
+    let positions = joined.positions;
+    let count = joined.count;
+    closure::first_on_cycle(fields::contours(card), &positions[..count])
+}
+
+// 11, 12: the pairs, once the written ones' positions are known.
+fn check_seats(card: &[u8], named: Named) -> Check
+    requires { ⌜ AllNamed (now card) named ⌝ }
     ensures { λ r. ⌜ r ≡ firstRefusal (seatStages (now (card .entry))) ⌝ }
 {
-    let a = refused_at(11, tag_fault(card, seats));
+    let positions = named.positions;
+    let count = named.count;
+    let a = refused_at(11, tag_fault(card, &positions[..count]));
     let Check::Fine = a else {
         return a;
     };
-    refused_at(12, closure::first_on_cycle(fields::contours(card), seats))
+    refused_at(12, cycle_fault(card, named))
 }
 
 // 10, 11, 12: the pairs.
@@ -455,9 +551,7 @@ fn check_pairs(card: &[u8]) -> Check
     let Check::Fine = a else {
         return a;
     };
-    let positions = named.positions;
-    let count = named.count;
-    check_seats(card, &positions[..count])
+    check_seats(card, named)
 }
 
 // Whether a card is fine, or which fault sends it back and where.

@@ -3,10 +3,12 @@ pub mod RowLaws
 pub mod FarNumber
 pub mod FarRow
 pub mod PairRows
+pub mod RuleLaws
 pub mod LinkLaws
 pub mod CycleRow
 pub mod Verdicts
 pub mod Facts
+pub mod JoinedLaws
 pub mod Starred
 pub mod OrderLaws
 pub mod OrderRows

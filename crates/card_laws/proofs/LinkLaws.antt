@@ -1,180 +1,205 @@
--- Two contours are linked in a card's list of positions exactly where one of its pairs stands for them. Assumes
--- nothing.
+-- Two contours are linked in a card's list of positions exactly where one of its pairs, written or by rule, stands for
+-- them. Assumes nothing.
 use mathlib.Mathlib.Data.Bool.Basic.{or-inl, or-inr, and-elim-left, and-elim-right, and-intro}
 use mathlib.Core.Path.{_≡_, refl, sym, ap, _∙_, subst}
 use mathlib.Core.Logic.{_⊎_, inl, inr}
-use mathlib.Core.Bool.{Bool, true, false, _&&_, _||_}
+use mathlib.Core.Bool.{Bool, true, false, _&&_, _||_, or-assoc, or-false}
 use mathlib.Core.List.{List, [], _∷_, _++_}
 use Prim.Native.Nat.{ℕ, zero, suc, _+_, _*_, _-_, _≤_, _<_}
-use native.Mathlib.Nat.{le-refl, not-suc-le-zero, le-of-suc-le-suc, eq-or-lt-of-le}
+use native.Mathlib.Nat.{not-suc-le-zero, le-of-suc-le-suc, eq-or-lt-of-le}
 use native.Mathlib.Omega.{arith}
 use lib.Dec.{eqb, ltb}
 use lib.ListN.{length}
 use borrow.Author.Tests.{eq-eqb, eqb-true, lt-ltb}
+use Rattle.answer.specs.declared.Found.{Found}
+use Rattle.answer.specs.declared.Found.the-variants.{At, Absent}
+use Rattle.answer.proofs.Truth.{or-cases, true-false}
 use Rattle.closure.specs.Cycle.{linked}
 use Rattle.closure.specs.Pairs.{Pair, paired, every, someOf, isPair, both}
+use Rattle.closure.proofs.PathLaws.{every-is, linked-pair, pair-linked}
 use Rattle.fields.specs.Layout.{contoursOf, pairsOf, beforeIdOf, afterIdOf}
 use Rattle.card.specs.Stages.{beforeOf, afterOf}
-use Rattle.card.specs.Names.{seatsOf, pairsOn}
+use Rattle.card.specs.Rules.{outlineOf, rulePair, rulesOf}
+use Rattle.card.specs.Names.{seatsOf, writtenOn, pairsOn}
 use Rattle.card.proofs.NameLaws.{seats-length}
-use Rattle.card_laws.specs.Table.{Row9, Row10, No, Has, Precedes}
+use Rattle.card.proofs.RuleLaws.{rules-whole}
+use Rattle.card_laws.specs.Table.{Row9, Row10, No, Has, Precedes, written, by-rule}
 use Rattle.card_laws.proofs.PairRows.{same-contour, before-has, after-has}
-use Rattle.answer.proofs.Truth.{or-cases, true-false}
+use Rattle.card_laws.proofs.RuleLaws.{outline-rule, rule-outline}
 
--- ---- the pairs of a flat list, one more at its end
+-- ---- the pairs of two flat lists, one behind the other
 
-paired-more : (l : List ℕ) (k b a : ℕ) → length l ≡ 2 * k
-    → paired (l ++ (b ∷ a ∷ [])) ≡ paired l ++ (record { before = b; after = a } ∷ [])
+-- where the first has whole pairs only
+paired-append : (l r : List ℕ) (k : ℕ) → length l ≡ 2 * k → paired (l ++ r) ≡ paired l ++ paired r
 unfolding paired
-paired-more [] k b a e = refl
-paired-more (x ∷ []) k b a e = absurd (omega arith)
-paired-more (x ∷ (y ∷ more)) k b a e =
-    ap (λ (z : List Pair). record { before = x; after = y } ∷ z) (paired-more more (k - 1) b a (omega arith))
+paired-append [] r k e = refl
+paired-append (x ∷ []) r k e = absurd (omega arith)
+paired-append (x ∷ (y ∷ more)) r k e =
+    ap (λ (z : List Pair). record { before = x; after = y } ∷ z) (paired-append more r (k - 1) (omega arith))
 
-pub seats-paired : (s : List ℕ) (m : ℕ)
-    → paired (seatsOf s (suc m)) ≡ paired (seatsOf s m) ++ (record { before = beforeOf s m; after = afterOf s m } ∷ [])
-unfolding seatsOf
-seats-paired s m = paired-more (seatsOf s m) m (beforeOf s m) (afterOf s m) (seats-length s m)
+some-append : (test : Pair → Bool) (l r : List Pair) → someOf test (l ++ r) ≡ (someOf test l || someOf test r)
+unfolding someOf
+some-append test [] r = refl
+some-append test (p ∷ l) r =
+    ap (λ (b : Bool). test p || b) (some-append test l r) ∙ sym (or-assoc (test p) (someOf test l) (someOf test r))
 
-module _ (test : Pair → Bool) where
-  pub some-split : (l : List Pair) (p : Pair) → someOf test (l ++ (p ∷ [])) ≡ true
-      → (someOf test l ≡ true) ⊎ (test p ≡ true)
-  unfolding someOf
-  some-split [] p e = go (or-cases (test p) false e)
+-- ---- two positions that a flat list has as a pair
+
+-- the list puts i before j
+abbrev pub Lists : ℕ → ℕ → List ℕ → Type 0
+Lists i j l = someOf (isPair i j) (paired l) ≡ true
+
+module _ (i j : ℕ) where
+  -- of two lists the one or the other does
+  in-either : (l r : List ℕ) (k : ℕ) → length l ≡ 2 * k → Lists i j (l ++ r) → Lists i j l ⊎ Lists i j r
+  in-either l r k whole e =
+      or-cases (someOf (isPair i j) (paired l)) (someOf (isPair i j) (paired r))
+      (sym (some-append (isPair i j) (paired l) (paired r)) ∙ ap (someOf (isPair i j)) (sym (paired-append l r k whole))
+      ∙ e)
+
+  from-either : (l r : List ℕ) (k : ℕ) → length l ≡ 2 * k → Lists i j l ⊎ Lists i j r → Lists i j (l ++ r)
+  from-either l r k whole e =
+      ap (someOf (isPair i j)) (paired-append l r k whole) ∙ some-append (isPair i j) (paired l) (paired r) ∙ go e
     where
-      go : (test p ≡ true) ⊎ (false ≡ true) → (false ≡ true) ⊎ (test p ≡ true)
-      go (inl t) = inr t
-      go (inr t) = inl t
-  some-split (x ∷ l) p e = go (or-cases (test x) (someOf test (l ++ (p ∷ []))) e) (some-split l p)
-    where
-      go : (test x ≡ true) ⊎ (someOf test (l ++ (p ∷ [])) ≡ true)
-          → (someOf test (l ++ (p ∷ [])) ≡ true → (someOf test l ≡ true) ⊎ (test p ≡ true))
-          → ((test x || someOf test l) ≡ true) ⊎ (test p ≡ true)
-      go (inl t) later = inl (or-inl (test x) (someOf test l) t)
-      go (inr t) later = wider (later t)
-        where
-          wider : (someOf test l ≡ true) ⊎ (test p ≡ true) → ((test x || someOf test l) ≡ true) ⊎ (test p ≡ true)
-          wider (inl u) = inl (or-inr (test x) (someOf test l) u)
-          wider (inr u) = inr u
+      go : Lists i j l ⊎ Lists i j r → (someOf (isPair i j) (paired l) || someOf (isPair i j) (paired r)) ≡ true
+      go (inl t) = or-inl (someOf (isPair i j) (paired l)) _ t
+      go (inr t) = or-inr (someOf (isPair i j) (paired l)) _ t
 
-  pub some-earlier : (l : List Pair) (p : Pair) → someOf test l ≡ true → someOf test (l ++ (p ∷ [])) ≡ true
-  unfolding someOf
-  some-earlier [] p e = absurd (true-false {b = false} e refl)
-  some-earlier (x ∷ l) p e = go (or-cases (test x) (someOf test l) e) (some-earlier l p)
-    where
-      go : (test x ≡ true) ⊎ (someOf test l ≡ true) → (someOf test l ≡ true → someOf test (l ++ (p ∷ [])) ≡ true)
-          → (test x || someOf test (l ++ (p ∷ []))) ≡ true
-      go (inl t) later = or-inl (test x) _ t
-      go (inr t) later = or-inr (test x) _ (later t)
+  -- a list of one pair
+  only-pair : (b a : ℕ) → Lists i j (b ∷ a ∷ []) → (b ≡ i) × (a ≡ j)
+  unfolding someOf paired
+  only-pair b a e =
+      let t : (eqb b i && eqb a j) ≡ true = rw (or-false (eqb b i && eqb a j)) at e in
+      (eqb-true _ _ (and-elim-left (eqb b i) (eqb a j) t), eqb-true _ _ (and-elim-right (eqb b i) (eqb a j) t))
 
-  pub some-last : (l : List Pair) (p : Pair) → test p ≡ true → someOf test (l ++ (p ∷ [])) ≡ true
-  unfolding someOf
-  some-last [] p e = or-inl (test p) false e
-  some-last (x ∷ l) p e = or-inr (test x) _ (some-last l p e)
+  pair-only : (b a : ℕ) → b ≡ i → a ≡ j → Lists i j (b ∷ a ∷ [])
+  unfolding someOf paired
+  pair-only b a e f = or-inl (eqb b i && eqb a j) false (and-intro (eq-eqb b i e) (eq-eqb a j f))
 
-  pub every-last : (l : List Pair) (p : Pair) → every test l ≡ true → test p ≡ true → every test (l ++ (p ∷ [])) ≡ true
-  unfolding every
-  every-last [] p e f = and-intro {a = test p} {b = true} f refl
-  every-last (x ∷ l) p e f =
-      and-intro {a = test x} (and-elim-left (test x) (every test l) e)
-      (every-last l p (and-elim-right (test x) (every test l) e) f)
-
--- ---- links
+-- ---- written pairs, and pairs by rule
 
 -- some of the first m pairs puts i before j
-pub record BeforeIn (s : List ℕ) (m i j : ℕ) : Type 0 where
+record BeforeIn (s : List ℕ) (m i j : ℕ) : Type 0 where
   pub pair : ℕ
   pub is-pair : pair < m
   pub first : beforeOf s pair ≡ i
   pub second : afterOf s pair ≡ j
 
 module _ (s : List ℕ) (i j : ℕ) where
-  pub found-pair : (m : ℕ) → someOf (isPair i j) (paired (seatsOf s m)) ≡ true → BeforeIn s m i j
+  found-pair : (m : ℕ) → Lists i j (seatsOf s m) → BeforeIn s m i j
   unfolding someOf paired seatsOf
   found-pair zero e = absurd (true-false {b = false} e refl)
   found-pair (suc m) e =
-      go (some-split (isPair i j) (paired (seatsOf s m)) (record { before = beforeOf s m; after = afterOf s m })
-      (ap (someOf (isPair i j)) (sym (seats-paired s m)) ∙ e)) (found-pair m)
+      go (in-either i j (seatsOf s m) (beforeOf s m ∷ afterOf s m ∷ []) m (seats-length s m) e) (found-pair m)
     where
-      go : (someOf (isPair i j) (paired (seatsOf s m)) ≡ true) ⊎ ((eqb (beforeOf s m) i && eqb (afterOf s m) j) ≡ true)
-          → (someOf (isPair i j) (paired (seatsOf s m)) ≡ true → BeforeIn s m i j) → BeforeIn s (suc m) i j
-      go (inl t) later = let b =
-          later t in record {
-            pair = b .pair;
-            is-pair = omega (arith, b .is-pair);
-            first = b .first;
-            second = b .second;
-          }
+      go : Lists i j (seatsOf s m) ⊎ Lists i j (beforeOf s m ∷ afterOf s m ∷ [])
+          → (Lists i j (seatsOf s m) → BeforeIn s m i j) → BeforeIn s (suc m) i j
+      go (inl t) later =
+          let b = later t in
+          record { pair = b .pair; is-pair = omega (arith, b .is-pair); first = b .first; second = b .second }
       go (inr t) later =
-          record {
-            pair = m;
-            is-pair = omega arith;
-            first = eqb-true _ _ (and-elim-left (eqb (beforeOf s m) i) (eqb (afterOf s m) j) t);
-            second = eqb-true _ _ (and-elim-right (eqb (beforeOf s m) i) (eqb (afterOf s m) j) t);
-          }
+          let last = only-pair i j (beforeOf s m) (afterOf s m) t in
+          record { pair = m; is-pair = omega arith; first = last .0; second = last .1 }
 
-  pub pair-found : (m : ℕ) → BeforeIn s m i j → someOf (isPair i j) (paired (seatsOf s m)) ≡ true
+  pair-found : (m : ℕ) → BeforeIn s m i j → Lists i j (seatsOf s m)
+  unfolding seatsOf
   pair-found zero b = absurd (not-suc-le-zero (b .is-pair))
-  pair-found (suc m) b = rw (seats-paired s m) (go (eq-or-lt-of-le (le-of-suc-le-suc (b .is-pair))) (pair-found m))
+  pair-found (suc m) b =
+      from-either i j (seatsOf s m) (beforeOf s m ∷ afterOf s m ∷ []) m (seats-length s m)
+      (go (eq-or-lt-of-le (le-of-suc-le-suc (b .is-pair))) (pair-found m))
     where
-      last : Pair
-      last = record { before = beforeOf s m; after = afterOf s m }
-
-      go : (b .pair ≡ m) ⊎ (b .pair < m) → (BeforeIn s m i j → someOf (isPair i j) (paired (seatsOf s m)) ≡ true)
-          → someOf (isPair i j) (paired (seatsOf s m) ++ (last ∷ [])) ≡ true
+      go : (b .pair ≡ m) ⊎ (b .pair < m) → (BeforeIn s m i j → Lists i j (seatsOf s m))
+          → Lists i j (seatsOf s m) ⊎ Lists i j (beforeOf s m ∷ afterOf s m ∷ [])
       go (inl e) earlier =
-          some-last (isPair i j) (paired (seatsOf s m)) last
-          (and-intro (eq-eqb _ _ (ap (beforeOf s) (sym e) ∙ b .first))
-          (eq-eqb _ _ (ap (afterOf s) (sym e) ∙ b .second)))
+          inr (pair-only i j _ _ (ap (beforeOf s) (sym e) ∙ b .first) (ap (afterOf s) (sym e) ∙ b .second))
       go (inr h) earlier =
-          some-earlier (isPair i j) (paired (seatsOf s m)) last
-          (earlier (record { pair = b .pair; is-pair = h; first = b .first; second = b .second }))
+          inl (earlier (record { pair = b .pair; is-pair = h; first = b .first; second = b .second }))
+
+  found-rule : (m : ℕ) → Lists i j (rulesOf s m) → (i < m) × (outlineOf s i ≡ At j)
+  unfolding someOf paired rulesOf
+  found-rule zero e = absurd (true-false {b = false} e refl)
+  found-rule (suc m) e =
+      go (in-either i j (rulesOf s m) (rulePair m (outlineOf s m)) _ (rules-whole s m) e) (found-rule m)
+    where
+      own : (f : Found) → outlineOf s m ≡ f → Lists i j (rulePair m f) → (i < suc m) × (outlineOf s i ≡ At j)
+      own (At k) f t =
+          let last = only-pair i j m k t in
+          (omega (arith, last .0), ap (outlineOf s) (sym (last .0)) ∙ f ∙ ap At (last .1))
+      own Absent f t = absurd (true-false {b = false} t refl)
+
+      go : Lists i j (rulesOf s m) ⊎ Lists i j (rulePair m (outlineOf s m))
+          → (Lists i j (rulesOf s m) → (i < m) × (outlineOf s i ≡ At j)) → (i < suc m) × (outlineOf s i ≡ At j)
+      go (inl t) later = let b = later t in (omega (arith, b .0), b .1)
+      go (inr t) later = own (outlineOf s m) refl t
+
+  rule-found : (m : ℕ) → i < m → outlineOf s i ≡ At j → Lists i j (rulesOf s m)
+  unfolding rulesOf
+  rule-found zero h e = absurd (not-suc-le-zero h)
+  rule-found (suc m) h e =
+      from-either i j (rulesOf s m) (rulePair m (outlineOf s m)) _ (rules-whole s m)
+      (go (eq-or-lt-of-le (le-of-suc-le-suc h)) (rule-found m))
+    where
+      go : (i ≡ m) ⊎ (i < m) → (i < m → outlineOf s i ≡ At j → Lists i j (rulesOf s m))
+          → Lists i j (rulesOf s m) ⊎ Lists i j (rulePair m (outlineOf s m))
+      go (inl f) earlier =
+          inr (subst (λ (g : Found). Lists i j (rulePair m g)) (sym (ap (outlineOf s) (sym f) ∙ e))
+          (pair-only i j m j (sym f) refl))
+      go (inr g) earlier = inl (earlier g e)
 
 -- ---- once ids are unique and every pair's ids are known: the three laws of a card's pairs
 
 module _ (s : List ℕ) (unique : No (Row9 s)) (named : No (Row10 s)) where
+  -- the list has no other pairs than the card
+  pub listed-precedes : (i j : ℕ) → Lists i j (pairsOn s) → Precedes s i j
+  listed-precedes i j e =
+      go (in-either i j (writtenOn s) (rulesOf s (contoursOf s)) (pairsOf s) (seats-length s (pairsOf s)) e)
+    where
+      go : Lists i j (writtenOn s) ⊎ Lists i j (rulesOf s (contoursOf s)) → Precedes s i j
+      go (inl t) =
+          let b = found-pair s i j (pairsOf s) t in
+          written (record {
+            pair = b .pair;
+            is-pair = b .is-pair;
+            first = subst (Has s (beforeIdOf s (b .pair))) (b .first) (before-has s unique named (b .pair) (b .is-pair));
+            second = subst (Has s (afterIdOf s (b .pair))) (b .second) (after-has s unique named (b .pair) (b .is-pair));
+          })
+      go (inr t) = let b = found-rule s i j (contoursOf s) t in by-rule (outline-rule s i j (b .0) (b .1))
+
+  -- and it has them all
+  pub precedes-listed : (i j : ℕ) → Precedes s i j → Lists i j (pairsOn s)
+  precedes-listed i j b =
+      from-either i j (writtenOn s) (rulesOf s (contoursOf s)) (pairsOf s) (seats-length s (pairsOf s)) (go b)
+    where
+      go : Precedes s i j → Lists i j (writtenOn s) ⊎ Lists i j (rulesOf s (contoursOf s))
+      go (written p) =
+          let q = p .pair in
+          inl (pair-found s i j (pairsOf s) (record {
+            pair = q;
+            is-pair = p .is-pair;
+            first = same-contour s unique (beforeIdOf s q) (beforeOf s q) i (before-has s unique named q (p .is-pair))
+                (p .first);
+            second = same-contour s unique (afterIdOf s q) (afterOf s q) j (after-has s unique named q (p .is-pair))
+                (p .second);
+          }))
+      go (by-rule r) = inr (rule-found s i j (contoursOf s) (r .is-contour) (rule-outline s i j r))
+
+  -- both are contours
+  precedes-within : (i j : ℕ) → Precedes s i j → (i < contoursOf s) × (j < contoursOf s)
+  precedes-within i j (written p) = (p .first .is-contour, p .second .is-contour)
+  precedes-within i j (by-rule r) = (r .is-contour, r .outline .within)
+
   -- contours are linked by the card's pairs only where one of them puts the first before the second
   pub link-precedes : (i j : ℕ) → linked (contoursOf s) (pairsOn s) i j ≡ true → Precedes s i j
-  unfolding linked
-  link-precedes i j e =
-      let some = someOf (isPair i j) (paired (pairsOn s)) in
-      let b = found-pair s i j (pairsOf s)
-      (and-elim-right (ltb j (contoursOf s)) some
-      (and-elim-right (ltb i (contoursOf s)) (ltb j (contoursOf s) && some) e)) in
-      record {
-        pair = b .pair;
-        is-pair = b .is-pair;
-        first = subst (Has s (beforeIdOf s (b .pair))) (b .first) (before-has s unique named (b .pair) (b .is-pair));
-        second = subst (Has s (afterIdOf s (b .pair))) (b .second) (after-has s unique named (b .pair) (b .is-pair));
-      }
+  link-precedes i j e = listed-precedes i j (pair-linked (contoursOf s) (pairsOn s) i j e)
 
   -- and wherever one does
   pub precedes-link : (i j : ℕ) → Precedes s i j → linked (contoursOf s) (pairsOn s) i j ≡ true
-  unfolding linked
   precedes-link i j b =
-      let q = b .pair in
-      and-intro (lt-ltb i (contoursOf s) (b .first .is-contour))
-      (and-intro (lt-ltb j (contoursOf s) (b .second .is-contour))
-      (pair-found s i j (pairsOf s)
-      (record {
-        pair = q;
-        is-pair = b .is-pair;
-        first = same-contour s unique (beforeIdOf s q) (beforeOf s q) i (before-has s unique named q (b .is-pair))
-            (b .first);
-        second = same-contour s unique (afterIdOf s q) (afterOf s q) j (after-has s unique named q (b .is-pair))
-            (b .second);
-      })))
-
-  below-more : (m : ℕ) → m ≤ pairsOf s → every (both (contoursOf s)) (paired (seatsOf s m)) ≡ true
-  unfolding every paired seatsOf
-  below-more zero h = refl
-  below-more (suc m) h =
-      ap (every (both (contoursOf s))) (seats-paired s m)
-      ∙ every-last (both (contoursOf s)) (paired (seatsOf s m)) (record { before = beforeOf s m; after = afterOf s m })
-      (below-more m (omega arith))
-      (and-intro (lt-ltb _ _ (before-has s unique named m (omega arith) .is-contour))
-      (lt-ltb _ _ (after-has s unique named m (omega arith) .is-contour)))
+      let both = precedes-within i j b in
+      linked-pair (contoursOf s) (pairsOn s) i j (both .0) (both .1) (precedes-listed i j b)
 
   -- both positions of each pair are contours
   pub pairs-below : every (both (contoursOf s)) (paired (pairsOn s)) ≡ true
-  pairs-below = below-more (pairsOf s) (le-refl (pairsOf s))
+  pairs-below = every-is (both (contoursOf s)) (paired (pairsOn s)) (λ b a t.
+      let in-both = precedes-within b a (listed-precedes b a t) in
+      and-intro (lt-ltb b _ (in-both .0)) (lt-ltb a _ (in-both .1)))

@@ -2,7 +2,7 @@
 use mathlib.Mathlib.Data.Bool.Basic.{or-inl, or-inr, not-iff-not}
 use mathlib.Core.Path.{_≡_, refl, sym, ap, _∙_, subst}
 use mathlib.Core.Logic.{_⊎_, inl, inr}
-use mathlib.Core.Bool.{Bool, true, false, not}
+use mathlib.Core.Bool.{Bool, true, false, not, cond}
 use mathlib.Core.List.{List}
 use Prim.Native.Nat.{ℕ, suc, _+_, _*_, _-_, _≤_, _<_, min}
 use native.Mathlib.Nat.{add-assoc}
@@ -18,11 +18,12 @@ use Rattle.block.specs.Block.{payloadBytes, zerosAt}
 use Rattle.block.proofs.Readings.{zeros-each, each-zeros}
 use Rattle.closure.proofs.PairLaws.{lt-or}
 use Rattle.fields.specs.Limits.{pairsABlock}
-use Rattle.fields.specs.Layout.{blocksOf, payload, contoursOf, pairsOf, idOf, tagOf, vertexCountOf, beforeIdOf}
-use Rattle.fields.specs.Layout.{beforeTagOf, afterIdOf, afterTagOf, contourSize, vertexSize, pairSize}
-use Rattle.card.specs.Stages.{isAt, pairsIn, usedIn, badSpare, spareFault, seekOf, positionOf, unnamed, nameFault, seat}
-use Rattle.card.specs.Stages.{beforeOf, afterOf, otherTag, tagFault}
-use Rattle.card.proofs.SpareLaws.{used-head, used-contour, used-pairs}
+use Rattle.fields.specs.Layout.{blocksOf, payload, versionOf, hasParts, contoursOf, pairsOf, idOf, tagOf}
+use Rattle.fields.specs.Layout.{vertexCountOf, beforeIdOf, beforeTagOf, afterIdOf, afterTagOf}
+use Rattle.fields.specs.Layout.{contourSize, vertexSize, pairSize, partOffset}
+use Rattle.card.specs.Stages.{isAt, pairsIn, usedIn, spareEnd, badSpare, spareFault, seekOf, positionOf, unnamed}
+use Rattle.card.specs.Stages.{nameFault, seat, beforeOf, afterOf, otherTag, tagFault}
+use Rattle.card.proofs.SpareLaws.{used-head, used-contour, used-pairs, end-head, end-contour, end-pairs, end-within}
 use Rattle.card_laws.specs.Table.{Spare, in-head, in-contour, past-last-pair, past-full-block, SpareByte, Row7}
 use Rattle.card_laws.specs.Table.{Row9, Has, Unnamed, Row10, OtherTag, Row11, No}
 use Rattle.card_laws.proofs.RowLaws.{no-repeat}
@@ -42,9 +43,21 @@ order j k = go (ltb j k) (ltb k j) refl refl
 module _ (s : List ℕ) where
   -- ---- 7
 
-  -- a byte is spare exactly if it is behind the bytes in use
-  behind-used : (b offset : ℕ) → usedIn s b ≤ offset → Spare s b offset
-  behind-used b offset h = go (lt-or 0 b) (lt-or (contoursOf s) b)
+  -- before the part and copy of a version 2 contour
+  ends-by : (offset : ℕ) → (versionOf s ≡ 2 → offset < partOffset) → offset < payloadBytes
+      → offset < cond (hasParts s) partOffset payloadBytes
+  ends-by offset two h = go (hasParts s) refl
+    where
+      go : (b : Bool) → hasParts s ≡ b → offset < cond b partOffset payloadBytes
+      go true e = two (eqb-true _ _ e)
+      go false e = h
+
+  by-end : (offset : ℕ) → offset < cond (hasParts s) partOffset payloadBytes → versionOf s ≡ 2 → offset < partOffset
+  by-end offset h e = rw (eq-eqb _ 2 e) at h
+
+  -- a byte is spare exactly if it is behind the bytes in use, and before where spare bytes end
+  behind-used : (b offset : ℕ) → usedIn s b ≤ offset → offset < spareEnd s b → Spare s b offset
+  behind-used b offset h l = go (lt-or 0 b) (lt-or (contoursOf s) b)
     where
       pairs-part : (i : ℕ) → b ≡ suc (contoursOf s + i)
           → pairSize * min pairsABlock (pairsOf s - pairsABlock * i) ≤ offset → Spare s b offset
@@ -52,40 +65,47 @@ module _ (s : List ℕ) where
         where
           split : (pairsABlock < pairsOf s - pairsABlock * i) ⊎ (pairsOf s - pairsABlock * i ≤ pairsABlock)
               → Spare s b offset
-          split (inl l) = past-full-block i e (omega arith)
-          split (inr l) = past-last-pair i e (omega arith)
+          split (inl m) = past-full-block i e (omega arith)
+          split (inr m) = past-last-pair i e (omega arith)
 
       go : (0 < b) ⊎ (b ≤ 0) → (contoursOf s < b) ⊎ (b ≤ contoursOf s) → Spare s b offset
-      go (inl z) (inl l) =
-          let u : pairSize * pairsIn s b ≡ usedIn s b = used-pairs s b (λ e. omega arith) _ l refl in
+      go (inl z) (inl m) =
+          let u : pairSize * pairsIn s b ≡ usedIn s b = used-pairs s b (λ e. omega arith) _ m refl in
           pairs-part (b - (contoursOf s + 1)) (omega arith) (omega arith)
-      go (inl z) (inr l) =
+      go (inl z) (inr m) =
           let u : contourSize + vertexSize * vertexCountOf s (b - 1) ≡ usedIn s b =
-          used-contour s b (λ e. omega arith) _ l refl in
+          used-contour s b (λ e. omega arith) _ m refl in
           in-contour (b - 1) (omega arith) (omega arith) (omega arith)
+          (by-end offset (rw (end-contour s b (λ e. omega arith) m) l))
       go (inr z) w = let e : b ≡ 0 = omega arith in let u = used-head s b e in in-head e (omega arith)
 
-  used-behind : (b offset : ℕ) → Spare s b offset → usedIn s b ≤ offset
-  used-behind b offset (in-head e h) = let u = used-head s b e in omega arith
-  used-behind b offset (in-contour k l e h) =
+  used-behind : (b offset : ℕ) → Spare s b offset → offset < payloadBytes
+      → (usedIn s b ≤ offset) × (offset < spareEnd s b)
+  used-behind b offset (in-head e h) l =
+      let u = used-head s b e in
+      let z = end-head s b e in
+      (omega arith, omega arith)
+  used-behind b offset (in-contour k m e h two) l =
       let v : vertexCountOf s k ≡ vertexCountOf s (b - 1) =
       ap (vertexCountOf s) (let i : k ≡ b - 1 = omega arith in i) in
       let u : contourSize + vertexSize * vertexCountOf s k ≡ usedIn s b =
       used-contour s b (λ z. omega arith) _ (omega arith) v in
-      omega arith
-  used-behind b offset (past-last-pair i e h) =
+      (omega arith, subst (λ (x : ℕ). offset < x) (end-contour s b (λ z. omega arith) (omega arith)) (ends-by offset two l))
+  used-behind b offset (past-last-pair i e h) l =
       let k : b - (contoursOf s + 1) ≡ i = omega arith in
       let u : pairSize * pairsIn s b ≡ usedIn s b = used-pairs s b (λ z. omega arith) _ (omega arith) refl in
-      omega arith
-  used-behind b offset (past-full-block i e h) =
+      let z = end-pairs s b (λ z. omega arith) (omega arith) in
+      (omega arith, omega arith)
+  used-behind b offset (past-full-block i e h) l =
       let u : pairSize * pairsIn s b ≡ usedIn s b = used-pairs s b (λ z. omega arith) _ (omega arith) refl in
-      omega arith
+      let z = end-pairs s b (λ z. omega arith) (omega arith) in
+      (omega arith, omega arith)
 
   spare-byte : (b : ℕ) → badSpare s b ≡ true → SpareByte s b
   spare-byte b e = go (lowest some count) refl
     where
       count : ℕ
-      count = payloadBytes - usedIn s b
+      count = spareEnd s b - usedIn s b
 
       some : ℕ → Bool
       some = λ i. not (eqb (byteAt s (payload b + usedIn s b + i)) 0)
@@ -93,10 +113,11 @@ module _ (s : List ℕ) where
       go : (f : Found) → lowest some count ≡ f → SpareByte s b
       go (At i) h =
           let w = is-at some count i h in
+          let l : usedIn s b + i < spareEnd s b = omega (arith, w .within) in
           record {
             offset = usedIn s b + i;
-            behind = behind-used b (usedIn s b + i) (omega arith);
-            inside = omega (arith, w .within);
+            behind = behind-used b (usedIn s b + i) (omega arith) l;
+            inside = omega (arith, end-within s b, l);
             some = λ z. not-iff-not {b = eqb (byteAt s (payload b + usedIn s b + i)) 0} .0 (w .holds)
                 (eq-eqb _ _ (ap (byteAt s) (add-assoc (payload b) (usedIn s b) i) ∙ z));
           }
@@ -109,11 +130,12 @@ module _ (s : List ℕ) where
   byte-spare : (b : ℕ) → SpareByte s b → badSpare s b ≡ true
   byte-spare b r =
       let u = usedIn s b in
-      let behind = used-behind b (r .offset) (r .behind) in
-      not-iff-not {b = zerosAt s (payload b + u) (payloadBytes - u)} .1 (λ t.
+      let z = spareEnd s b in
+      let between = used-behind b (r .offset) (r .behind) (r .inside) in
+      not-iff-not {b = zerosAt s (payload b + u) (z - u)} .1 (λ t.
       let e : byteAt s (payload b + u + (r .offset - u)) ≡ 0 =
-      zeros-each s (payload b + u) (payloadBytes - u) t (r .offset - u) (omega (arith, behind, r .inside)) in
-      let g : payload b + u + (r .offset - u) ≡ payload b + r .offset = omega (arith, behind) in
+      zeros-each s (payload b + u) (z - u) t (r .offset - u) (omega (arith, between)) in
+      let g : payload b + u + (r .offset - u) ≡ payload b + r .offset = omega (arith, between .0) in
       r .some (ap (byteAt s) (sym g) ∙ e))
 
   pub exact7 : Exact (spareFault s) (Row7 s)

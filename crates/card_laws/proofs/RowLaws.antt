@@ -1,8 +1,8 @@
 -- Each stage's search tells exactly what its row of the table says. Assumes nothing.
-use mathlib.Mathlib.Data.Bool.Basic.{or-inl, or-inr, not-iff-not}
+use mathlib.Mathlib.Data.Bool.Basic.{or-inl, or-inr, not-iff-not, and-intro, and-elim-left, and-elim-right}
 use mathlib.Core.Path.{_≡_, refl, sym, ap, _∙_, subst}
 use mathlib.Core.Logic.{_⊎_, inl, inr}
-use mathlib.Core.Bool.{Bool, true, false, not, _||_}
+use mathlib.Core.Bool.{Bool, true, false, not, _||_, _&&_}
 use mathlib.Core.List.{List}
 use Prim.Native.Nat.{ℕ, zero, suc, _+_, _*_, _-_, _/_, _%_, _≤_, _<_, min}
 use native.Mathlib.Omega.{arith}
@@ -18,11 +18,13 @@ use Rattle.block.specs.Block.{blockBytes, checkOffset, checkAt, checked, starts
 use Rattle.block.proofs.Readings.{due-is, is-due}
 use Rattle.closure.proofs.PairLaws.{lt-or}
 use Rattle.fields.specs.Limits.{cardBytes, perContourLimit, vertexLimit, pairsABlock}
-use Rattle.fields.specs.Layout.{blocksOf, contoursOf, pairsOf, perContourOf, idOf, vertexCountOf, typeOf, fillerOf}
-use Rattle.card.specs.Stages.{outside, badLength, lengthFault, checkFault, kindDue, startFault, headFaults, headFault}
-use Rattle.card.specs.Stages.{blocksDue, countFault, badContour, contourFault, seekOf, repeats, repeatFault, isAt}
+use Rattle.fields.specs.Layout.{blocksOf, versionOf, contoursOf, pairsOf, perContourOf, idOf, vertexCountOf, typeOf}
+use Rattle.fields.specs.Layout.{fillerOf}
+use Rattle.card.specs.Stages.{outside, badLength, lengthFault, checkFault, kindDue, isVersion, startFault, headFaults}
+use Rattle.card.specs.Stages.{headFault, blocksDue, countFault, badContour, contourFault, seekOf, repeats, repeatFault, isAt}
 use Rattle.card.proofs.FaultLaws.{kind-head, kind-contour, kind-pairs}
-use Rattle.card_laws.specs.Table.{Row1, CheckDiffers, Row2, Kind, of-head, of-contour, of-pairs, StartsOtherwise}
+use Rattle.card_laws.specs.Table.{Row1, CheckDiffers, Row2, Kind, of-head, of-contour, of-pairs, Version}
+use Rattle.card_laws.specs.Table.{is-one, is-two, StartsOtherwise}
 use Rattle.card_laws.specs.Table.{Row3, BadField, contours, pairs, candidates, passes, exterior, interior}
 use Rattle.card_laws.specs.Table.{all-candidates, Row4, PairBlocks, Row5, BadContour, few-vertices, many-vertices}
 use Rattle.card_laws.specs.Table.{no-type, byte-eleven, Row6, Repeated, Row9, No}
@@ -101,16 +103,37 @@ module _ (s : List ℕ) where
       go (inl z) (inr h) = subst (Kind s b) (kind-contour s b (λ e. omega arith) h) (of-contour z h)
       go (inr z) w = let e : b ≡ 0 = omega arith in subst (Kind s b) (kind-head s b e) (of-head e)
 
+  -- the version of every block is block 0's, if there is such a version
+  version-is : (v : ℕ) → Version s v → v ≡ versionOf s
+  version-is v (is-one e) = sym e
+  version-is v (is-two e) = sym e
+
+  version-known : (v : ℕ) → Version s v → isVersion (versionOf s) ≡ true
+  version-known v (is-one e) = rw e
+  version-known v (is-two e) = rw e
+
+  known-version : isVersion (versionOf s) ≡ true → Version s (versionOf s)
+  known-version t = go (or-cases (eqb (versionOf s) 1) (eqb (versionOf s) 2) t)
+    where
+      go : (eqb (versionOf s) 1 ≡ true) ⊎ (eqb (versionOf s) 2 ≡ true) → Version s (versionOf s)
+      go (inl e) = let v : versionOf s ≡ 1 = eqb-true _ _ e in subst (Version s) (sym v) (is-one v)
+      go (inr e) = let v : versionOf s ≡ 2 = eqb-true _ _ e in subst (Version s) (sym v) (is-two v)
+
   pub exact3 : (count : ℕ) → Exact (startFault s count) (Row3 s count)
   unfolding startFault
   exact3 count =
       lowest-exact _ count (StartsOtherwise s)
-      (λ b h t kind k d.
-      not-iff-not {b = starts s (blockBytes * b) (kindDue s b) 1 b} .0 t
-      (is-due s (blockBytes * b) (kindDue s b) 1 b
-      (subst (λ (x : ℕ). Due s (blockBytes * b) x 1 b) (kind-is b kind k) d)))
-      (λ b h d. not-iff-not {b = starts s (blockBytes * b) (kindDue s b) 1 b} .1
-      (λ t. d (kindDue s b) (due-kind b) (due-is s (blockBytes * b) (kindDue s b) 1 b t)))
+      (λ b h t kind version k v d.
+      not-iff-not {b = isVersion (versionOf s) && starts s (blockBytes * b) (kindDue s b) (versionOf s) b} .0 t
+      (and-intro (version-known version v)
+      (is-due s (blockBytes * b) (kindDue s b) (versionOf s) b
+      (subst (λ (x : ℕ). Due s (blockBytes * b) (kindDue s b) x b) (version-is version v)
+      (subst (λ (x : ℕ). Due s (blockBytes * b) x version b) (kind-is b kind k) d)))))
+      (λ b h d. not-iff-not
+      {b = isVersion (versionOf s) && starts s (blockBytes * b) (kindDue s b) (versionOf s) b} .1
+      (λ t. d (kindDue s b) (versionOf s) (due-kind b)
+      (known-version (and-elim-left (isVersion (versionOf s)) _ t))
+      (due-is s (blockBytes * b) (kindDue s b) (versionOf s) b (and-elim-right (isVersion (versionOf s)) _ t))))
 
   -- ---- 4
 

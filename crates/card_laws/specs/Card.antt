@@ -12,19 +12,21 @@ use Rattle.points.specs.Bad.{badPoint}
 use Rattle.closure.specs.Limits.{contourLimit, pairLimit}
 use Rattle.closure.specs.Cycle.{Acyclic}
 use Rattle.fields.specs.Limits.{perContourLimit, candidateLimit, passLimit, vertexLimit}
-use Rattle.fields.specs.Layout.{jobOf, contoursOf, pairsOf, perContourOf, passesOf, moveLimitOf, homeOffset, exteriorOf}
-use Rattle.fields.specs.Layout.{interiorOf, idOf, tagOf, vertexCountOf, typeOf, vertexOffset, beforeIdOf, beforeTagOf}
-use Rattle.fields.specs.Layout.{afterIdOf, afterTagOf}
+use Rattle.fields.specs.Layout.{versionOf, jobOf, contoursOf, pairsOf, perContourOf, passesOf, moveLimitOf, homeOffset}
+use Rattle.fields.specs.Layout.{exteriorOf, interiorOf, idOf, tagOf, vertexCountOf, typeOf, partOf, copyOf}
+use Rattle.fields.specs.Layout.{vertexOffset, beforeIdOf, beforeTagOf, afterIdOf, afterTagOf}
 use Rattle.fields.specs.Values.{asType, asPreference, pointAt}
 use Rattle.card.specs.Stages.{blocksDue, beforeOf, afterOf}
 use Rattle.card.specs.Names.{pairsOn}
 
--- a contour: who it is, what it is, and its corners in order
+-- a contour: who it is, what it is, its corners in order, and of which part and copy it is
 pub record Contour : Type 0 where
   pub id : ℕ
   pub tag : ℕ
   pub kind : ContourType
   pub vertices : List Point
+  pub part : ℕ
+  pub copy : ℕ
 
 -- one contour is cut before another; each is named by id and tag
 pub record Pair : Type 0 where
@@ -34,6 +36,7 @@ pub record Pair : Type 0 where
   pub after-tag : ℕ
 
 pub record Card : Type 0 where
+  pub version : ℕ
   pub job : ℕ
   pub per-contour : ℕ
   pub passes : ℕ
@@ -56,6 +59,8 @@ contourOf s k =
       tag = tagOf s k;
       kind = asType (typeOf s k);
       vertices = tabulated (λ j. pointAt s (vertexOffset k j)) (vertexCountOf s k);
+      part = partOf s k;
+      copy = copyOf s k;
     }
 
 abbrev pub pairOf : List ℕ → ℕ → Pair
@@ -71,6 +76,7 @@ pairOf s q =
 abbrev pub cardOf : List ℕ → Card
 cardOf s =
     record {
+      version = versionOf s;
       job = jobOf s;
       per-contour = perContourOf s;
       passes = passesOf s;

@@ -3,6 +3,7 @@ use mathlib.Core.Path.{_≡_}
 use mathlib.Core.List.{List, [], _∷_}
 use Prim.Native.Nat.{ℕ, _*_}
 use lib.Ieee.{binary64, ofBits}
+use Rattle.answer.specs.declared.Point.{Point}
 use Rattle.answer.specs.declared.ContourType.{ContourType}
 use Rattle.answer.specs.declared.ContourType.the-variants.{Exterior, Interior}
 use Rattle.answer.specs.declared.CutDirectionPreference.the-variants.{Auto}
@@ -17,6 +18,7 @@ use Rattle.card_laws.specs.Write.{written}
 abbrev pub asJob41 : List Contour → List Pair → Card
 asJob41 contours pairs =
     record {
+      version = 1;
       job = 41;
       per-contour = 1;
       passes = 10;
@@ -28,10 +30,14 @@ asJob41 contours pairs =
       pairs = pairs;
     }
 
--- a contour of one vertex, given by the bits of its coordinates
+-- a contour of no part
+abbrev pub partless : ℕ → ℕ → ContourType → List Point → Contour
+partless id tag kind vertices =
+    record { id = id; tag = tag; kind = kind; vertices = vertices; part = 0; copy = 0 }
+
+-- one of one vertex, given by the bits of its coordinates
 abbrev pub dot : ℕ → ℕ → ContourType → ℕ → ℕ → Contour
-dot id tag kind x y =
-    record { id = id; tag = tag; kind = kind; vertices = record { x = ofBits binary64 x; y = ofBits binary64 y } ∷ [] }
+dot id tag kind x y = partless id tag kind (record { x = ofBits binary64 x; y = ofBits binary64 y } ∷ [])
 
 -- one before another, each with ten times its id as its tag
 abbrev pub waits : ℕ → ℕ → Pair

@@ -14,7 +14,8 @@ use Rattle.card.specs.Names.{pairsOn}
 use Rattle.card.specs.Verdict.{checkOf}
 use Rattle.card_laws.specs.Table.{Past11, Precedes}
 
--- an order in which a card can be cut, as positions: each contour once, and of each pair the first before the second
+-- an order in which a card can be cut, as positions: each contour once, and what goes before another, by a written pair
+-- or by rule, stands before it
 pub record LegalOrder (s order : List ℕ) : Type 0 where
   pub each-once : EachOnce (contoursOf s) order
   pub pairs-kept : (i j : ℕ) → i < contoursOf s → j < contoursOf s
@@ -33,8 +34,8 @@ pub record Twelve (s : List ℕ) : Type 0 where
   pub sent-back : Past11 s → (SomeOrder s → ⊥) → RefusedWith 12 s
   pub fine-order : checkOf s ≡ Fine → SomeOrder s
 
--- of a fine card: positions are linked exactly where a pair puts the one before the other, and every pair's positions
--- are contours
+-- of a fine card: positions are linked exactly where a written pair or the rule puts the one before the other, and every
+-- pair's positions are contours
 pub record Links (s : List ℕ) : Type 0 where
   pub linked-if : (i j : ℕ) → Precedes s i j → linked (contoursOf s) (pairsOn s) i j ≡ true
   pub linked-only : (i j : ℕ) → linked (contoursOf s) (pairsOn s) i j ≡ true → Precedes s i j

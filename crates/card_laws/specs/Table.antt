@@ -14,9 +14,10 @@ use Rattle.block.specs.Block.{blockBytes, payloadBytes, checkOffset, checkAt, D
 use Rattle.points.specs.Bad.{badPoint}
 use Rattle.closure.specs.Limits.{contourLimit, pairLimit}
 use Rattle.fields.specs.Limits.{cardBytes, perContourLimit, candidateLimit, passLimit, vertexLimit, pairsABlock}
-use Rattle.fields.specs.Layout.{blocksOf, payload, contoursOf, pairsOf, perContourOf, passesOf, homeOffset, exteriorOf}
-use Rattle.fields.specs.Layout.{interiorOf, idOf, tagOf, vertexCountOf, typeOf, fillerOf, vertexOffset, beforeIdOf}
-use Rattle.fields.specs.Layout.{beforeTagOf, afterIdOf, afterTagOf, headSize, contourSize, vertexSize, pairSize}
+use Rattle.fields.specs.Layout.{blocksOf, payload, versionOf, contoursOf, pairsOf, perContourOf, passesOf, homeOffset}
+use Rattle.fields.specs.Layout.{exteriorOf, interiorOf, idOf, tagOf, vertexCountOf, typeOf, fillerOf, partOf, copyOf}
+use Rattle.fields.specs.Layout.{vertexOffset, beforeIdOf, beforeTagOf, afterIdOf, afterTagOf}
+use Rattle.fields.specs.Layout.{headSize, contourSize, vertexSize, pairSize, partOffset}
 use Rattle.fields.specs.Values.{pointAt}
 use Rattle.card.specs.Verdict.{checkOf}
 
@@ -46,9 +47,15 @@ pub data Kind (s : List ℕ) (b : ℕ) : ℕ → Type 0 where
   of-contour : 0 < b → b ≤ contoursOf s → Kind s b 2
   of-pairs : contoursOf s < b → Kind s b 3
 
+-- the version of every block: block 0's, which is 1 or 2
+pub data Version (s : List ℕ) : ℕ → Type 0 where
+  is-one : versionOf s ≡ 1 → Version s 1
+  is-two : versionOf s ≡ 2 → Version s 2
+
 -- 3: bytes 0 to 7 are not as due; the lowest of the first count blocks
 abbrev pub StartsOtherwise : List ℕ → ℕ → Type 0
-StartsOtherwise s b = (kind : ℕ) → Kind s b kind → Due s (blockBytes * b) kind 1 b → ⊥
+StartsOtherwise s b = (kind version : ℕ) → Kind s b kind → Version s version
+    → Due s (blockBytes * b) kind version b → ⊥
 
 abbrev pub Row3 : List ℕ → ℕ → ℕ → Type 0
 Row3 s count = Lowest count (StartsOtherwise s)
@@ -86,13 +93,13 @@ pub data BadContour (s : List ℕ) (k : ℕ) : Type 0 where
 abbrev pub Row6 : List ℕ → ℕ → Type 0
 Row6 s = Lowest (contoursOf s) (BadContour s)
 
--- no field stands at this byte of block b's payload: the head has 34 bytes of fields, contour k 12 and 16 a vertex, a
--- block of pairs 16 a pair, 31 pairs at most; where the earlier blocks of pairs and the bytes before this one hold all
--- m pairs, no field is left
+-- no field stands at this byte of block b's payload: the head has 34 bytes of fields, contour k 12 and 16 a vertex and,
+-- in version 2, all from 492 on, a block of pairs 16 a pair, 31 pairs at most; where the earlier blocks of pairs and the
+-- bytes before this one hold all m pairs, no field is left
 pub data Spare (s : List ℕ) (b offset : ℕ) : Type 0 where
   in-head : b ≡ 0 → headSize ≤ offset → Spare s b offset
   in-contour : (k : ℕ) → k < contoursOf s → b ≡ suc k → contourSize + vertexSize * vertexCountOf s k ≤ offset
-      → Spare s b offset
+      → (versionOf s ≡ 2 → offset < partOffset) → Spare s b offset
   past-last-pair : (i : ℕ) → b ≡ suc (contoursOf s + i) → pairSize * pairsOf s ≤ pairSize * (pairsABlock * i) + offset
       → Spare s b offset
   past-full-block : (i : ℕ) → b ≡ suc (contoursOf s + i) → pairSize * pairsABlock ≤ offset → Spare s b offset
@@ -146,12 +153,30 @@ pub data OtherTag (s : List ℕ) (q : ℕ) : Type 0 where
 abbrev pub Row11 : List ℕ → ℕ → Type 0
 Row11 s = Lowest (pairsOf s) (OtherTag s)
 
--- contour i goes before contour j: a pair has the id of the one first and that of the other second
-pub record Precedes (s : List ℕ) (i j : ℕ) : Type 0 where
+-- a written pair has the id of contour i first and that of contour j second
+pub record ByPair (s : List ℕ) (i j : ℕ) : Type 0 where
   pub pair : ℕ
   pub is-pair : pair < pairsOf s
   pub first : Has s (beforeIdOf s pair) i
   pub second : Has s (afterIdOf s pair) j
+
+-- contour j is an exterior with the part and the copy of contour i
+pub record Outline (s : List ℕ) (i j : ℕ) : Type 0 where
+  pub exterior : typeOf s j ≡ 0
+  pub same-part : partOf s j ≡ partOf s i
+  pub same-copy : copyOf s j ≡ copyOf s i
+
+-- contour i is an interior of a part other than 0, and contour j the first exterior with its part and copy
+pub record ByRule (s : List ℕ) (i j : ℕ) : Type 0 where
+  pub is-contour : i < contoursOf s
+  pub interior : typeOf s i ≡ 1
+  pub of-a-part : partOf s i ≡ 0 → ⊥
+  pub outline : Lowest (contoursOf s) (Outline s i) j
+
+-- contour i goes before contour j: by a written pair, or by rule
+pub data Precedes (s : List ℕ) (i j : ℕ) : Type 0 where
+  written : ByPair s i j → Precedes s i j
+  by-rule : ByRule s i j → Precedes s i j
 
 -- contour j can be reached from contour i by pairs, one or more
 pub data Leads (s : List ℕ) : ℕ → ℕ → Type 0 where

@@ -1,6 +1,8 @@
 -- A card's bytes, from what it says: the other way round than reading, for examples. Assumes nothing.
+use mathlib.Core.Bool.{cond}
 use mathlib.Core.List.{List, [], _∷_, _++_}
 use Prim.Native.Nat.{ℕ, zero, suc, _+_, _-_, _/_}
+use lib.Dec.{eqb}
 use lib.ListN.{length, take, drop}
 use lib.Ieee.{Float, binary64, toBits}
 use Rattle.answer.specs.declared.Point.{Point}
@@ -8,8 +10,10 @@ use Rattle.answer.specs.declared.ContourType.{ContourType}
 use Rattle.answer.specs.declared.ContourType.the-variants.{Exterior, Interior}
 use Rattle.answer.specs.declared.CutDirectionPreference.{CutDirectionPreference}
 use Rattle.answer.specs.declared.CutDirectionPreference.the-variants.{Ccw, Cw, Auto}
+use Rattle.answer.specs.Room.{padded}
 use Rattle.block.specs.Write.{bytes, blockOf}
 use Rattle.fields.specs.Limits.{pairsABlock}
+use Rattle.fields.specs.Layout.{partOffset}
 use Rattle.card_laws.specs.Card.{Contour, Pair, Card}
 
 unfoldable pub numberBytes : Float → List ℕ
@@ -43,17 +47,25 @@ unfolding pointBytes
 pointsBytes [] = []
 pointsBytes (p ∷ more) = pointBytes p ++ pointsBytes more
 
-unfoldable pub contourBytes : Contour → List ℕ
+-- a contour's fields up to its last vertex
+unfoldable pub outlineBytes : Contour → List ℕ
 unfolding bytes pointsBytes
-contourBytes c =
+outlineBytes c =
     bytes 4 (c .id) ++ bytes 4 (c .tag) ++ bytes 2 (length (c .vertices)) ++ typeByte (c .kind) ∷ 0
     ∷ pointsBytes (c .vertices)
 
+-- in version 2 its part and copy stand behind them, at 492
+unfoldable pub contourBytes : ℕ → Contour → List ℕ
+unfolding bytes outlineBytes
+contourBytes version c =
+    cond (eqb version 2) (padded partOffset 0 (outlineBytes c) ++ bytes 4 (c .part) ++ bytes 4 (c .copy)) (outlineBytes c)
+
 -- the contours' blocks, from a block number on
-unfoldable pub contourBlocks : ℕ → List Contour → List ℕ
+unfoldable pub contourBlocks : ℕ → ℕ → List Contour → List ℕ
 unfolding blockOf contourBytes
-contourBlocks b [] = []
-contourBlocks b (c ∷ more) = blockOf 2 1 b (contourBytes c) ++ contourBlocks (suc b) more
+contourBlocks version b [] = []
+contourBlocks version b (c ∷ more) =
+    blockOf 2 version b (contourBytes version c) ++ contourBlocks version (suc b) more
 
 unfoldable pub pairBytes : List Pair → List ℕ
 unfolding bytes
@@ -63,13 +75,15 @@ pairBytes (p ∷ more) =
     more
 
 -- so many blocks of pairs, from a block number on
-unfoldable pub pairBlocks : ℕ → ℕ → List Pair → List ℕ
+unfoldable pub pairBlocks : ℕ → ℕ → ℕ → List Pair → List ℕ
 unfolding blockOf pairBytes
-pairBlocks zero b l = []
-pairBlocks (suc k) b l = blockOf 3 1 b (pairBytes (take pairsABlock l)) ++ pairBlocks k (suc b) (drop pairsABlock l)
+pairBlocks version zero b l = []
+pairBlocks version (suc k) b l =
+    blockOf 3 version b (pairBytes (take pairsABlock l)) ++ pairBlocks version k (suc b) (drop pairsABlock l)
 
 unfoldable pub written : Card → List ℕ
 unfolding blockOf headBytes contourBlocks pairBlocks
 written c =
-    blockOf 1 1 0 (headBytes c) ++ contourBlocks 1 (c .contours)
-    ++ pairBlocks ((length (c .pairs) + (pairsABlock - 1)) / pairsABlock) (suc (length (c .contours))) (c .pairs)
+    let pages = (length (c .pairs) + (pairsABlock - 1)) / pairsABlock in
+    blockOf 1 (c .version) 0 (headBytes c) ++ contourBlocks (c .version) 1 (c .contours)
+    ++ pairBlocks (c .version) pages (suc (length (c .contours))) (c .pairs)

@@ -5,6 +5,8 @@ use Rattle.contracts.specs.Cards.{OfFields, OfCard, OfReader, OfReaderBy
 
 of-fields : OfFields
 of-fields = record {
+  version = told _ (λ κs a u v. refl) (λ κs a x. alike);
+  has-parts = told _ (λ κs a u v. refl) (λ κs a x. alike);
   job = told _ (λ κs a u v. refl) (λ κs a x. alike);
   contours = told _ (λ κs a u v. refl) (λ κs a x. alike);
   pairs = told _ (λ κs a u v. refl) (λ κs a x. alike);
@@ -21,6 +23,8 @@ of-fields = record {
   tag = told _ (λ κs a u v. refl) (λ κs a x. alike);
   vertices = told _ (λ κs a u v. refl) (λ κs a x. alike);
   contour-type = told _ (λ κs a u v. refl) (λ κs a x. alike);
+  part = told _ (λ κs a u v. refl) (λ κs a x. alike);
+  copy = told _ (λ κs a u v. refl) (λ κs a x. alike);
   vertex = told _ (λ κs a u v. refl) (λ κs a x. alike);
   before-id = told _ (λ κs a u v. refl) (λ κs a x. alike);
   before-tag = told _ (λ κs a u v. refl) (λ κs a x. alike);

@@ -3,9 +3,9 @@ use mathlib.Core.Path.{_≡_}
 use Prim.Native.Nat.{_+_, min, _-_}
 use lib.ListN.{length}
 use Rattle.block.specs.Field.{byteAt}
-use Rattle.fields.specs.Layout.{payload, jobOf, contoursOf, pairsOf, perContourOf, passesOf, moveLimitOf, homeOffset}
-use Rattle.fields.specs.Layout.{exteriorOf, interiorOf, idOf, tagOf, vertexCountOf, typeOf, vertexOffset, pairOffset}
-use Rattle.fields.specs.Layout.{beforeIdOf, beforeTagOf, afterIdOf, afterTagOf}
+use Rattle.fields.specs.Layout.{payload, versionOf, hasParts, jobOf, contoursOf, pairsOf, perContourOf, passesOf}
+use Rattle.fields.specs.Layout.{moveLimitOf, homeOffset, exteriorOf, interiorOf, idOf, tagOf, vertexCountOf, typeOf}
+use Rattle.fields.specs.Layout.{partOf, copyOf, vertexOffset, pairOffset, beforeIdOf, beforeTagOf, afterIdOf, afterTagOf}
 use Rattle.fields.specs.Values.{asType, asPreference, pointAt}
 use Rattle.card.specs.Stages.{positionOf}
 use Rattle.card.specs.Names.{namedOf}
@@ -21,6 +21,10 @@ use Rattle.contracts.specs.ByHand.{SaysByHand}
 
 -- fields
 pub record OfFields : Type 0 where
+  pub version : Says Fields.version.ended Fields.version.Reads.Asked Fields.version.Reads.Learnt
+      (λ _ card r. r ≡ versionOf (now card))
+  pub has-parts : Says Fields.has_parts.ended Fields.has_parts.Reads.Asked Fields.has_parts.Reads.Learnt
+      (λ _ card r. r ≡ hasParts (now card))
   pub job : Says Fields.job.ended Fields.job.Reads.Asked Fields.job.Reads.Learnt (λ _ card r. r ≡ jobOf (now card))
   pub contours : Says Fields.contours.ended Fields.contours.Reads.Asked Fields.contours.Reads.Learnt
       (λ _ card r. r ≡ contoursOf (now card))
@@ -51,6 +55,10 @@ pub record OfFields : Type 0 where
       (λ _ card k r. r ≡ vertexCountOf (now card) k)
   pub contour-type : Says Fields.contour_type.ended Fields.contour_type.Reads.Asked Fields.contour_type.Reads.Learnt
       (λ _ card k r. r ≡ asType (typeOf (now card) k))
+  pub part : Says Fields.part.ended Fields.part.Reads.Asked Fields.part.Reads.Learnt
+      (λ _ card k r. r ≡ partOf (now card) k)
+  pub copy : Says Fields.copy.ended Fields.copy.Reads.Asked Fields.copy.Reads.Learnt
+      (λ _ card k r. r ≡ copyOf (now card) k)
   pub vertex : Says Fields.vertex.ended Fields.vertex.Reads.Asked Fields.vertex.Reads.Learnt
       (λ _ card k j r. r ≡ pointAt (now card) (vertexOffset k j))
   pub before-id : Says Fields.before_id.ended Fields.before_id.Reads.Asked Fields.before_id.Reads.Learnt

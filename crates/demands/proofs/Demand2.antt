@@ -19,20 +19,18 @@ use Rattle.answer.specs.declared.Check.the-variants.{Fine}
 use Rattle.answer.proofs.RoomLaws.{any-default}
 use Rattle.candidates.specs.declared.Candidate.{Candidate}
 use Rattle.answer.specs.declared.CutDirection.{CutDirection}
-use Rattle.card_laws.specs.Table.{Has}
 use Rattle.candidates.specs.Generate.{candidatesOf, blank}
 use Rattle.candidates.proofs.CountLaws.{Closed, each-closed}
 use Rattle.closure.specs.Limits.{contourLimit}
 use Rattle.closure.proofs.PairLaws.{same-or}
 use Rattle.keep.proofs.OrderLaws.{keeps-exactly}
-use Rattle.fields.specs.Layout.{contoursOf, pairsOf, perContourOf, passesOf, vertexCountOf, vertexOffset, beforeIdOf}
-use Rattle.fields.specs.Layout.{afterIdOf}
+use Rattle.fields.specs.Layout.{contoursOf, perContourOf, passesOf, vertexCountOf, vertexOffset}
 use Rattle.fields.specs.Values.{pointAt}
 use Rattle.card_laws.specs.Card.{tabulated}
 use Rattle.card.specs.Names.{pairsOn}
 use Rattle.card.specs.Verdict.{checkOf}
-use Rattle.card.proofs.NameLaws.{seats-length, seat-before, seat-after}
 use Rattle.card_laws.proofs.Facts.{accepted}
+use Rattle.card_laws.proofs.JoinedLaws.{joined}
 use Rattle.card_laws.proofs.OrderLaws.{by-positions, by-ids}
 use Rattle.card_laws.proofs.Verdicts.{exactly}
 use Rattle.table.specs.Distances.{absent, pierced, leaving, listed, chained}
@@ -149,28 +147,9 @@ apart s a b ha hb = record {
 
 -- ---- pairs
 
-module _ (s : List ℕ) (fine : checkOf s ≡ Fine) where
-  has-before : (q : ℕ) → q < pairsOf s → Has s (beforeIdOf s q) (getD (pairsOn s) (2 * q) 0)
-  has-before q h =
-      let named = accepted s fine .before-named q h in
-      subst (Has s (beforeIdOf s q)) (sym (seat-before s (pairsOf s) q h))
-      (record { is-contour = named .is-contour; same = named .same-id })
-
-  has-after : (q : ℕ) → q < pairsOf s → Has s (afterIdOf s q) (getD (pairsOn s) (2 * q + 1) 0)
-  has-after q h =
-      let named = accepted s fine .after-named q h in
-      subst (Has s (afterIdOf s q)) (sym (seat-after s (pairsOf s) q h))
-      (record { is-contour = named .is-contour; same = named .same-id })
-
-  pairs : Paired s
-  unfolding chartOn
-  pairs = record {
-    read = refl;
-    all = seats-length s (pairsOf s);
-    before = has-before;
-    after = has-after;
-    equal-ids = accepted s fine .ids-differ;
-  }
+pairs : (s : List ℕ) → checkOf s ≡ Fine → Paired s
+unfolding chartOn
+pairs s fine = record { read = refl; all = (_, joined s fine); equal-ids = accepted s fine .ids-differ }
 
 -- ---- trials
 

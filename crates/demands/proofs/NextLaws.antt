@@ -15,12 +15,15 @@ use Rattle.answer.specs.declared.Point.{Point}
 use Rattle.answer.specs.declared.Check.the-variants.{Fine}
 use Rattle.points.specs.Distance.{distanceOf}
 use Rattle.points.proofs.SizeLaws.{Plus, Near, distance-plus}
-use Rattle.closure.specs.Pairs.{Pair, paired, every}
+use Rattle.closure.specs.Pairs.{paired}
 use Rattle.closure.proofs.PairLaws.{same-or}
-use Rattle.fields.specs.Layout.{contoursOf, pairsOf}
+use Rattle.closure.proofs.PathLaws.{every-is, every-at}
+use Rattle.fields.specs.Layout.{contoursOf}
 use Rattle.card.specs.Names.{pairsOn}
 use Rattle.card.specs.Verdict.{checkOf}
-use Rattle.card.proofs.NameLaws.{seats-length}
+use Rattle.card_laws.specs.Table.{No, Row9, Row10, Past10, Precedes}
+use Rattle.card_laws.proofs.LinkLaws.{listed-precedes, precedes-listed}
+use Rattle.card_laws.proofs.Verdicts.{exactly}
 use Rattle.card_laws.proofs.Facts.{accepted}
 use Rattle.table.specs.Evaluate.{homeAt, distanceAt}
 use Rattle.table.specs.Each.{each}
@@ -80,36 +83,6 @@ and-right : (a b : Bool) → (a && b) ≡ true → b ≡ true
 and-right true b e = e
 and-right false b e = absurd (true≢false (sym e))
 
--- a pair of a flat list by its number
-abbrev pairAt : List ℕ → ℕ → Pair
-pairAt l q = record { before = getD l (2 * q) 0; after = getD l (2 * q + 1) 0 }
-
--- the pairs after the first
-pair-next : (b a : ℕ) (l : List ℕ) (q : ℕ) → pairAt (b ∷ a ∷ l) (suc q) ≡ pairAt l q
-pair-next b a l q =
-    let e : 2 * suc q ≡ suc (suc (2 * q)) = omega arith in
-    let f : 2 * suc q + 1 ≡ suc (suc (2 * q + 1)) = omega arith in
-    rw (f, e)
-
-every-pair : (test : Pair → Bool) (l : List ℕ) → every test (paired l) ≡ true → (q : ℕ) → 2 * q + 1 < length l
-    → test (pairAt l q) ≡ true
-unfolding every paired
-every-pair test [] e q h = absurd (omega arith)
-every-pair test (b ∷ []) e q h = absurd (omega arith)
-every-pair test (b ∷ (a ∷ l)) e zero h = and-left (test (pairAt (b ∷ a ∷ l) 0)) _ e
-every-pair test (b ∷ (a ∷ l)) e (suc q) h =
-    ap test (pair-next b a l q)
-    ∙ every-pair test l (and-right (test (pairAt (b ∷ a ∷ l) 0)) _ e) q (omega arith)
-
-pair-every : (test : Pair → Bool) (l : List ℕ) → ((q : ℕ) → 2 * q + 1 < length l → test (pairAt l q) ≡ true)
-    → every test (paired l) ≡ true
-unfolding every paired
-pair-every test [] h = refl
-pair-every test (b ∷ []) h = refl
-pair-every test (b ∷ (a ∷ l)) h =
-    rw (h 0 (omega arith))
-    (pair-every test l (λ q m. sym (ap test (pair-next b a l q)) ∙ h (suc q) (omega arith)))
-
 module _ (s : List ℕ) (w : Way) where
   reach-by : (a : ℕ) (l : List ℕ) → Float
   reach-by a l =
@@ -131,45 +104,46 @@ module _ (s : List ℕ) (w : Way) where
   from-visited : (k : ℕ) → Visited w k → isIn k (w .visited) ≡ true
   from-visited k v = somewhere-in k (w .visited) (v .step) (v .made) (v .is-there)
 
-  open-free : (k : ℕ) → isOpen (groundOn s) w k ≡ true → Free s w k
-  unfolding chartOn isOpen
-  open-free k e = record {
-    not-yet = λ v. absurd (not-both (isIn k (w .visited)) (from-visited k v) (and-left _ _ e));
-    cleared = λ q h f.
-        to-visited _ (clear (eqb (getD (pairsOn s) (2 * q + 1) 0) k) _ (eq-eqb _ k f)
-        (every-pair (clears w k) (pairsOn s) (and-right (not (isIn k (w .visited))) _ e) q
-        (omega (arith, seats-length s (pairsOf s)))));
-  }
-    where
-      not-both : (b : Bool) → b ≡ true → not b ≡ true → ⊥
-      not-both true p q = true≢false (sym q)
-      not-both false p q = true≢false (sym p)
+  -- a contour is open exactly if it is free, once ids are unique and every pair's ids are known
+  module _ (unique : No (Row9 s)) (named : No (Row10 s)) (k : ℕ) where
+    open-free : isOpen (groundOn s) w k ≡ true → Free s w k
+    unfolding chartOn isOpen
+    open-free e = record {
+      not-yet = λ v. absurd (not-both (isIn k (w .visited)) (from-visited k v) (and-left _ _ e));
+      cleared = λ i b.
+          to-visited i (clear (eqb k k) _ (eq-eqb k k refl)
+          (every-at (clears w k) (paired (pairsOn s)) i k (and-right (not (isIn k (w .visited))) _ e)
+          (precedes-listed s unique named i k b)));
+    }
+      where
+        not-both : (b : Bool) → b ≡ true → not b ≡ true → ⊥
+        not-both true p q = true≢false (sym q)
+        not-both false p q = true≢false (sym p)
 
-      clear : (b c : Bool) → b ≡ true → (not b || c) ≡ true → c ≡ true
-      clear true c p q = q
-      clear false c p q = absurd (true≢false (sym p))
+        clear : (b c : Bool) → b ≡ true → (not b || c) ≡ true → c ≡ true
+        clear true c p q = q
+        clear false c p q = absurd (true≢false (sym p))
 
-  free-open : (k : ℕ) → Free s w k → isOpen (groundOn s) w k ≡ true
-  unfolding chartOn isOpen
-  free-open k free =
-      rw (unvisited (isIn k (w .visited)) refl) (pair-every (clears w k) (pairsOn s) (λ q h.
-      clear q (omega (arith, seats-length s (pairsOf s))) (eqb (getD (pairsOn s) (2 * q + 1) 0) k) refl))
-    where
-      unvisited : (b : Bool) → isIn k (w .visited) ≡ b → isIn k (w .visited) ≡ false
-      unvisited true e = absurd (free .not-yet (to-visited k e))
-      unvisited false e = e
+    free-open : Free s w k → isOpen (groundOn s) w k ≡ true
+    unfolding chartOn isOpen
+    free-open free =
+        rw (unvisited (isIn k (w .visited)) refl) (every-is (clears w k) (paired (pairsOn s)) (λ i j t.
+        clear i j (listed-precedes s unique named i j t) (eqb j k) refl))
+      where
+        unvisited : (b : Bool) → isIn k (w .visited) ≡ b → isIn k (w .visited) ≡ false
+        unvisited true e = absurd (free .not-yet (to-visited k e))
+        unvisited false e = e
 
-      clear : (q : ℕ) → q < pairsOf s → (b : Bool) → eqb (getD (pairsOn s) (2 * q + 1) 0) k ≡ b
-          → (not b || isIn (getD (pairsOn s) (2 * q) 0) (w .visited)) ≡ true
-      clear q h true e = from-visited _ (free .cleared q h (eqb-true _ k e))
-      clear q h false e = refl
+        clear : (i j : ℕ) → Precedes s i j → (b : Bool) → eqb j k ≡ b → (not b || isIn i (w .visited)) ≡ true
+        clear i j p true e = from-visited i (free .cleared i (subst (Precedes s i) (eqb-true j k e) p))
+        clear i j p false e = refl
 
-  looks : Looks s w
+  looks : checkOf s ≡ Fine → Looks s w
   unfolding chartOn reachOf reach-by
-  looks = record {
+  looks fine = let past : Past10 s = exactly s .fine-only fine .0 .0 in record {
     from-home = λ a e. ap (reach-by a) e;
     from-last = λ front b a e. ap (reach-by a) e ∙ reach-last front b a;
-    open-so = λ k. (open-free k, free-open k);
+    open-so = λ k. (open-free (past .0 .1) (past .1) k, free-open (past .0 .1) (past .1) k);
   }
 
 -- ---- the steps
@@ -339,4 +313,4 @@ module _ (s : List ℕ) (fine : checkOf s ≡ Fine) where
 
   pub starts : Starts s
   unfolding each
-  starts = record { sets-out = refl; looks = looks s; steps = steps; whole = whole }
+  starts = record { sets-out = refl; looks = λ w. looks s w fine; steps = steps; whole = whole }

@@ -24,11 +24,12 @@ use Rattle.candidates.specs.declared.Candidate.{Candidate}
 use Rattle.candidates.specs.Direction.{directionOf}
 use Rattle.candidates.specs.Generate.{candidatesOf}
 use Rattle.keep.specs.Legal.{EachOnce}
-use Rattle.fields.specs.Layout.{contoursOf, pairsOf, passesOf, moveLimitOf, idOf, beforeIdOf, afterIdOf}
+use Rattle.fields.specs.Layout.{contoursOf, passesOf, moveLimitOf, idOf}
 use Rattle.card.specs.Names.{pairsOn}
 use Rattle.card_laws.specs.Card.{cardOf, contourOf}
-use Rattle.card_laws.specs.Table.{Has}
+use Rattle.card_laws.specs.Table.{Precedes}
 use Rattle.card_laws.specs.Orders.{LegalOrder}
+use Rattle.card_laws.specs.Joined.{Joined}
 use Rattle.table.specs.Evaluate.{homeAt, distanceAt}
 use Rattle.table.specs.Distances.{absent, pierced, leaving, listed, chained}
 use Rattle.table.specs.Each.{each}
@@ -98,14 +99,12 @@ pub record Apart (s : List ℕ) (a b : ℕ) : Type 0 where
 
 -- ---- pairs
 
--- what the search reads of the pairs are two positions for each, before and after: those of the contours that have the
--- ids on the card (Has s id k: k is a contour, and that is its id). No two contours have one id, so contours and
--- positions with equal ids are the same
+-- what the search reads of the pairs is one list, two positions a pair, before and after: for each written pair those of
+-- the contours that have its ids on the card (Has s id k: k is a contour, and that is its id), then those by rule. No two
+-- contours have one id, so contours and positions with equal ids are the same
 pub record Paired (s : List ℕ) : Type 0 where
   pub read : chartOn s .pairs ≡ pairsOn s
-  pub all : length (pairsOn s) ≡ 2 * pairsOf s
-  pub before : (q : ℕ) → q < pairsOf s → Has s (beforeIdOf s q) (getD (pairsOn s) (2 * q) 0)
-  pub after : (q : ℕ) → q < pairsOf s → Has s (afterIdOf s q) (getD (pairsOn s) (2 * q + 1) 0)
+  pub all : (rules : ℕ) × Joined s rules
   pub equal-ids : (j k : ℕ) → j < contoursOf s → k < contoursOf s → idOf s j ≡ idOf s k → j ≡ k
 
 -- ---- the start
@@ -128,10 +127,10 @@ pub record Visited (w : Way) (k : ℕ) : Type 0 where
   pub made : step < length (w .visited)
   pub is-there : getD (w .visited) step 0 ≡ k
 
--- contour k is not visited, and whatever a pair puts before it is
+-- contour k is not visited, and whatever goes before it, by a written pair or by rule, is
 pub record Free (s : List ℕ) (w : Way) (k : ℕ) : Type 0 where
   pub not-yet : Visited w k → ⊥
-  pub cleared : (q : ℕ) → q < pairsOf s → getD (pairsOn s) (2 * q + 1) 0 ≡ k → Visited w (getD (pairsOn s) (2 * q) 0)
+  pub cleared : (i : ℕ) → Precedes s i k → Visited w i
 
 -- what a step looks at: how far each candidate is, from home at first and then from the last one; and which contours
 -- are open

@@ -1,7 +1,9 @@
 -- Where each field of a card stands, on any bytes: s is the card, k a contour, j a vertex, q a pair, each from 0.
 -- Assumes nothing.
+use mathlib.Core.Bool.{Bool, cond}
 use mathlib.Core.List.{List}
 use Prim.Native.Nat.{ℕ, _+_, _*_, _/_, _%_}
+use lib.Dec.{eqb}
 use lib.ListN.{length}
 use Rattle.block.specs.Field.{byteAt, u16At, u32At}
 use Rattle.block.specs.Block.{blockBytes}
@@ -27,6 +29,22 @@ vertexSize = 16
 
 abbrev pub pairSize : ℕ
 pairSize = 16
+
+-- where a version 2 contour's last eight bytes begin in its payload: its part, and which copy of the part it is
+abbrev pub partOffset : ℕ
+partOffset = 492
+
+abbrev pub copyOffset : ℕ
+copyOffset = partOffset + 4
+
+-- ---- the version: block 0's is the card's
+
+abbrev pub versionOf : List ℕ → ℕ
+versionOf s = byteAt s 1
+
+-- whether contours have a part and a copy: those of version 2
+abbrev pub hasParts : List ℕ → Bool
+hasParts s = eqb (versionOf s) 2
 
 -- ---- the head
 
@@ -74,6 +92,13 @@ typeOf s k = byteAt s (payload (k + 1) + 10)
 
 abbrev pub fillerOf : List ℕ → ℕ → ℕ
 fillerOf s k = byteAt s (payload (k + 1) + 11)
+
+-- the part that contour k belongs to, 0 for none, and which copy of that part; version 1 has neither and reads as 0
+abbrev pub partOf : List ℕ → ℕ → ℕ
+partOf s k = cond (hasParts s) (u32At s (payload (k + 1) + partOffset)) 0
+
+abbrev pub copyOf : List ℕ → ℕ → ℕ
+copyOf s k = cond (hasParts s) (u32At s (payload (k + 1) + copyOffset)) 0
 
 -- a vertex: its x, and 8 bytes on its y
 abbrev pub vertexOffset : ℕ → ℕ → ℕ

@@ -4,7 +4,7 @@ ghost use mathlib.Core.Path.{_≡_};
 ghost use Prim.Native.Nat.{_+_, _<_, min};
 ghost use lib.ListN.{length};
 ghost use Rattle.block.specs.Field.{byteAt, u32At};
-ghost use Rattle.fields.specs.Layout.{payload, jobOf, contoursOf, pairsOf, perContourOf, passesOf, moveLimitOf, homeOffset, exteriorOf, interiorOf, pairSize, idOf, tagOf, vertexCountOf, typeOf, vertexOffset, pairOffset, beforeIdOf, beforeTagOf, afterIdOf, afterTagOf};
+ghost use Rattle.fields.specs.Layout.{payload, versionOf, hasParts, jobOf, contoursOf, pairsOf, perContourOf, passesOf, moveLimitOf, homeOffset, exteriorOf, interiorOf, pairSize, idOf, tagOf, vertexCountOf, typeOf, partOf, copyOf, vertexOffset, pairOffset, beforeIdOf, beforeTagOf, afterIdOf, afterTagOf};
 ghost use Rattle.fields.specs.Values.{asType, asPreference, pointAt};
 use answer::ContourType;
 use answer::CutDirectionPreference;
@@ -33,7 +33,9 @@ pub const PAYLOAD_AT: usize = 8;
 
 // ---- where each field stands, and how many bytes the fields take
 
-// The head's fields, from the card's beginning.
+// The version, from the card's beginning, and so the head's fields.
+pub const VERSION_AT: usize = 1;
+
 pub const JOB_AT: usize = PAYLOAD_AT;
 
 pub const CONTOURS_AT: usize = PAYLOAD_AT + 4;
@@ -67,6 +69,11 @@ pub const FILLER_AT: usize = 11;
 
 pub const CONTOUR_SIZE: usize = 12;
 
+// Behind the vertices, in version 2: the last eight bytes of the payload.
+pub const PART_AT: usize = 492;
+
+pub const COPY_AT: usize = PART_AT + 4;
+
 // A vertex's y, from its x; likewise home's.
 pub const Y_AT: usize = 8;
 
@@ -82,6 +89,22 @@ pub const AFTER_ID_AT: usize = 8;
 pub const AFTER_TAG_AT: usize = 12;
 
 pub const PAIR_SIZE: usize = 16;
+
+// ---- the version
+
+// The version of a card: its first block's.
+pub fn version(card: &[u8]) -> u8
+    ensures { λ r. ⌜ r ≡ versionOf (now (card .entry)) ⌝ }
+{
+    block::byte_at(card, VERSION_AT)
+}
+
+// Whether its contours have a part and a copy.
+pub fn has_parts(card: &[u8]) -> bool
+    ensures { λ r. ⌜ r ≡ hasParts (now (card .entry)) ⌝ }
+{
+    version(card) == 2
+}
 
 // ---- the head
 
@@ -263,6 +286,26 @@ pub fn contour_type(card: &[u8], k: usize) -> ContourType
         return ContourType::Exterior;
     }
     ContourType::Interior
+}
+
+// The part that contour k belongs to: 0 for none, and in version 1.
+pub fn part(card: &[u8], k: usize) -> u32
+    ensures { λ r. ⌜ r ≡ partOf (now (card .entry)) k ⌝ }
+{
+    if has_parts(card) {
+        return contour_u32(card, k, PART_AT);
+    }
+    0
+}
+
+// Which copy of its part contour k is in; 0 in version 1.
+pub fn copy(card: &[u8], k: usize) -> u32
+    ensures { λ r. ⌜ r ≡ copyOf (now (card .entry)) k ⌝ }
+{
+    if has_parts(card) {
+        return contour_u32(card, k, COPY_AT);
+    }
+    0
 }
 
 // Vertex j of contour k.

@@ -9,6 +9,7 @@ use lib.ListN.{length, take, drop, length-take}
 use lib.Seq.{take-at, drop-length}
 use lib.Ieee.{Float}
 use borrow.Author.Tests.{le-leb, le-ltb}
+use Rattle.answer.specs.declared.Found.the-variants.{Absent}
 use Rattle.answer.specs.declared.Check.the-variants.{Fine}
 use Rattle.answer.specs.declared.Point.{Point}
 use Rattle.candidates.specs.declared.Candidate.{Candidate}
@@ -16,12 +17,12 @@ use Rattle.closure.specs.Limits.{contourLimit, pairLimit}
 use Rattle.fields.specs.Limits.{candidateLimit}
 use Rattle.fields.specs.Layout.{contoursOf, pairsOf}
 use Rattle.card.specs.declared.Named.{Named}
-use Rattle.card.specs.Names.{namedPairs, namedOf, pairsOn}
+use Rattle.card.specs.Names.{pairsOn, namedAs, namedOf}
 use Rattle.card.specs.Stages.{nameFault}
 use Rattle.answer.specs.Lowest.{refuseAt}
 use Rattle.answer.proofs.StageLaws.{is-fine}
-use Rattle.card.proofs.GroupLaws.{named-stopped, named-seats, named-whole, named-within}
-use Rattle.card.proofs.NameLaws.{seats-length}
+use Rattle.card.proofs.GroupLaws.{fine-absent}
+use Rattle.card.proofs.NameLaws.{named-front, named-whole, named-within}
 use Rattle.card.specs.Verdict.{stagesOf, checkOf}
 use Rattle.card_laws.proofs.Facts.{accepted}
 use Rattle.table.specs.Distances.{homed, tabled, homesOf, distancesOf}
@@ -112,14 +113,14 @@ pairs-on : (s : List ℕ) → checkOf s ≡ Fine → Front (namedOf s .count) (n
 unfolding namedOf checkOf
 pairs-on s fine =
     let a = accepted s fine in
-    let n : namedOf s ≡ namedPairs s =
-    rw (le-ltb contourLimit (contoursOf s) (a .few-contours), le-ltb pairLimit (pairsOf s) (a .few-pairs)) in
     let ten : refuseAt 10 (nameFault s) ≡ Fine = is-fine (stagesOf s) fine 10 (lit< tt) in
-    let known = ap (refuseAt 10) (named-stopped s (namedOf s) n) ∙ ten in
+    let known : nameFault s ≡ Absent = fine-absent 10 (nameFault s) ten in
+    let all : namedOf s ≡ namedAs Absent (pairsOn s) =
+    rw (le-ltb contourLimit (contoursOf s) (a .few-contours), le-ltb pairLimit (pairsOf s) (a .few-pairs), known) in
     record {
-      front = named-seats s (namedOf s) n refl known;
-      whole = named-whole s (namedOf s) n refl known;
-      within = named-within s (namedOf s) n refl known;
+      front = named-front Absent (pairsOn s) all;
+      whole = named-whole Absent (pairsOn s) all;
+      within = named-within Absent (pairsOn s) all;
     }
 
 -- each part of what is prepared of an accepted card

@@ -12,7 +12,7 @@ use Rattle.card_laws.specs.Card.{Card, Contour}
 use Rattle.card_laws.specs.Table.{Past11}
 use Rattle.card_laws.specs.Orders.{RefusedWith}
 use Rattle.card_laws.specs.Write.{written}
-use Rattle.card_laws.specs.Examples.{waits, job41, waiting}
+use Rattle.card_laws.specs.Examples.{partless, waits, job41, waiting}
 use Rattle.tour.specs.declared.Toured.the-variants.{Done}
 use Rattle.tour.specs.Search.{outcomeOn}
 use Rattle.tour.specs.Tour.{tourOf}
@@ -27,12 +27,13 @@ at x y = record { x = ofBits binary64 x; y = ofBits binary64 y }
 
 -- a square with two opposite corners
 abbrev pub boxed : ℕ → ℕ → ℕ → ℕ → ℕ → Contour
-boxed id x y u v = record { id = id; tag = 10 * id; kind = Exterior; vertices = at x y ∷ at u y ∷ at u v ∷ at x v ∷ [] }
+boxed id x y u v = partless id (10 * id) Exterior (at x y ∷ at u y ∷ at u v ∷ at x v ∷ [])
 
 -- three squares, two candidates each, the first before the second, and a limit of two trials
 abbrev pub limited : Card
 limited =
     record {
+      version = 1;
       job = 42;
       per-contour = 2;
       passes = 10;

@@ -28,6 +28,7 @@ use Rattle.witnesses.specs.Taken.{mm, on, along, afterOn, OtherTaken}
 abbrev pub slit : Card
 slit =
     record {
+      version = 1;
       job = 45;
       per-contour = 3;
       passes = 10;

@@ -13,7 +13,7 @@ use Rattle.answer.specs.declared.CutDirectionPreference.the-variants.{Auto}
 use Rattle.answer.specs.declared.Point.{Point}
 use Rattle.card_laws.specs.Card.{Card, Contour}
 use Rattle.card_laws.specs.Write.{written}
-use Rattle.card_laws.specs.Examples.{waits}
+use Rattle.card_laws.specs.Examples.{partless, waits}
 use Rattle.improve.specs.Search.{Chart, State, lengthIn, legal, shorter, reversed, fresh}
 use Rattle.instance.specs.Search.{chartOn}
 use Rattle.tour.specs.Search.{startOn, tourOn, outcomeOn}
@@ -34,13 +34,14 @@ on x = record { x = mm x; y = mm 0 }
 
 -- a contour on that line
 abbrev pub along : ℕ → List Point → Contour
-along id vertices = record { id = id; tag = 10 * id; kind = Exterior; vertices = vertices }
+along id = partless id (10 * id) Exterior
 
 -- home at 5; a slit from 2 to 10, whose ends are candidates 0 and 1, one from 1 to 8, candidates 2 and 3, and a dot at
 -- 9, candidate 4; the first slit before the second; and a move limit
 abbrev pub aligned : ℕ → Card
 aligned limit =
     record {
+      version = 1;
       job = 43;
       per-contour = 2;
       passes = 10;
@@ -56,6 +57,7 @@ aligned limit =
 abbrev pub bound : Card
 bound =
     record {
+      version = 1;
       job = 44;
       per-contour = 1;
       passes = 10;
