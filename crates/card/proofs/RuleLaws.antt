@@ -1,6 +1,6 @@
 -- The pairs by rule one contour at a time, behind the written ones. Assumes nothing.
 use mathlib.Core.Path.{_≡_, refl, sym, ap, _∙_}
-use mathlib.Core.Bool.{true, false}
+use mathlib.Core.Bool.{Bool, true, false}
 use mathlib.Core.List.{List, [], _∷_, _++_, append-assoc, append-nil}
 use Prim.Native.Nat.{ℕ, zero, suc, _+_, _*_, _≤_, _<_}
 use native.Mathlib.Numerals.{add-one}
@@ -10,6 +10,7 @@ use Rattle.answer.specs.declared.Found.{Found}
 use Rattle.answer.specs.declared.Found.the-variants.{At, Absent}
 use Rattle.answer.specs.Lowest.{lowest}
 use Rattle.answer.specs.Room.{padded}
+use Rattle.answer.proofs.LowestLaws.{is-at}
 use Rattle.answer.proofs.RoomLaws.{padded-two}
 use Rattle.closure.specs.Limits.{contourLimit, pairLimit}
 use Rattle.fields.specs.Layout.{contoursOf, pairsOf}
@@ -105,3 +106,29 @@ module _ (s : List ℕ) (k : ℕ) where
   pub joined-pair : (f : Found) (j : ℕ) → f ≡ outlineOf s k → f ≡ At j
       → joinedTo s k ++ (k ∷ j ∷ []) ≡ joinedTo s (k + 1)
   joined-pair f j is e = sym (joined-more ∙ ap (λ (g : Found). joinedTo s k ++ rulePair k g) (sym is ∙ e))
+
+-- an outline is a contour
+pub outline-below : (s : List ℕ) (k j : ℕ) (f : Found) → f ≡ outlineOf s k → f ≡ At j → j < contoursOf s
+unfolding outlineOf
+outline-below s k j f is e = go (isHole s k) refl
+  where
+    go : (b : Bool) → isHole s k ≡ b → j < contoursOf s
+    go true hole = is-at (isOutline s k) (contoursOf s) j (rw hole at (sym is ∙ e)) .within
+    go false hole =
+        let none : _≡_ {A = Found} Absent (At j) = rw hole at (sym is ∙ e) in
+        let z : _≡_ {A = ℕ} 0 1 = cc in
+        absurd (omega arith)
+
+-- ---- one more pair written to the places
+
+module _ (s p : List ℕ) (k j count : ℕ) (f : Found) (is : f ≡ outlineOf s k) (e : f ≡ At j)
+    (filled : p ≡ padded seatLimit 0 (joinedTo s k)) (counted : count ≡ length (joinedTo s k)) where
+  pub joined-places : count + 1 < seatLimit
+      → set (set p count k) (count + 1) j ≡ padded seatLimit 0 (joinedTo s (k + 1))
+  joined-places h =
+      rw (filled, ← joined-pair s k f j is e) (padded-two seatLimit 0 (joinedTo s k) k j count (sym counted) h)
+
+  pub joined-count : count + 2 ≡ length (joinedTo s (k + 1))
+  joined-count =
+      let more = length-append (joinedTo s k) (k ∷ j ∷ []) in
+      ap (λ (c : ℕ). c + 2) counted ∙ sym more ∙ ap length (joined-pair s k f j is e)

@@ -28,6 +28,5 @@ rulePair k Absent = []
 
 -- the pairs by rule of the first so many contours, as positions, before and after in turn
 unfoldable pub rulesOf : List ℕ → ℕ → List ℕ
-unfolding outlineOf
 rulesOf s zero = []
 rulesOf s (suc k) = rulesOf s k ++ rulePair k (outlineOf s k)

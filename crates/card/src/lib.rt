@@ -446,7 +446,8 @@ pub fn pair_places(card: &[u8]) -> Named
         };
     }
     let named = named_pairs(card);
-    match named.stopped {
+    let stopped = named.stopped;
+    match stopped {
         Found::At(_) => named,
         Found::Absent => join_rules(card, named),
     }

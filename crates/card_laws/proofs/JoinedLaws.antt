@@ -51,23 +51,19 @@ module _ (s l : List ℕ) (c k : ℕ) (to : RuledTo s l c k) where
 
   -- one that does
   module _ (j : ℕ) (one : outlineOf s k ≡ At j) where
-    more : List ℕ
+    abbrev more : List ℕ
     more = l ++ (k ∷ j ∷ [])
 
     earlier : (a : ℕ) → a < 2 * c → getD more a 0 ≡ getD l a 0
-    unfolding more
     earlier a h = List·getD-append l (k ∷ j ∷ []) 0 a (omega (arith, to .whole))
 
     last-first : firstAt more c ≡ k
-    unfolding more
     last-first = ap (λ (a : ℕ). getD more a 0) (sym (to .whole) ∙ omega arith) ∙ getD-append-add l (k ∷ j ∷ []) 0 0
 
     last-second : secondAt more c ≡ j
-    unfolding more
     last-second = rw (← to .whole) (getD-append-add l (k ∷ j ∷ []) 1 0)
 
     ruled-more : RuledTo s more (c + 1) (suc k)
-    unfolding more
     ruled-more = record {
       whole = omega (arith, length-append l (k ∷ j ∷ []), to .whole);
       own = λ r h. own r (eq-or-lt-of-le (le-of-suc-le-suc (plus r h)));
@@ -117,12 +113,11 @@ ruled s (suc k) = go (outlineOf s k) refl (ruled s k)
 -- ---- behind the written ones
 
 module _ (s : List ℕ) where
-  rules : List ℕ
+  abbrev rules : List ℕ
   rules = rulesOf s (contoursOf s)
 
   -- what is read behind the written pairs is read of those by rule
   behind : (a : ℕ) → getD (pairsOn s) (2 * pairsOf s + a) 0 ≡ getD rules a 0
-  unfolding rules
   behind a = rw (← seats-length s (pairsOf s)) (getD-append-add (writtenOn s) rules a 0)
 
   first-behind : (r : ℕ) → firstAt (pairsOn s) (pairsOf s + r) ≡ firstAt rules r
@@ -141,7 +136,6 @@ module _ (s : List ℕ) where
   ahead a h = List·getD-append (writtenOn s) (rulesOf s (contoursOf s)) 0 a (omega (arith, seats-length s (pairsOf s)))
 
 pub joined : (s : List ℕ) → checkOf s ≡ Fine → Joined s (rulesIn s (contoursOf s))
-unfolding rules
 joined s fine =
     let to = ruled s (contoursOf s) in
     record {

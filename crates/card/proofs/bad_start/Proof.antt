@@ -4,7 +4,13 @@ use Rattle.card.proofs.bad_start.Statement.{statement}
 use Rattle.card.proofs.bad_start.Tie as tie
 
 returns : tie.Need-returns
-returns c = rw (← c .before .kind-due .ensures, c .starts-as .ensures)
+returns c = let k = c .before in
+    let v = k .before in
+    rw (← v .before .version .ensures, ← k .kind-due .ensures, c .starts-as .ensures, v .is-known .ensures)
 
 pub bad-start-spec : {M : Type 1} → statement M
-bad-start-spec = tie.close (tie.spec (λ c. search needs) (λ c κs. search needs) (λ c κs. search needs) returns)
+bad-start-spec =
+    tie.close
+    (tie.spec
+    (λ c κs. search needs) (λ c κs. search needs) (λ c. search needs) (λ c κs. search needs) (λ c κs. search needs)
+    returns)

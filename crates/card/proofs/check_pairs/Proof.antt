@@ -1,7 +1,9 @@
 -- `card::check_pairs` meets its contract. Assumes nothing.
+use mathlib.Core.Path.{sym, _∙_}
 use denote.Ref.{now}
 use borrow.Author.Needs.{needs}
-use Rattle.card.proofs.GroupLaws.{stops-at, goes-past, named-stopped, named-seats, named-whole, named-within}
+use Rattle.card.proofs.GroupLaws.{stops-at, goes-past, fine-absent}
+use Rattle.card.proofs.NameLaws.{named-stopped, all-named}
 use Rattle.card.proofs.check_pairs.Statement.{statement}
 use Rattle.card.proofs.check_pairs.Tie as tie
 
@@ -14,29 +16,15 @@ returns c = let r = c .before .before in
     let s = now (n .before .before .args .card) in
     stops-at 10 (r .refused-at .ensures) (named-stopped s _ (n .named-pairs .ensures)) _ (c .enum-told2 .given .1)
 
-array-share-prefix-positions : tie.Need-array-share-prefix-positions
-array-share-prefix-positions c = let t = c .before in
-    let r = t .before .before in
-    let n = r .before in
-    named-within (now (n .before .before .args .card)) _ (n .named-pairs .ensures) (r .refused-at .ensures)
-    (t .enum-told .given .1)
-
-slice-aggregate-check-seats : tie.Need-slice-aggregate-check-seats
-slice-aggregate-check-seats c = let t = c .before .before in
-    let r = t .before .before in
-    let n = r .before in
-    named-whole (now (n .before .before .args .card)) _ (n .named-pairs .ensures) (r .refused-at .ensures)
-    (t .enum-told .given .1)
-
 check-seats-requires : tie.Need-check-seats-requires
-check-seats-requires c κs = let t = c .before .before in
-    let r = t .before .before in
+check-seats-requires c κs = let r = c .before .before in
     let n = r .before in
-    named-seats (now (n .before .before .args .card)) _ (n .named-pairs .ensures) (r .refused-at .ensures)
-    (t .enum-told .given .1)
+    let st = n .before .before in
+    all-named (now (st .args .card)) _ (st .pre .0) (st .pre .1) (n .named-pairs .ensures)
+    (fine-absent 10 _ (sym (r .refused-at .ensures) ∙ c .enum-told .given .1))
 
 returns-2 : tie.Need-returns-2
-returns-2 c = let t = c .before .before .before in
+returns-2 c = let t = c .before in
     let r = t .before .before in
     let n = r .before in
     let s = now (n .before .before .args .card) in
@@ -51,7 +39,5 @@ check-pairs-spec =
     enum-told
     (λ c. search needs)
     returns
-    array-share-prefix-positions
-    slice-aggregate-check-seats
     check-seats-requires
     returns-2)

@@ -1,15 +1,14 @@
 -- `card::named_pairs` meets its contract. Assumes nothing.
 use mathlib.Core.Path.{_≡_}
-use Prim.Native.Nat.{_*_, _≤_, _-_}
+use Prim.Native.Nat.{_≤_, _-_}
 use native.Mathlib.Omega.{arith}
 use denote.Ref.{now}
 use borrow.Author.Needs.{needs}
 use Rattle.answer.specs.Room.{padded}
 use Rattle.answer.proofs.LowestLaws.{Nowhere}
-use Rattle.closure.specs.Limits.{pairLimit}
 use Rattle.fields.specs.Layout.{pairsOf}
 use Rattle.card.specs.Stages.{unnamed}
-use Rattle.card.specs.Names.{seatsOf}
+use Rattle.card.specs.Names.{seatsOf, seatLimit}
 use Rattle.card.proofs.LoopLaws.{none-yet, one-more}
 use Rattle.card.proofs.NameLaws.{position-below, first-unknown, second-unknown, both-known, before-is, after-is}
 use Rattle.card.proofs.NameLaws.{places-none, places-more, named-until, named-all}
@@ -18,7 +17,7 @@ use Rattle.card.proofs.named_pairs.Tie as tie
 
 abbrev Inv-loop : tie.InvT-loop
 Inv-loop card m positions₀ q₀ positions q =
-    (m ≡ pairsOf card) × (q ≤ m) × Nowhere (unnamed card) q × (positions ≡ padded (2 * pairLimit) 0 (seatsOf card q))
+    (m ≡ pairsOf card) × (q ≤ m) × Nowhere (unnamed card) q × (positions ≡ padded seatLimit 0 (seatsOf card q))
 
 abbrev μ-loop : tie.MeasureT-loop
 μ-loop card m positions₀ q₀ positions q = m - q
