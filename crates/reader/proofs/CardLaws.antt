@@ -1,22 +1,24 @@
 -- A card's head, a contour and a pair, walked in file order, are what `fields` reads of them. Assumes nothing.
 use mathlib.Core.Path.{_≡_, refl, ap, _∙_}
+use mathlib.Core.Bool.{true, false}
 use mathlib.Core.List.{List}
 use Prim.Native.Nat.{ℕ, zero, suc, _+_, _*_, min}
 use native.Mathlib.Omega.{arith}
 use lib.ListN.{length}
 use Rattle.block.specs.Field.{u64At}
 use Rattle.fields.specs.Limits.{vertexLimit}
-use Rattle.fields.specs.Layout.{payload, vertexCountOf, vertexOffset, pairOffset}
+use Rattle.fields.specs.Layout.{payload, hasParts, vertexCountOf, vertexOffset, partOffset, copyOffset, pairOffset}
 use Rattle.reader.specs.declared.Width.the-variants.{One, Two, Four, Eight}
 use Rattle.reader.specs.declared.Field.{Field}
 use Rattle.reader.specs.declared.Walked.{Walked}
 use Rattle.reader.specs.declared.Head.{Head}
 use Rattle.reader.specs.declared.ContourHead.{ContourHead}
+use Rattle.reader.specs.declared.Group.{Group}
 use Rattle.reader.specs.declared.Contour.{Contour}
 use Rattle.reader.specs.declared.Pair.{Pair}
 use Rattle.reader.specs.Fields.{fieldAt}
 use Rattle.reader.specs.Walk.{walk, eights, fourFrom}
-use Rattle.reader.specs.OnCard.{headOf, contourHead, coordinatesFrom, filled, contourRead, pairRead}
+use Rattle.reader.specs.OnCard.{headOf, contourHead, coordinatesFrom, filled, groupOf, contourRead, pairRead}
 use Rattle.reader.proofs.WalkLaws.{cut-value, read-at, read-cut, read-on, read-four}
 
 -- ---- the head
@@ -94,10 +96,28 @@ module _ (s : List ℕ) (k place : ℕ) (four : Walked) (filler : Field) where
       let after : filler .after ≡ min (vertexOffset k 0) (length s) = r₁ .after-is ∙ omega arith in
       rw (r₀ .first-is, r₀ .second-is, r₀ .third-is, r₀ .fourth-is, r₁ .value-is, after)
 
--- a contour: its fields before the vertices, then the vertices
-module _ (s : List ℕ) (k count : ℕ) (head : ContourHead) (coordinates : List ℕ) where
+-- the part and the copy in version 2: two fields behind the vertices
+module _ (s : List ℕ) (k place : ℕ) (part copy : Field) where
+  pub group-is : hasParts s ≡ true → place ≡ min (payload (k + 1) + partOffset) (length s)
+      → part ≡ fieldAt s place Four → copy ≡ fieldAt s (part .after) Four
+      → _≡_ {A = Group} (record { part = part .value; copy = copy .value }) (groupOf s k)
+  unfolding groupOf
+  group-is has cut e₀ e₁ =
+      let p = payload (k + 1) in
+      let r₀ = read-cut s (p + partOffset) place Four part cut e₀ in
+      let r₁ = read-on s (p + partOffset) (p + copyOffset) Four Four part copy (omega arith) r₀ e₁ in
+      rw (has, r₀ .value-is, r₁ .value-is)
+
+-- in version 1: neither
+pub no-group : (s : List ℕ) (k : ℕ) → hasParts s ≡ false
+    → _≡_ {A = Group} (record { part = 0; copy = 0 }) (groupOf s k)
+unfolding groupOf
+no-group s k has = rw has
+
+-- a contour: its fields before the vertices, the vertices, then its part and its copy
+module _ (s : List ℕ) (k count : ℕ) (head : ContourHead) (coordinates : List ℕ) (group : Group) where
   pub contour-is : head ≡ contourHead s k → count ≡ 2 * min (head .vertices) vertexLimit
-      → coordinates ≡ filled (walk s (head .after) (eights count))
+      → coordinates ≡ filled (walk s (head .after) (eights count)) → group ≡ groupOf s k
       → _≡_ {A = Contour} (record {
         id = head .id;
         tag = head .tag;
@@ -105,13 +125,15 @@ module _ (s : List ℕ) (k count : ℕ) (head : ContourHead) (coordinates : List
         kind = head .kind;
         filler = head .filler;
         coordinates = coordinates;
+        part = group .part;
+        copy = group .copy;
       }) (contourRead s k)
-  unfolding contourRead contourHead
-  contour-is e n f =
+  unfolding contourRead contourHead groupOf
+  contour-is e n f g =
       let v = min (vertexCountOf s k) vertexLimit in
       let all : coordinates ≡ filled (coordinatesFrom s k 0 v) =
       f ∙ rw (n, e) (ap filled (vertices-walked s k 0 v (min (vertexOffset k 0) (length s)) refl)) in
-      rw (e, all)
+      rw (e, all, g)
 
 -- ---- a pair
 

@@ -1,19 +1,16 @@
 -- The claims hold: a walk in file order gives what `card` reads. Assumes nothing.
 use mathlib.Core.Path.{_≡_, refl, sym, ap, _∙_}
-use mathlib.Core.List.{_∷_}
 use Prim.Native.Nat.{ℕ, _+_, _*_, min}
 use native.Mathlib.Nat.{add-zero}
 use native.Mathlib.Omega.{arith}
 use lib.ListN.{length}
 use Rattle.block.specs.Field.{f64At}
-use Rattle.fields.specs.Layout.{payload, vertexOffset, pairOffset}
+use Rattle.fields.specs.Layout.{payload, vertexOffset, partOffset, copyOffset, pairOffset}
 use Rattle.fields.specs.Values.{pointAt}
 use Rattle.reader.specs.declared.Width.the-variants.{One, Two, Four, Eight}
-use Rattle.reader.specs.declared.ContourHead.{ContourHead}
-use Rattle.reader.specs.Fields.{fieldAt}
 use Rattle.reader.specs.Walk.{walk, eights}
 use Rattle.reader.specs.OnCard.{headOf, contourWidths, pairRead, pairWidths}
-use Rattle.reader.specs.Claims.{HeadInOrder, ContourInOrder, PairInOrder, PointOfBits}
+use Rattle.reader.specs.Claims.{HeadInOrder, ContourInOrder, PartInOrder, PairInOrder, PointOfBits}
 use Rattle.reader.proofs.WalkLaws.{walk-cut, walk-on, walk-last}
 use Rattle.reader.proofs.CardLaws.{vertices-walked}
 
@@ -48,6 +45,11 @@ contour-in-order s k v =
       ← walk-cut s (p + 12) (eights (2 * v)),
       vertices-walked s k 0 v (min (p + 12) (length s)) (omega arith),
     )
+
+pub part-in-order : PartInOrder
+part-in-order s k has =
+    let p = payload (k + 1) in
+    rw (has, walk-on s p partOffset Four _, walk-last s (p + copyOffset) Four)
 
 pub pair-in-order : PairInOrder
 unfolding pairRead

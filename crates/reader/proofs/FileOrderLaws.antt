@@ -1,18 +1,20 @@
 -- A whole card: what the reader answers is one walk over it, which never goes back. Assumes nothing.
 use mathlib.Core.Path.{_≡_, refl, sym, ap, _∙_}
-use mathlib.Core.List.{List, [], _∷_, _++_, append-assoc}
+use mathlib.Core.Bool.{Bool, true, false}
+use mathlib.Core.List.{List, [], _∷_, _++_, append-assoc, append-nil}
 use Prim.Native.Nat.{ℕ, zero, suc, _+_, _*_, _-_, _≤_, min}
 use native.Mathlib.Omega.{arith}
 use lib.ListN.{length, take, replicate}
 use lib.Seq.{take-append-seam}
 use Rattle.fields.specs.Limits.{vertexLimit}
-use Rattle.fields.specs.Layout.{payload, contoursOf, pairsOf, vertexCountOf, pairOffset}
+use Rattle.fields.specs.Layout.{payload, hasParts, contoursOf, pairsOf, vertexCountOf, partOffset, pairOffset}
 use Rattle.reader.specs.Walk.{walk, eights}
 use Rattle.reader.specs.OnCard.{contourRead, coordinatesFrom, filled, contourWidths}
-use Rattle.reader.specs.FileOrder.{Stretch, contourStretches, pairStretches, cardStretches, walkAll, bytesIn}
-use Rattle.reader.specs.FileOrder.{Forward, contourList, contoursRead, pairsRead, cardRead}
+use Rattle.reader.specs.FileOrder.{Stretch, groupStretches, contourStretches, pairStretches, cardStretches}
+use Rattle.reader.specs.FileOrder.{walkAll, bytesIn, Forward, groupList, contourList, contoursRead, pairsRead}
+use Rattle.reader.specs.FileOrder.{cardRead}
 use Rattle.reader.specs.Claims.{CardInOrder, CardForward}
-use Rattle.reader.proofs.ClaimsHold.{head-in-order, contour-in-order, pair-in-order}
+use Rattle.reader.proofs.ClaimsHold.{head-in-order, contour-in-order, part-in-order, pair-in-order}
 
 -- ---- what is answered
 
@@ -35,17 +37,30 @@ coordinates-taken s k v =
     let l = coordinatesFrom s k 0 v in
     rw (← coordinates-length s k 0 v) (take-append-seam l (replicate (2 * vertexLimit - length l) 0))
 
+-- the part and the copy of a card that has them, and of one that has not
+group-answered : (s : List ℕ) (k : ℕ) (parts : Bool) → hasParts s ≡ parts
+    → walkAll s (groupStretches parts k) ≡ groupList parts (contourRead s k)
+unfolding walkAll groupStretches contourRead
+group-answered s k true has = append-nil _ ∙ part-in-order s k has
+group-answered s k false has = refl
+
 contour-answered : (s : List ℕ) (k : ℕ)
-    → walk s (payload (k + 1)) (contourWidths (min (vertexCountOf s k) vertexLimit)) ≡ contourList (contourRead s k)
+    → walk s (payload (k + 1)) (contourWidths (min (vertexCountOf s k) vertexLimit))
+    ++ walkAll s (groupStretches (hasParts s) k) ≡ contourList (hasParts s) (contourRead s k)
 unfolding contourRead
 contour-answered s k =
     let v = min (vertexCountOf s k) vertexLimit in
-    contour-in-order s k v ∙ rw (coordinates-taken s k v)
+    rw (contour-in-order s k v, group-answered s k (hasParts s) refl, coordinates-taken s k v)
 
 contours-walked : (s : List ℕ) (k n : ℕ) → walkAll s (contourStretches s k n) ≡ contoursRead s k n
 unfolding walkAll contourStretches contoursRead
 contours-walked s k zero = refl
-contours-walked s k (suc n) = rw (contour-answered s k, contours-walked s (suc k) n)
+contours-walked s k (suc n) =
+    let contour = walk s (payload (k + 1)) (contourWidths (min (vertexCountOf s k) vertexLimit)) in
+    let group = groupStretches (hasParts s) k in
+    let rest = contoursRead s (suc k) n in
+    rw (walk-all-append s group (contourStretches s (suc k) n), contours-walked s (suc k) n)
+    (sym (append-assoc contour (walkAll s group) rest) ∙ ap (λ (l : List ℕ). l ++ rest) (contour-answered s k))
 
 pairs-walked : (s : List ℕ) (q m : ℕ) → walkAll s (pairStretches s q m) ≡ pairsRead s q m
 unfolding walkAll pairStretches pairsRead
@@ -71,21 +86,32 @@ unfolding bytesIn
 eights-bytes zero = refl
 eights-bytes (suc n) = omega (arith, eights-bytes n)
 
--- a contour ends before the next block's payload
+-- a contour's vertices end before its part
 contour-ends : (k v : ℕ) → v ≤ vertexLimit
-    → payload (k + 1) + bytesIn (contourWidths v) ≤ payload (suc k + 1)
+    → payload (k + 1) + bytesIn (contourWidths v) ≤ payload (k + 1) + partOffset
 unfolding bytesIn
 contour-ends k v h = omega (arith, eights-bytes (2 * v))
+
+-- and its copy before the next block's payload
+forward-group : (parts : Bool) (k end : ℕ) (rest : List Stretch) → end ≤ payload (k + 1) + partOffset
+    → ((at : ℕ) → at ≤ payload (suc k + 1) → Forward at rest) → Forward end (groupStretches parts k ++ rest)
+unfolding groupStretches Forward
+forward-group true k end rest h on = (h, on (payload (k + 1) + partOffset + 8) (omega arith))
+forward-group false k end rest h on = on end (omega arith)
 
 forward-contours : (s : List ℕ) (k n end : ℕ) (rest : List Stretch) → end ≤ payload (k + 1)
     → ((at : ℕ) → at ≤ payload (k + n + 1) → Forward at rest) → Forward end (contourStretches s k n ++ rest)
 unfolding contourStretches Forward
 forward-contours s k zero end rest h on = on end (omega arith)
 forward-contours s k (suc n) end rest h on =
-    let v = min (vertexCountOf s k) vertexLimit in (
+    let v = min (vertexCountOf s k) vertexLimit in
+    let group = groupStretches (hasParts s) k in
+    let others = contourStretches s (suc k) n in (
       h,
-      forward-contours s (suc k) n (payload (k + 1) + bytesIn (contourWidths v)) rest (contour-ends k v (omega arith))
-          (λ at l. on at (omega arith)),
+      rw (append-assoc group others rest)
+          (forward-group (hasParts s) k (payload (k + 1) + bytesIn (contourWidths v)) (others ++ rest)
+          (contour-ends k v (omega arith))
+          (λ at l. forward-contours s (suc k) n at rest l (λ at′ l′. on at′ (omega arith)))),
     )
 
 -- a pair ends where the next begins, or before

@@ -1,16 +1,18 @@
 -- What is claimed of a walk: in file order it gives what `fields` reads, of the whole card too, on any bytes. Assumes
 -- nothing.
 use mathlib.Core.Path.{_≡_}
-use mathlib.Core.List.{List, _∷_}
+use mathlib.Core.Bool.{true}
+use mathlib.Core.List.{List, [], _∷_}
 use Prim.Native.Nat.{ℕ, _+_}
 use lib.Ieee.{binary64, ofBits}
 use Rattle.answer.specs.declared.Point.{Point}
 use Rattle.block.specs.Field.{u64At}
-use Rattle.fields.specs.Layout.{payload, idOf, tagOf, vertexCountOf, typeOf, fillerOf, pairOffset}
+use Rattle.fields.specs.Layout.{payload, hasParts, idOf, tagOf, vertexCountOf, typeOf, fillerOf, partOffset}
+use Rattle.fields.specs.Layout.{partOf, copyOf, pairOffset}
 use Rattle.fields.specs.Values.{pointAt}
 use Rattle.reader.specs.Walk.{walk}
 use Rattle.reader.specs.OnCard.{headOf, headWidths, headList, coordinatesFrom, contourWidths, pairRead}
-use Rattle.reader.specs.OnCard.{pairWidths}
+use Rattle.reader.specs.OnCard.{groupWidths, pairWidths}
 use Rattle.reader.specs.FileOrder.{cardStretches, walkAll, Forward, pairList, cardRead}
 
 -- the head
@@ -22,6 +24,11 @@ abbrev pub ContourInOrder : Type 0
 ContourInOrder = (s : List ℕ) (k v : ℕ)
     → walk s (payload (k + 1)) (contourWidths v) ≡ idOf s k ∷ tagOf s k ∷ vertexCountOf s k ∷ typeOf s k
     ∷ fillerOf s k ∷ coordinatesFrom s k 0 v
+
+-- its part and its copy, behind the vertices, in version 2
+abbrev pub PartInOrder : Type 0
+PartInOrder = (s : List ℕ) (k : ℕ) → hasParts s ≡ true
+    → walk s (payload (k + 1) + partOffset) groupWidths ≡ partOf s k ∷ copyOf s k ∷ []
 
 -- a pair
 abbrev pub PairInOrder : Type 0

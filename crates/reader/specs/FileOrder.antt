@@ -1,15 +1,17 @@
 -- A whole card's fields in the order of the file: the head's, then each contour's, then each pair's. Assumes nothing.
+use mathlib.Core.Bool.{Bool, cond}
 use mathlib.Core.List.{List, [], _∷_, _++_}
 use Prim.Native.Nat.{ℕ, zero, suc, _+_, _*_, _≤_, min}
 use lib.ListN.{take}
 use Rattle.fields.specs.Limits.{vertexLimit}
-use Rattle.fields.specs.Layout.{payload, contoursOf, pairsOf, vertexCountOf, pairOffset}
+use Rattle.fields.specs.Layout.{payload, hasParts, contoursOf, pairsOf, vertexCountOf, partOffset, pairOffset}
 use Rattle.reader.specs.declared.Width.{Width}
 use Rattle.reader.specs.declared.Contour.{Contour}
 use Rattle.reader.specs.declared.Pair.{Pair}
 use Rattle.reader.specs.Fields.{bytesOf}
 use Rattle.reader.specs.Walk.{walk}
-use Rattle.reader.specs.OnCard.{headOf, headList, headWidths, contourRead, contourWidths, pairRead, pairWidths}
+use Rattle.reader.specs.OnCard.{headOf, headList, headWidths, contourRead, contourWidths, groupWidths}
+use Rattle.reader.specs.OnCard.{pairRead, pairWidths}
 
 -- ---- where a walk goes
 
@@ -18,12 +20,17 @@ pub record Stretch : Type 0 where
   pub begins : ℕ
   pub widths : List Width
 
+-- contour k's part and copy, behind its vertices: one stretch where the card has them, in version 2, else none
+unfoldable pub groupStretches : Bool → ℕ → List Stretch
+groupStretches parts k = cond parts (record { begins = payload (k + 1) + partOffset; widths = groupWidths } ∷ []) []
+
 -- so many contours, from contour k on, each with its first vertices if it names more than a contour may have
 unfoldable pub contourStretches : List ℕ → ℕ → ℕ → List Stretch
+unfolding groupStretches
 contourStretches s k zero = []
 contourStretches s k (suc n) =
     record { begins = payload (k + 1); widths = contourWidths (min (vertexCountOf s k) vertexLimit) }
-    ∷ contourStretches s (suc k) n
+    ∷ (groupStretches (hasParts s) k ++ contourStretches s (suc k) n)
 
 -- so many pairs, from pair q on
 unfoldable pub pairStretches : List ℕ → ℕ → ℕ → List Stretch
@@ -57,10 +64,15 @@ Forward end (t ∷ ts) = (end ≤ t .begins) × Forward (t .begins + bytesIn (t 
 
 -- ---- what the reader answers, in that order
 
--- a contour's fields and the coordinates of the vertices that it has
-abbrev pub contourList : Contour → List ℕ
-contourList c =
-    c .id ∷ c .tag ∷ c .vertices ∷ c .kind ∷ c .filler ∷ take (2 * min (c .vertices) vertexLimit) (c .coordinates)
+-- the part and the copy, where the card has them
+abbrev pub groupList : Bool → Contour → List ℕ
+groupList parts c = cond parts (c .part ∷ c .copy ∷ []) []
+
+-- a contour's fields, the coordinates of the vertices that it has, and behind them the part and the copy
+abbrev pub contourList : Bool → Contour → List ℕ
+contourList parts c =
+    c .id ∷ c .tag ∷ c .vertices ∷ c .kind ∷ c .filler
+    ∷ (take (2 * min (c .vertices) vertexLimit) (c .coordinates) ++ groupList parts c)
 
 abbrev pub pairList : Pair → List ℕ
 pairList p = p .«before_id» ∷ p .«before_tag» ∷ p .«after_id» ∷ p .«after_tag» ∷ []
@@ -68,7 +80,7 @@ pairList p = p .«before_id» ∷ p .«before_tag» ∷ p .«after_id» ∷ p .�
 -- so many contours, from contour k on, and so many pairs, from pair q on
 unfoldable pub contoursRead : List ℕ → ℕ → ℕ → List ℕ
 contoursRead s k zero = []
-contoursRead s k (suc n) = contourList (contourRead s k) ++ contoursRead s (suc k) n
+contoursRead s k (suc n) = contourList (hasParts s) (contourRead s k) ++ contoursRead s (suc k) n
 
 unfoldable pub pairsRead : List ℕ → ℕ → ℕ → List ℕ
 pairsRead s q zero = []

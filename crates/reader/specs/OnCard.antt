@@ -6,12 +6,13 @@ use lib.ListN.{length, replicate}
 use Rattle.block.specs.Field.{u64At}
 use Rattle.fields.specs.Limits.{vertexLimit}
 use Rattle.fields.specs.Layout.{jobOf, contoursOf, pairsOf, perContourOf, passesOf, moveLimitOf, homeOffset, exteriorOf}
-use Rattle.fields.specs.Layout.{interiorOf, idOf, tagOf, vertexCountOf, typeOf, fillerOf, vertexOffset}
+use Rattle.fields.specs.Layout.{interiorOf, idOf, tagOf, vertexCountOf, typeOf, fillerOf, vertexOffset, partOf, copyOf}
 use Rattle.fields.specs.Layout.{beforeIdOf, beforeTagOf, afterIdOf, afterTagOf}
 use Rattle.reader.specs.declared.Width.{Width}
 use Rattle.reader.specs.declared.Width.the-variants.{One, Two, Four, Eight}
 use Rattle.reader.specs.declared.Head.{Head}
 use Rattle.reader.specs.declared.ContourHead.{ContourHead}
+use Rattle.reader.specs.declared.Group.{Group}
 use Rattle.reader.specs.declared.Contour.{Contour}
 use Rattle.reader.specs.declared.Pair.{Pair}
 use Rattle.reader.specs.Walk.{eights}
@@ -65,6 +66,10 @@ coordinatesFrom s k j (suc v) =
 unfoldable pub filled : List ℕ → List ℕ
 filled l = l ++ replicate (2 * vertexLimit - length l) 0
 
+-- the part and the copy of contour k
+unfoldable pub groupOf : List ℕ → ℕ → Group
+groupOf s k = record { part = partOf s k; copy = copyOf s k }
+
 -- contour k as it is read
 unfoldable pub contourRead : List ℕ → ℕ → Contour
 unfolding coordinatesFrom filled
@@ -75,11 +80,17 @@ contourRead s k = record {
   kind = typeOf s k;
   filler = fillerOf s k;
   coordinates = filled (coordinatesFrom s k 0 (min (vertexCountOf s k) vertexLimit));
+  part = partOf s k;
+  copy = copyOf s k;
 }
 
 -- the five fields, then two coordinates a vertex
 abbrev pub contourWidths : ℕ → List Width
 contourWidths v = Four ∷ Four ∷ Two ∷ One ∷ One ∷ eights (2 * v)
+
+-- the part and the copy, where the card has them
+abbrev pub groupWidths : List Width
+groupWidths = Four ∷ Four ∷ []
 
 -- ---- a pair
 

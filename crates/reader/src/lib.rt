@@ -7,7 +7,8 @@ ghost use lib.ListN.{length};
 ghost use Rattle.fields.specs.Limits.{vertexLimit};
 ghost use Rattle.reader.specs.Fields.{fieldAt};
 ghost use Rattle.reader.specs.Walk.{walk, eights, fourFrom};
-ghost use Rattle.reader.specs.OnCard.{filled, headOf, contourHead, contourRead, pairRead};
+ghost use Rattle.reader.specs.OnCard.{filled, headOf, contourHead, groupOf, contourRead, pairRead};
+use fields::PART_AT;
 use fields::PAYLOAD_AT;
 use fields::VERTICES;
 
@@ -186,7 +187,14 @@ pub struct ContourHead {
     pub after: usize,
 }
 
-// A contour: its fields, and its vertices' coordinates as bits, x and y in turn, those without a vertex zero.
+// The part that a contour belongs to, and which copy of that part.
+struct Group {
+    part: u64,
+    copy: u64,
+}
+
+// A contour: its fields, and its vertices' coordinates as bits, x and y in turn, those without a vertex zero; its part
+// and its copy, zero in version 1.
 pub struct Contour {
     pub id: u64,
     pub tag: u64,
@@ -194,6 +202,8 @@ pub struct Contour {
     pub kind: u64,
     pub filler: u64,
     pub coordinates: [u64; COORDINATES],
+    pub part: u64,
+    pub copy: u64,
 }
 
 // A pair: the id and the tag of the contour that comes before, and those of the one after it.
@@ -284,18 +294,38 @@ fn coordinates(card: &[u8], at: usize, count: usize) -> [u64; COORDINATES]
     read
 }
 
+// Contour k's part and copy, behind its vertices. Version 1 has neither: nothing is read.
+fn read_group(card: &[u8], k: usize) -> Group
+    ensures { λ r. ⌜ r ≡ groupOf (now (card .entry)) k ⌝ }
+{
+    if fields::has_parts(card) {
+        let at = fields::contour_offset(card, k, PART_AT);
+        let part = read_field(card, at, Width::Four);
+        let copy = read_field(card, part.after, Width::Four);
+        return Group {
+            part: part.value,
+            copy: copy.value,
+        };
+    }
+    Group { part: 0, copy: 0 }
+}
+
 // Contour k, with its first vertices if it names more than a contour may have.
 pub fn read_contour(card: &[u8], k: usize) -> Contour
     ensures { λ r. ⌜ r ≡ contourRead (now (card .entry)) k ⌝ }
 {
     let head = contour_head(card, k);
+    let corners = coordinates(card, head.after, kept(head.vertices));
+    let group = read_group(card, k);
     Contour {
         id: head.id,
         tag: head.tag,
         vertices: head.vertices,
         kind: head.kind,
         filler: head.filler,
-        coordinates: coordinates(card, head.after, kept(head.vertices)),
+        coordinates: corners,
+        part: group.part,
+        copy: group.copy,
     }
 }
 

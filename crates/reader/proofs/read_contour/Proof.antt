@@ -6,8 +6,13 @@ use Rattle.reader.proofs.read_contour.Tie as tie
 
 returns : tie.Need-returns
 returns c =
-    contour-is _ _ _ _ _ (c .before .before .contour-head .ensures) (c .before .kept .ensures) (c .coordinates .ensures)
+    let c₂ = c .before .before in
+    contour-is _ _ _ _ _ _ (c₂ .before .contour-head .ensures) (c₂ .kept .ensures) (c .before .coordinates .ensures)
+    (c .read-group .ensures)
 
 pub read-contour-spec : {M : Type 1} → statement M
 read-contour-spec =
-    tie.close (tie.spec (λ c κs. search needs) (λ c κs. search needs) (λ c κs. search needs) returns)
+    tie.close
+    (tie.spec
+    (λ c κs. search needs) (λ c κs. search needs) (λ c κs. search needs) (λ c κs. search needs)
+    returns)
