@@ -1,0 +1,52 @@
+-- A version 2 card whose contours have no part, and its twin: the same card of version 1. Assumes nothing.
+use mathlib.Core.Path.{_≡_}
+use mathlib.Core.List.{List}
+use Prim.Native.Nat.{ℕ, _+_, _*_, _≤_, _<_}
+use lib.ListN.{length}
+use lib.Ieee.{Float}
+use Rattle.answer.specs.declared.Check.the-variants.{Fine}
+use Rattle.block.specs.Field.{byteAt, u32At}
+use Rattle.block.specs.Block.{blockBytes, payloadBytes, checkOffset, checkAt}
+use Rattle.fields.specs.Layout.{blocksOf, payload, contoursOf, partOf, partOffset}
+use Rattle.card.specs.Verdict.{checkOf}
+use Rattle.instance.specs.Prepared.{preparedOf}
+use Rattle.tour.specs.Tour.{tourOf}
+use Rattle.list.specs.Lines.{listOf}
+
+-- byte p of block b is the version, one of the check or, in a contour's block, one of the part or the copy
+pub data Own (s : List ℕ) (b p : ℕ) : Type 0 where
+  of-version : p ≡ 1 → Own s b p
+  of-check : checkOffset ≤ p → Own s b p
+  of-part : 0 < b → b ≤ contoursOf s → 8 + partOffset ≤ p → Own s b p
+
+-- every check of a file is the one due
+abbrev pub Checked : List ℕ → Type 0
+Checked s = (b : ℕ) → b < blocksOf s → checkAt s (blockBytes * b) ≡ u32At s (blockBytes * b + checkOffset)
+
+-- every block of a file is of this version
+abbrev pub AllOf : ℕ → List ℕ → Type 0
+AllOf version s = (b : ℕ) → b < blocksOf s → byteAt s (blockBytes * b + 1) ≡ version
+
+-- s is of version 2 and no contour has a part; t is the same of version 1, with zeros for part and copy, each with the
+-- checks due
+pub record Twins (s t : List ℕ) : Type 0 where
+  pub some-block : 0 < blocksOf s
+  pub as-long : length t ≡ length s
+  pub shared : (b p : ℕ) → p < blockBytes → (Own s b p → ⊥)
+      → byteAt t (blockBytes * b + p) ≡ byteAt s (blockBytes * b + p)
+  pub two : AllOf 2 s
+  pub one : AllOf 1 t
+  pub checks : Checked s × Checked t
+  pub no-part : (k : ℕ) → k < contoursOf s → partOf s k ≡ 0
+  pub zeros : (k p : ℕ) → k < contoursOf s → partOffset ≤ p → p < payloadBytes → byteAt t (payload (k + 1) + p) ≡ 0
+
+-- what is answered of the one is answered of the other: the verdict, all that the doors read of a fine card, the tour and
+-- what is left in the rooms, the list
+pub record Alike (s t : List ℕ) : Type 0 where
+  pub verdict : checkOf s ≡ checkOf t
+  pub prepared : checkOf s ≡ Fine → preparedOf s ≡ preparedOf t
+  pub toured : (room : List ℕ) (table : List Float) → tourOf s room table ≡ tourOf t room table
+  pub printed : listOf s ≡ listOf t
+
+abbrev pub Claim : Type 0
+Claim = (s t : List ℕ) → Twins s t → Alike s t
