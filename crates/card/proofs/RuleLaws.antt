@@ -15,24 +15,24 @@ use Rattle.answer.proofs.RoomLaws.{padded-two}
 use Rattle.closure.specs.Limits.{contourLimit, pairLimit}
 use Rattle.fields.specs.Layout.{contoursOf, pairsOf}
 use Rattle.card.specs.declared.Named.{Named}
-use Rattle.card.specs.Rules.{isHole, isOutline, outlineOf, rulePair, rulesOf}
+use Rattle.card.specs.Rules.{isHole, encloses, enclosingOf, rulePair, rulesOf}
 use Rattle.card.specs.Names.{writtenOn, pairsOn, seatLimit, namedAs, AllNamed}
 use Rattle.card.proofs.NameLaws.{seats-length}
 
 -- ---- what one contour goes before
 
-pub no-hole : (s : List ℕ) (k : ℕ) → isHole s k ≡ false → Absent ≡ outlineOf s k
-unfolding outlineOf
+pub no-hole : (s : List ℕ) (k : ℕ) → isHole s k ≡ false → Absent ≡ enclosingOf s k
+unfolding enclosingOf
 no-hole s k e = rw e
 
-pub hole-before : (s : List ℕ) (k : ℕ) (f : Found) → isHole s k ≡ true → f ≡ lowest (isOutline s k) (contoursOf s)
-    → f ≡ outlineOf s k
-unfolding outlineOf
+pub hole-before : (s : List ℕ) (k : ℕ) (f : Found) → isHole s k ≡ true → f ≡ lowest (encloses s k) (contoursOf s)
+    → f ≡ enclosingOf s k
+unfolding enclosingOf
 hole-before s k f e is = rw e is
 
 -- ---- the first k contours
 
-pub rules-more : (s : List ℕ) (k : ℕ) → rulesOf s (k + 1) ≡ rulesOf s k ++ rulePair k (outlineOf s k)
+pub rules-more : (s : List ℕ) (k : ℕ) → rulesOf s (k + 1) ≡ rulesOf s k ++ rulePair k (enclosingOf s k)
 unfolding rulesOf
 rules-more s k = rw (add-one k)
 
@@ -52,7 +52,7 @@ at-most-one Absent = omega arith
 -- how many of the first k contours go before another
 unfoldable pub rulesIn : List ℕ → ℕ → ℕ
 rulesIn s zero = 0
-rulesIn s (suc k) = rulesIn s k + ruleCount (outlineOf s k)
+rulesIn s (suc k) = rulesIn s k + ruleCount (enclosingOf s k)
 
 pub rules-whole : (s : List ℕ) (k : ℕ) → length (rulesOf s k) ≡ 2 * rulesIn s k
 unfolding rulesOf rulesIn
@@ -60,15 +60,15 @@ rules-whole s zero = refl
 rules-whole s (suc k) =
     omega (
       arith,
-      length-append (rulesOf s k) (rulePair k (outlineOf s k)),
-      pair-length k (outlineOf s k),
+      length-append (rulesOf s k) (rulePair k (enclosingOf s k)),
+      pair-length k (enclosingOf s k),
       rules-whole s k,
     )
 
 rules-few : (s : List ℕ) (k : ℕ) → rulesIn s k ≤ k
 unfolding rulesIn
 rules-few s zero = omega arith
-rules-few s (suc k) = omega (arith, at-most-one (outlineOf s k), rules-few s k)
+rules-few s (suc k) = omega (arith, at-most-one (enclosingOf s k), rules-few s k)
 
 -- ---- behind the written pairs
 
@@ -93,27 +93,27 @@ joined-room s k n m h =
     )
 
 module _ (s : List ℕ) (k : ℕ) where
-  joined-more : joinedTo s (k + 1) ≡ joinedTo s k ++ rulePair k (outlineOf s k)
+  joined-more : joinedTo s (k + 1) ≡ joinedTo s k ++ rulePair k (enclosingOf s k)
   joined-more = ap (λ (l : List ℕ). writtenOn s ++ l) (rules-more s k)
-      ∙ sym (append-assoc (writtenOn s) (rulesOf s k) (rulePair k (outlineOf s k)))
+      ∙ sym (append-assoc (writtenOn s) (rulesOf s k) (rulePair k (enclosingOf s k)))
 
   -- a contour that goes before none adds none
-  pub joined-same : (f : Found) → f ≡ outlineOf s k → f ≡ Absent → joinedTo s k ≡ joinedTo s (k + 1)
+  pub joined-same : (f : Found) → f ≡ enclosingOf s k → f ≡ Absent → joinedTo s k ≡ joinedTo s (k + 1)
   joined-same f is e =
       sym (joined-more ∙ ap (λ (g : Found). joinedTo s k ++ rulePair k g) (sym is ∙ e) ∙ append-nil (joinedTo s k))
 
   -- one that does adds its pair
-  pub joined-pair : (f : Found) (j : ℕ) → f ≡ outlineOf s k → f ≡ At j
+  pub joined-pair : (f : Found) (j : ℕ) → f ≡ enclosingOf s k → f ≡ At j
       → joinedTo s k ++ (k ∷ j ∷ []) ≡ joinedTo s (k + 1)
   joined-pair f j is e = sym (joined-more ∙ ap (λ (g : Found). joinedTo s k ++ rulePair k g) (sym is ∙ e))
 
--- an outline is a contour
-pub outline-below : (s : List ℕ) (k j : ℕ) (f : Found) → f ≡ outlineOf s k → f ≡ At j → j < contoursOf s
-unfolding outlineOf
-outline-below s k j f is e = go (isHole s k) refl
+-- what is found is a contour
+pub enclosing-below : (s : List ℕ) (k j : ℕ) (f : Found) → f ≡ enclosingOf s k → f ≡ At j → j < contoursOf s
+unfolding enclosingOf
+enclosing-below s k j f is e = go (isHole s k) refl
   where
     go : (b : Bool) → isHole s k ≡ b → j < contoursOf s
-    go true hole = is-at (isOutline s k) (contoursOf s) j (rw hole at (sym is ∙ e)) .within
+    go true hole = is-at (encloses s k) (contoursOf s) j (rw hole at (sym is ∙ e)) .within
     go false hole =
         let none : _≡_ {A = Found} Absent (At j) = rw hole at (sym is ∙ e) in
         let z : _≡_ {A = ℕ} 0 1 = cc in
@@ -121,7 +121,7 @@ outline-below s k j f is e = go (isHole s k) refl
 
 -- ---- one more pair written to the places
 
-module _ (s p : List ℕ) (k j count : ℕ) (f : Found) (is : f ≡ outlineOf s k) (e : f ≡ At j)
+module _ (s p : List ℕ) (k j count : ℕ) (f : Found) (is : f ≡ enclosingOf s k) (e : f ≡ At j)
     (filled : p ≡ padded seatLimit 0 (joinedTo s k)) (counted : count ≡ length (joinedTo s k)) where
   pub joined-places : count + 1 < seatLimit
       → set (set p count k) (count + 1) j ≡ padded seatLimit 0 (joinedTo s (k + 1))

@@ -13,13 +13,13 @@ abbrev pub isHole : List ℕ → ℕ → Bool
 isHole s k = eqb (typeOf s k) 1 && not (eqb (partOf s k) 0)
 
 -- contour j is an exterior with contour k's part and copy
-abbrev pub isOutline : List ℕ → ℕ → ℕ → Bool
-isOutline s k j = eqb (typeOf s j) 0 && (eqb (partOf s j) (partOf s k) && eqb (copyOf s j) (copyOf s k))
+abbrev pub encloses : List ℕ → ℕ → ℕ → Bool
+encloses s k j = eqb (typeOf s j) 0 && (eqb (partOf s j) (partOf s k) && eqb (copyOf s j) (copyOf s k))
 
 -- what contour k goes before by rule: a hole before the first such exterior in file order
-unfoldable pub outlineOf : List ℕ → ℕ → Found
+unfoldable pub enclosingOf : List ℕ → ℕ → Found
 unfolding lowest
-outlineOf s k = cond (isHole s k) (lowest (isOutline s k) (contoursOf s)) Absent
+enclosingOf s k = cond (isHole s k) (lowest (encloses s k) (contoursOf s)) Absent
 
 -- a contour and what it goes before; nothing where there is none
 abbrev pub rulePair : ℕ → Found → List ℕ
@@ -29,4 +29,4 @@ rulePair k Absent = []
 -- the pairs by rule of the first so many contours, as positions, before and after in turn
 unfoldable pub rulesOf : List ℕ → ℕ → List ℕ
 rulesOf s zero = []
-rulesOf s (suc k) = rulesOf s k ++ rulePair k (outlineOf s k)
+rulesOf s (suc k) = rulesOf s k ++ rulePair k (enclosingOf s k)

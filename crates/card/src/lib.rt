@@ -11,7 +11,7 @@ ghost use Rattle.answer.specs.Stage.{firstRefusal};
 ghost use Rattle.closure.specs.Limits.{contourLimit, pairLimit};
 ghost use Rattle.fields.specs.Layout.{contoursOf, pairsOf};
 ghost use Rattle.card.specs.Stages.{lengthFault, kindDue, isVersion, badStart, headFaults, headFault, countFault, badContour, usedIn, spareEnd, badSpare, tooFar, farPoint, farVertex, farPlace, isAt, seekOf, repeats, positionOf, tagFault, faultAt};
-ghost use Rattle.card.specs.Rules.{isHole, isOutline, outlineOf};
+ghost use Rattle.card.specs.Rules.{isHole, encloses, enclosingOf};
 ghost use Rattle.card.specs.Names.{writtenOn, pairsOn, namedAs, namedPairs, AllNamed, namedOf};
 ghost use Rattle.card.specs.Verdict.{cycleFault, cardStages, seatStages, pairStages, checkOf};
 use answer::Check;
@@ -382,8 +382,8 @@ fn is_hole(card: &[u8], k: usize) -> bool
 }
 
 // Whether contour j is an exterior with contour k's part and copy.
-fn is_outline(card: &[u8], k: usize, j: usize) -> bool
-    ensures { λ r. ⌜ r ≡ isOutline (now (card .entry)) k j ⌝ }
+fn encloses(card: &[u8], k: usize, j: usize) -> bool
+    ensures { λ r. ⌜ r ≡ encloses (now (card .entry)) k j ⌝ }
 {
     (fields::contour_byte(card, j, TYPE_AT) == 0)
         & ((fields::part(card, j) == fields::part(card, k))
@@ -391,8 +391,8 @@ fn is_outline(card: &[u8], k: usize, j: usize) -> bool
 }
 
 // What contour k goes before by rule: a hole before the first such exterior.
-fn outline_of(card: &[u8], k: usize) -> Found
-    ensures { λ r. ⌜ r ≡ outlineOf (now (card .entry)) k ⌝ }
+fn enclosing_of(card: &[u8], k: usize) -> Found
+    ensures { λ r. ⌜ r ≡ enclosingOf (now (card .entry)) k ⌝ }
 {
     if !is_hole(card, k) {
         return Found::Absent;
@@ -400,7 +400,7 @@ fn outline_of(card: &[u8], k: usize) -> Found
     let n = fields::contours(card);
     let mut j: usize = 0;
     while j < n {
-        if is_outline(card, k, j) {
+        if encloses(card, k, j) {
             return Found::At(j);
         }
         j += 1;
@@ -418,7 +418,7 @@ fn join_rules(card: &[u8], named: Named) -> Named
     let mut count = named.count;
     let mut k: usize = 0;
     while k < n {
-        let Found::At(j) = outline_of(card, k) else {
+        let Found::At(j) = enclosing_of(card, k) else {
             k += 1;
             continue;
         };

@@ -14,27 +14,27 @@ use Rattle.answer.specs.declared.Found.{Found}
 use Rattle.answer.specs.declared.Found.the-variants.{At, Absent}
 use Rattle.answer.specs.declared.Check.the-variants.{Fine}
 use Rattle.fields.specs.Layout.{versionOf, contoursOf, pairsOf, typeOf, partOf, beforeIdOf, afterIdOf}
-use Rattle.card.specs.Rules.{isHole, outlineOf, rulePair, rulesOf}
+use Rattle.card.specs.Rules.{isHole, enclosingOf, rulePair, rulesOf}
 use Rattle.card.specs.Names.{writtenOn, pairsOn}
 use Rattle.card.specs.Verdict.{checkOf}
 use Rattle.card.proofs.NameLaws.{seats-length, seat-before, seat-after}
 use Rattle.card.proofs.RuleLaws.{no-hole, ruleCount, rulesIn, rules-whole}
 use Rattle.card_laws.specs.Table.{Has, ByRule}
 use Rattle.card_laws.specs.Joined.{firstAt, secondAt, Joined, Unruled}
-use Rattle.card_laws.proofs.RuleLaws.{outline-rule, rule-outline}
+use Rattle.card_laws.proofs.RuleLaws.{enclosing-rule, rule-enclosing}
 use Rattle.card_laws.proofs.Facts.{accepted}
 
 -- ---- the pairs by rule of the first k contours: c pairs in a list
 
 record RuledTo (s l : List ℕ) (c k : ℕ) : Type 0 where
   whole : length l ≡ 2 * c
-  own : (r : ℕ) → r < c → (firstAt l r < k) × (outlineOf s (firstAt l r) ≡ At (secondAt l r))
+  own : (r : ℕ) → r < c → (firstAt l r < k) × (enclosingOf s (firstAt l r) ≡ At (secondAt l r))
   rising : (r : ℕ) → suc r < c → firstAt l r < firstAt l (suc r)
-  each : (i j : ℕ) → i < k → outlineOf s i ≡ At j → (r : ℕ) × (r < c) × (firstAt l r ≡ i)
+  each : (i j : ℕ) → i < k → enclosingOf s i ≡ At j → (r : ℕ) × (r < c) × (firstAt l r ≡ i)
 
 module _ (s l : List ℕ) (c k : ℕ) (to : RuledTo s l c k) where
   -- a contour that goes before none
-  ruled-same : outlineOf s k ≡ Absent → RuledTo s l c (suc k)
+  ruled-same : enclosingOf s k ≡ Absent → RuledTo s l c (suc k)
   ruled-same none = record {
     whole = to .whole;
     own = λ r h. (omega (arith, to .own r h .0), to .own r h .1);
@@ -42,15 +42,15 @@ module _ (s l : List ℕ) (c k : ℕ) (to : RuledTo s l c k) where
     each = λ i j h e. find i j e (eq-or-lt-of-le (le-of-suc-le-suc h));
   }
     where
-      find : (i j : ℕ) → outlineOf s i ≡ At j → (i ≡ k) ⊎ (i < k) → (r : ℕ) × (r < c) × (firstAt l r ≡ i)
+      find : (i j : ℕ) → enclosingOf s i ≡ At j → (i ≡ k) ⊎ (i < k) → (r : ℕ) × (r < c) × (firstAt l r ≡ i)
       find i j e (inl f) =
-          let z : Absent ≡ At j = sym none ∙ ap (outlineOf s) (sym f) ∙ e in
+          let z : Absent ≡ At j = sym none ∙ ap (enclosingOf s) (sym f) ∙ e in
           let y : _≡_ {A = ℕ} 0 1 = cc in
           absurd (omega arith)
       find i j e (inr g) = to .each i j g e
 
   -- one that does
-  module _ (j : ℕ) (one : outlineOf s k ≡ At j) where
+  module _ (j : ℕ) (one : enclosingOf s k ≡ At j) where
     abbrev more : List ℕ
     more = l ++ (k ∷ j ∷ [])
 
@@ -74,9 +74,9 @@ module _ (s l : List ℕ) (c k : ℕ) (to : RuledTo s l c k) where
         plus : (r : ℕ) → r < c + 1 → r < suc c
         plus r h = omega arith
 
-        own : (r : ℕ) → (r ≡ c) ⊎ (r < c) → (firstAt more r < suc k) × (outlineOf s (firstAt more r) ≡ At (secondAt more r))
+        own : (r : ℕ) → (r ≡ c) ⊎ (r < c) → (firstAt more r < suc k) × (enclosingOf s (firstAt more r) ≡ At (secondAt more r))
         own r (inl e) = subst
-            (λ (x : ℕ). (firstAt more x < suc k) × (outlineOf s (firstAt more x) ≡ At (secondAt more x))) (sym e)
+            (λ (x : ℕ). (firstAt more x < suc k) × (enclosingOf s (firstAt more x) ≡ At (secondAt more x))) (sym e)
             (rw (last-first, last-second) (omega arith, one))
         own r (inr h) =
             rw (earlier (2 * r) (omega arith), earlier (2 * r + 1) (omega arith))
@@ -88,7 +88,7 @@ module _ (s l : List ℕ) (c k : ℕ) (to : RuledTo s l c k) where
         rising r (inr h) =
             rw (earlier (2 * r) (omega arith), earlier (2 * suc r) (omega arith)) (to .rising r h)
 
-        find : (i m : ℕ) → outlineOf s i ≡ At m → (i ≡ k) ⊎ (i < k) → (r : ℕ) × (r < c + 1) × (firstAt more r ≡ i)
+        find : (i m : ℕ) → enclosingOf s i ≡ At m → (i ≡ k) ⊎ (i < k) → (r : ℕ) × (r < c + 1) × (firstAt more r ≡ i)
         find i m e (inl f) = (c, omega arith, last-first ∙ sym f)
         find i m e (inr g) =
             let at = to .each i m g e in
@@ -102,10 +102,10 @@ ruled s zero = record {
   rising = λ r h. absurd (not-suc-le-zero h);
   each = λ i j h e. absurd (not-suc-le-zero h);
 }
-ruled s (suc k) = go (outlineOf s k) refl (ruled s k)
+ruled s (suc k) = go (enclosingOf s k) refl (ruled s k)
   where
-    go : (f : Found) → outlineOf s k ≡ f → RuledTo s (rulesOf s k) (rulesIn s k) k
-        → RuledTo s (rulesOf s k ++ rulePair k (outlineOf s k)) (rulesIn s k + ruleCount (outlineOf s k)) (suc k)
+    go : (f : Found) → enclosingOf s k ≡ f → RuledTo s (rulesOf s k) (rulesIn s k) k
+        → RuledTo s (rulesOf s k ++ rulePair k (enclosingOf s k)) (rulesIn s k + ruleCount (enclosingOf s k)) (suc k)
     go (At j) e to = rw e (ruled-more s (rulesOf s k) (rulesIn s k) k to j e)
     go Absent e to =
         rw (e, append-nil (rulesOf s k), add-zero (rulesIn s k)) (ruled-same s (rulesOf s k) (rulesIn s k) k to e)
@@ -154,10 +154,10 @@ joined s fine =
           subst (Has s (afterIdOf s q)) (sym (ahead s (2 * q + 1) (omega arith) ∙ seat-after s (pairsOf s) q h))
           (record { is-contour = named .is-contour; same = named .same-id });
       by-rule = λ r h.
-          rw (first-behind s r, second-behind s r) (outline-rule s _ _ (to .own r h .0) (to .own r h .1));
+          rw (first-behind s r, second-behind s r) (enclosing-rule s _ _ (to .own r h .0) (to .own r h .1));
       in-order = λ r h. rw (first-behind s r, first-behind s (suc r)) (to .rising r h);
       each = λ i j b.
-          let at = to .each i j (b .is-contour) (rule-outline s i j b) in
+          let at = to .each i j (b .is-contour) (rule-enclosing s i j b) in
           (at .0, at .1, first-behind s (at .0) ∙ at .2);
     }
 

@@ -19,13 +19,13 @@ use Rattle.closure.specs.Pairs.{Pair, paired, every, someOf, isPair, both}
 use Rattle.closure.proofs.PathLaws.{every-is, linked-pair, pair-linked}
 use Rattle.fields.specs.Layout.{contoursOf, pairsOf, beforeIdOf, afterIdOf}
 use Rattle.card.specs.Stages.{beforeOf, afterOf}
-use Rattle.card.specs.Rules.{outlineOf, rulePair, rulesOf}
+use Rattle.card.specs.Rules.{enclosingOf, rulePair, rulesOf}
 use Rattle.card.specs.Names.{seatsOf, writtenOn, pairsOn}
 use Rattle.card.proofs.NameLaws.{seats-length}
 use Rattle.card.proofs.RuleLaws.{rules-whole}
 use Rattle.card_laws.specs.Table.{Row9, Row10, No, Has, Precedes, written, by-rule}
 use Rattle.card_laws.proofs.PairRows.{same-contour, before-has, after-has}
-use Rattle.card_laws.proofs.RuleLaws.{outline-rule, rule-outline}
+use Rattle.card_laws.proofs.RuleLaws.{enclosing-rule, rule-enclosing}
 
 -- ---- the pairs of two flat lists, one behind the other
 
@@ -115,34 +115,34 @@ module _ (s : List ℕ) (i j : ℕ) where
       go (inr h) earlier =
           inl (earlier (record { pair = b .pair; is-pair = h; first = b .first; second = b .second }))
 
-  found-rule : (m : ℕ) → Lists i j (rulesOf s m) → (i < m) × (outlineOf s i ≡ At j)
+  found-rule : (m : ℕ) → Lists i j (rulesOf s m) → (i < m) × (enclosingOf s i ≡ At j)
   unfolding someOf paired rulesOf
   found-rule zero e = absurd (true-false {b = false} e refl)
   found-rule (suc m) e =
-      go (in-either i j (rulesOf s m) (rulePair m (outlineOf s m)) _ (rules-whole s m) e) (found-rule m)
+      go (in-either i j (rulesOf s m) (rulePair m (enclosingOf s m)) _ (rules-whole s m) e) (found-rule m)
     where
-      own : (f : Found) → outlineOf s m ≡ f → Lists i j (rulePair m f) → (i < suc m) × (outlineOf s i ≡ At j)
+      own : (f : Found) → enclosingOf s m ≡ f → Lists i j (rulePair m f) → (i < suc m) × (enclosingOf s i ≡ At j)
       own (At k) f t =
           let last = only-pair i j m k t in
-          (omega (arith, last .0), ap (outlineOf s) (sym (last .0)) ∙ f ∙ ap At (last .1))
+          (omega (arith, last .0), ap (enclosingOf s) (sym (last .0)) ∙ f ∙ ap At (last .1))
       own Absent f t = absurd (true-false {b = false} t refl)
 
-      go : Lists i j (rulesOf s m) ⊎ Lists i j (rulePair m (outlineOf s m))
-          → (Lists i j (rulesOf s m) → (i < m) × (outlineOf s i ≡ At j)) → (i < suc m) × (outlineOf s i ≡ At j)
+      go : Lists i j (rulesOf s m) ⊎ Lists i j (rulePair m (enclosingOf s m))
+          → (Lists i j (rulesOf s m) → (i < m) × (enclosingOf s i ≡ At j)) → (i < suc m) × (enclosingOf s i ≡ At j)
       go (inl t) later = let b = later t in (omega (arith, b .0), b .1)
-      go (inr t) later = own (outlineOf s m) refl t
+      go (inr t) later = own (enclosingOf s m) refl t
 
-  rule-found : (m : ℕ) → i < m → outlineOf s i ≡ At j → Lists i j (rulesOf s m)
+  rule-found : (m : ℕ) → i < m → enclosingOf s i ≡ At j → Lists i j (rulesOf s m)
   unfolding rulesOf
   rule-found zero h e = absurd (not-suc-le-zero h)
   rule-found (suc m) h e =
-      from-either i j (rulesOf s m) (rulePair m (outlineOf s m)) _ (rules-whole s m)
+      from-either i j (rulesOf s m) (rulePair m (enclosingOf s m)) _ (rules-whole s m)
       (go (eq-or-lt-of-le (le-of-suc-le-suc h)) (rule-found m))
     where
-      go : (i ≡ m) ⊎ (i < m) → (i < m → outlineOf s i ≡ At j → Lists i j (rulesOf s m))
-          → Lists i j (rulesOf s m) ⊎ Lists i j (rulePair m (outlineOf s m))
+      go : (i ≡ m) ⊎ (i < m) → (i < m → enclosingOf s i ≡ At j → Lists i j (rulesOf s m))
+          → Lists i j (rulesOf s m) ⊎ Lists i j (rulePair m (enclosingOf s m))
       go (inl f) earlier =
-          inr (subst (λ (g : Found). Lists i j (rulePair m g)) (sym (ap (outlineOf s) (sym f) ∙ e))
+          inr (subst (λ (g : Found). Lists i j (rulePair m g)) (sym (ap (enclosingOf s) (sym f) ∙ e))
           (pair-only i j m j (sym f) refl))
       go (inr g) earlier = inl (earlier g e)
 
@@ -163,7 +163,7 @@ module _ (s : List ℕ) (unique : No (Row9 s)) (named : No (Row10 s)) where
             first = subst (Has s (beforeIdOf s (b .pair))) (b .first) (before-has s unique named (b .pair) (b .is-pair));
             second = subst (Has s (afterIdOf s (b .pair))) (b .second) (after-has s unique named (b .pair) (b .is-pair));
           })
-      go (inr t) = let b = found-rule s i j (contoursOf s) t in by-rule (outline-rule s i j (b .0) (b .1))
+      go (inr t) = let b = found-rule s i j (contoursOf s) t in by-rule (enclosing-rule s i j (b .0) (b .1))
 
   -- and it has them all
   pub precedes-listed : (i j : ℕ) → Precedes s i j → Lists i j (pairsOn s)
@@ -181,12 +181,12 @@ module _ (s : List ℕ) (unique : No (Row9 s)) (named : No (Row10 s)) where
             second = same-contour s unique (afterIdOf s q) (afterOf s q) j (after-has s unique named q (p .is-pair))
                 (p .second);
           }))
-      go (by-rule r) = inr (rule-found s i j (contoursOf s) (r .is-contour) (rule-outline s i j r))
+      go (by-rule r) = inr (rule-found s i j (contoursOf s) (r .is-contour) (rule-enclosing s i j r))
 
   -- both are contours
   precedes-within : (i j : ℕ) → Precedes s i j → (i < contoursOf s) × (j < contoursOf s)
   precedes-within i j (written p) = (p .first .is-contour, p .second .is-contour)
-  precedes-within i j (by-rule r) = (r .is-contour, r .outline .within)
+  precedes-within i j (by-rule r) = (r .is-contour, r .enclosed .within)
 
   -- contours are linked by the card's pairs only where one of them puts the first before the second
   pub link-precedes : (i j : ℕ) → linked (contoursOf s) (pairsOn s) i j ≡ true → Precedes s i j

@@ -10,11 +10,11 @@ use Rattle.closure.specs.Pairs.{paired, someOf}
 use Rattle.closure.specs.Cycle.{linked, leads}
 use Rattle.card.specs.Stages.{lengthFault, checkFault, startFault, headFault, countFault, contourFault, spareFault}
 use Rattle.card.specs.Stages.{farVertex, farFault, seekOf, repeatFault, nameFault, tagFault}
-use Rattle.card.specs.Rules.{outlineOf, rulesOf}
+use Rattle.card.specs.Rules.{enclosingOf, rulesOf}
 use Rattle.card.specs.Names.{seatsOf}
 use Rattle.card.specs.Verdict.{cycleFault, checkOf}
 use Rattle.block.specs.Write.{bytes, blockOf}
-use Rattle.card_laws.specs.Write.{numberBytes, pointBytes, headBytes, pointsBytes, outlineBytes, contourBytes}
+use Rattle.card_laws.specs.Write.{numberBytes, pointBytes, headBytes, pointsBytes, frontBytes, contourBytes}
 use Rattle.card_laws.specs.Write.{contourBlocks, pairBytes, pairBlocks, written}
 use Rattle.card_laws.specs.Examples.{Examples}
 
@@ -23,9 +23,9 @@ use Rattle.card_laws.specs.Examples.{Examples}
 unfoldable pub verdict-computes : Unit {0}
 unfolding checkOf firstRefusal lengthFault checkFault startFault headFault countFault contourFault spareFault
     farVertex farFault seekOf repeatFault nameFault tagFault cycleFault
-    seatsOf outlineOf rulesOf lowest lowestFrom u16At u32At u64At f64At weigh checkAt checked starts allZero zerosAt paired someOf
+    seatsOf enclosingOf rulesOf lowest lowestFrom u16At u32At u64At f64At weigh checkAt checked starts allZero zerosAt paired someOf
     linked leads
-    bytes blockOf numberBytes pointBytes headBytes pointsBytes outlineBytes contourBytes contourBlocks pairBytes pairBlocks
+    bytes blockOf numberBytes pointBytes headBytes pointsBytes frontBytes contourBytes contourBlocks pairBytes pairBlocks
     written
     ofBits ofFields odd size span climb round units trailingZeros toBits
 verdict-computes = tt

@@ -161,7 +161,7 @@ pub record ByPair (s : List ℕ) (i j : ℕ) : Type 0 where
   pub second : Has s (afterIdOf s pair) j
 
 -- contour j is an exterior with the part and the copy of contour i
-pub record Outline (s : List ℕ) (i j : ℕ) : Type 0 where
+pub record Encloses (s : List ℕ) (i j : ℕ) : Type 0 where
   pub exterior : typeOf s j ≡ 0
   pub same-part : partOf s j ≡ partOf s i
   pub same-copy : copyOf s j ≡ copyOf s i
@@ -171,7 +171,7 @@ pub record ByRule (s : List ℕ) (i j : ℕ) : Type 0 where
   pub is-contour : i < contoursOf s
   pub interior : typeOf s i ≡ 1
   pub of-a-part : partOf s i ≡ 0 → ⊥
-  pub outline : Lowest (contoursOf s) (Outline s i) j
+  pub enclosed : Lowest (contoursOf s) (Encloses s i) j
 
 -- contour i goes before contour j: by a written pair, or by rule
 pub data Precedes (s : List ℕ) (i j : ℕ) : Type 0 where

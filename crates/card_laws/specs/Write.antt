@@ -48,17 +48,17 @@ pointsBytes [] = []
 pointsBytes (p ∷ more) = pointBytes p ++ pointsBytes more
 
 -- a contour's fields up to its last vertex
-unfoldable pub outlineBytes : Contour → List ℕ
+unfoldable pub frontBytes : Contour → List ℕ
 unfolding bytes pointsBytes
-outlineBytes c =
+frontBytes c =
     bytes 4 (c .id) ++ bytes 4 (c .tag) ++ bytes 2 (length (c .vertices)) ++ typeByte (c .kind) ∷ 0
     ∷ pointsBytes (c .vertices)
 
 -- in version 2 its part and copy stand behind them, at 492
 unfoldable pub contourBytes : ℕ → Contour → List ℕ
-unfolding bytes outlineBytes
+unfolding bytes frontBytes
 contourBytes version c =
-    cond (eqb version 2) (padded partOffset 0 (outlineBytes c) ++ bytes 4 (c .part) ++ bytes 4 (c .copy)) (outlineBytes c)
+    cond (eqb version 2) (padded partOffset 0 (frontBytes c) ++ bytes 4 (c .part) ++ bytes 4 (c .copy)) (frontBytes c)
 
 -- the contours' blocks, from a block number on
 unfoldable pub contourBlocks : ℕ → ℕ → List Contour → List ℕ

@@ -10,7 +10,7 @@ use Rattle.fields.specs.Layout.{contoursOf}
 use Rattle.card.specs.declared.Named.{Named}
 use Rattle.card.specs.Names.{seatLimit}
 use Rattle.card.proofs.RuleLaws.{joinedTo, joined-none, joined-room, joined-same, joined-places, joined-count}
-use Rattle.card.proofs.RuleLaws.{outline-below}
+use Rattle.card.proofs.RuleLaws.{enclosing-below}
 use Rattle.card.proofs.join_rules.Statement.{statement}
 use Rattle.card.proofs.join_rules.Tie as tie
 
@@ -41,7 +41,7 @@ loop-again c = let f = c .before .before in
     let l = f .before .before in
     let s = now (l .before .before .before .before .args .card) in
     let i = l .loop .inv in
-    let same = joined-same s _ _ (f .outline-of .ensures) (c .enum-told .given .1) in
+    let same = joined-same s _ _ (f .enclosing-of .ensures) (c .enum-told .given .1) in
     (i .0, omega arith, i .2 ∙ ap (padded seatLimit 0) same, i .3 ∙ ap length same)
 
 -- there is room for one more pair
@@ -66,7 +66,7 @@ cast-positions-2 c = let k = c .before in
     omega (
       arith,
       st .pre .few-contours,
-      outline-below (now (st .args .card)) _ _ _ (f .outline-of .ensures) (k .j .given .1),
+      enclosing-below (now (st .args .card)) _ _ _ (f .enclosing-of .ensures) (k .j .given .1),
     )
 
 loop-again-2 : tie.Need-loop-again-2 Inv-loop μ-loop
@@ -77,8 +77,8 @@ loop-again-2 c = let k = c .before in
     let i = l .loop .inv in (
       i .0,
       omega arith,
-      joined-places s _ _ _ _ _ (f .outline-of .ensures) (k .j .given .1) (i .2) (i .3) (room c),
-      joined-count s _ _ _ _ _ (f .outline-of .ensures) (k .j .given .1) (i .2) (i .3),
+      joined-places s _ _ _ _ _ (f .enclosing-of .ensures) (k .j .given .1) (i .2) (i .3) (room c),
+      joined-count s _ _ _ _ _ (f .enclosing-of .ensures) (k .j .given .1) (i .2) (i .3),
     )
 
 returns : tie.Need-returns Inv-loop μ-loop

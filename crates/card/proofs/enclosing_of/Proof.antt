@@ -1,4 +1,4 @@
--- `card::outline_of` meets its contract. Assumes nothing.
+-- `card::enclosing_of` meets its contract. Assumes nothing.
 use mathlib.Core.Path.{_≡_, sym, _∙_}
 use Prim.Native.Nat.{_≤_, _-_}
 use native.Mathlib.Omega.{arith}
@@ -7,14 +7,14 @@ use borrow.Author.Needs.{needs}
 use borrow.Author.Tests.{not-true, not-false}
 use Rattle.answer.proofs.LowestLaws.{Nowhere}
 use Rattle.fields.specs.Layout.{contoursOf}
-use Rattle.card.specs.Rules.{isOutline}
+use Rattle.card.specs.Rules.{encloses}
 use Rattle.card.proofs.LoopLaws.{none-yet, one-more, found-here, none-found}
 use Rattle.card.proofs.RuleLaws.{no-hole, hole-before}
-use Rattle.card.proofs.outline_of.Statement.{statement}
-use Rattle.card.proofs.outline_of.Tie as tie
+use Rattle.card.proofs.enclosing_of.Statement.{statement}
+use Rattle.card.proofs.enclosing_of.Tie as tie
 
 abbrev Inv-loop : tie.InvT-loop
-Inv-loop card k n j₀ j = (n ≡ contoursOf card) × (j ≤ n) × Nowhere (isOutline card k) j
+Inv-loop card k n j₀ j = (n ≡ contoursOf card) × (j ≤ n) × Nowhere (encloses card k) j
 
 abbrev μ-loop : tie.MeasureT-loop
 μ-loop card k n j₀ j = n - j
@@ -25,7 +25,7 @@ returns c = let a = c .before .before .before .args in
 
 loop-holds : tie.Need-loop-holds Inv-loop μ-loop
 loop-holds c = let a = c .before .before .before .before .args in
-    (c .contours .ensures, omega arith, none-yet (isOutline (now (a .card)) (a .k)))
+    (c .contours .ensures, omega arith, none-yet (encloses (now (a .card)) (a .k)))
 
 returns-2 : tie.Need-returns-2 Inv-loop μ-loop
 returns-2 c = let l = c .before .before .before in
@@ -34,8 +34,8 @@ returns-2 c = let l = c .before .before .before in
     let a = h .before .before .before .args in
     let s = now (a .card) in
     hole-before s (a .k) _ (sym (h .before .is-hole .ensures) ∙ not-false _ (h .if1 .left))
-    (found-here (isOutline s (a .k)) (contoursOf s) _ (omega (arith, l .loop .inv)) (l .loop .inv .2)
-    (sym (c .before .is-outline .ensures) ∙ c .if2 .taken))
+    (found-here (encloses s (a .k)) (contoursOf s) _ (omega (arith, l .loop .inv)) (l .loop .inv .2)
+    (sym (c .before .encloses .ensures) ∙ c .if2 .taken))
 
 loop-again : tie.Need-loop-again Inv-loop μ-loop
 loop-again c = let l = c .before .before .before in
@@ -43,7 +43,7 @@ loop-again c = let l = c .before .before .before in
     let i = l .loop .inv in (
       i .0,
       omega arith,
-      one-more (isOutline (now (a .card)) (a .k)) _ (i .2) (sym (c .before .is-outline .ensures) ∙ c .if2 .left),
+      one-more (encloses (now (a .card)) (a .k)) _ (i .2) (sym (c .before .encloses .ensures) ∙ c .if2 .left),
     )
 
 returns-3 : tie.Need-returns-3 Inv-loop μ-loop
@@ -52,10 +52,10 @@ returns-3 c = let l = c .before in
     let a = h .before .before .before .args in
     let s = now (a .card) in
     hole-before s (a .k) _ (sym (h .before .is-hole .ensures) ∙ not-false _ (h .if1 .left))
-    (none-found (isOutline s (a .k)) (contoursOf s) _ (omega (arith, l .loop .inv)) (l .loop .inv .2))
+    (none-found (encloses s (a .k)) (contoursOf s) _ (omega (arith, l .loop .inv)) (l .loop .inv .2))
 
-pub outline-of-spec : {M : Type 1} → statement M
-outline-of-spec =
+pub enclosing-of-spec : {M : Type 1} → statement M
+enclosing-of-spec =
     tie.close
     (tie.spec
     Inv-loop
