@@ -59,8 +59,10 @@ fn main() {
         .swap("use u_nesting_core::SolveResult", "// SolveResult", 1)
         .write("contour");
 
-    // The pairs come from a card too, so the DAG gets a constructor from a count and pairs.
+    // The pairs come from a card too, so the DAG gets a constructor from a count and pairs. Of its own rules the card has
+    // the first; the second, about parts in other parts' holes, is left out.
     File::read(&folder, "hierarchy")
+        .swap("if lies_inside(&inner.vertices, &hole.vertices) {", "if false {", 1)
         .swap(
             "impl CuttingDag {",
             "impl CuttingDag { \

@@ -32,12 +32,13 @@ pub fn preference(number: u8) -> CutDirectionPreference {
     [CutDirectionPreference::Ccw, CutDirectionPreference::Cw, CutDirectionPreference::Auto][usize::from(number)]
 }
 
-/// A contour as the original has it.
+/// A contour as the original has it. A part goes by its number; a contour that has none goes by a name of its own, so that
+/// it is in no group with another.
 pub fn contour(c: &Contour) -> CutContour {
     CutContour {
         id: c.id as usize,
-        geometry_id: String::new(),
-        instance: 0,
+        geometry_id: if c.part == 0 { format!("contour {}", c.id) } else { c.part.to_string() },
+        instance: c.instance as usize,
         contour_type: if c.interior { ContourType::Interior } else { ContourType::Exterior },
         vertices: c.vertices.clone(),
         perimeter: 0.0,
@@ -45,7 +46,8 @@ pub fn contour(c: &Contour) -> CutContour {
     }
 }
 
-/// What the original is asked about a card.
+/// What the original is asked about a card. Its pairs are those written and, where the card can have parts, those that the
+/// original itself finds.
 fn asked(card: &Card) -> (Vec<CutContour>, CuttingDag, CuttingConfig) {
     let config = CuttingConfig {
         exterior_direction: preference(card.exterior),
@@ -56,7 +58,10 @@ fn asked(card: &Card) -> (Vec<CutContour>, CuttingDag, CuttingConfig) {
             .with_time_limit_ms(0)
     };
     let contours: Vec<CutContour> = card.contours.iter().map(contour).collect();
-    let pairs = card.pairs.iter().map(|p| (p.before.0 as usize, p.after.0 as usize)).collect();
+    let mut pairs: Vec<_> = card.pairs.iter().map(|p| (p.before.0 as usize, p.after.0 as usize)).collect();
+    if card.version == 2 {
+        pairs.extend(CuttingDag::build(&contours).precedences());
+    }
     let dag = CuttingDag::from_pairs(contours.len(), pairs);
     (contours, dag, config)
 }
@@ -98,6 +103,11 @@ impl Problem {
             dag,
             config,
         }
+    }
+
+    /// The same with other pairs, by ids.
+    pub fn by(self, pairs: Vec<(usize, usize)>) -> Problem {
+        Problem { dag: CuttingDag::from_pairs(self.dag.num_contours(), pairs), ..self }
     }
 
     /// The search with the counted limit, 0 for none. The length is evaluated from the tour.
@@ -173,13 +183,39 @@ fn slit() {
     assert_eq!(solved_before(&card), (vec![1, 3, 4], 8.0));
 }
 
+/// The hole that no pair speaks of is cut first, though its outline is nearer: the list of job 41, whose pair says so. In
+/// another instance it is free, and written behind its outline it is sent back.
+#[test]
+fn holes() {
+    let card = crate::generate::holes();
+    let list = "JOB 47 CONTOURS 3\n2 20 0 cw\n9 90 0 ccw\n7 70 0 ccw\nMOVES 1\nRAPID 4038000000000000\n";
+    assert_eq!(printed(&card.bytes()), list);
+    let mut apart = card.clone();
+    apart.contours[2].instance += 1;
+    assert_eq!(solved(&apart).0, [1, 2, 0]);
+    let against = Card { pairs: vec![card.pair(1, 2)], ..card };
+    assert_eq!(printed(&against.bytes()), "REFUSED 12 AT 1\n");
+}
+
+/// A card of version 2 without a part is answered as the same card of version 1, whatever its instances.
+#[test]
+fn no_part_no_difference() {
+    for case in 0..300 {
+        let r = crate::random::Random::of(1, "no part", case);
+        let card = crate::generate::good(&r, 1);
+        let mut twin = Card { version: 2, ..card.clone() };
+        twin.contours.iter_mut().for_each(|contour| contour.instance = r.next() as u32 % 3);
+        assert_eq!(printed(&twin.bytes()), printed(&card.bytes()), "case {case}");
+    }
+}
+
 /// With up to two candidates a contour a turn has one trial at most, so both rules come to the same; with more they do not
 /// always.
 #[test]
 fn the_rule_of_before_is_seen_from_three_candidates_on() {
     let mut elsewhere = 0;
     for case in 0..3000 {
-        let mut card = crate::generate::good(&crate::random::Random::of(1, "rule of before", case));
+        let mut card = crate::generate::good(&crate::random::Random::of(1, "rule of before", case), 1);
         card.limit = 0;
         let same = solved(&card) == solved_before(&card);
         assert!(same || card.c > 2, "case {case}");
@@ -191,8 +227,8 @@ fn the_rule_of_before_is_seen_from_three_candidates_on() {
 /// Every good card of the generator is good by the second reading, and reads back as it was written.
 #[test]
 fn good_cards_read_back() {
-    for case in 0..3000 {
-        let card = crate::generate::good(&crate::random::Random::of(1, "read back", case));
+    for case in 0..6000 {
+        let card = crate::generate::good(&crate::random::Random::of(1, "read back", case), 1 + (case % 2) as u8);
         assert_eq!(crate::reading::card(&card.bytes()).as_ref(), Ok(&card), "case {case}");
     }
 }

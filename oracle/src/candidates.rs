@@ -79,7 +79,7 @@ fn theirs(q: &Asked) -> Result<Vec<Told>, u64> {
     if vertices.len() < v {
         return Err(refused(8, vertices.len() as u64));
     }
-    let contour = Contour { id: 0, tag: 0, interior: q.interior, vertices };
+    let contour = Contour { interior: q.interior, vertices, ..Contour::default() };
     let config = CuttingConfig {
         exterior_direction: crate::answer::preference(q.preferences[0]),
         interior_direction: crate::answer::preference(q.preferences[1]),

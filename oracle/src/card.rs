@@ -1,9 +1,10 @@
 //! A card as a programmer writes one: its fields, and the bytes they make.
 
-use crate::limits::{BLOCK, CHECK_AT, PAIRS_A_BLOCK};
+use crate::limits::{BLOCK, CHECK_AT, PAIRS_A_BLOCK, contour};
 
-#[derive(Clone, Debug, Default, PartialEq)]
+#[derive(Clone, Debug, PartialEq)]
 pub struct Card {
+    pub version: u8,
     pub job: u32,
     pub c: u16,
     pub passes: u16,
@@ -19,6 +20,9 @@ pub struct Card {
 pub struct Contour {
     pub id: u32,
     pub tag: u32,
+    /// Version 2 alone writes the part, 0 for none, and the instance; in version 1 both are 0.
+    pub part: u32,
+    pub instance: u32,
     pub interior: bool,
     pub vertices: Vec<(f64, f64)>,
 }
@@ -30,15 +34,33 @@ pub struct Pair {
     pub after: (u32, u32),
 }
 
+/// A card of version 1 with nothing on it.
+impl Default for Card {
+    fn default() -> Card {
+        Card {
+            version: 1,
+            job: 0,
+            c: 0,
+            passes: 0,
+            limit: 0,
+            home: (0.0, 0.0),
+            exterior: 0,
+            interior: 0,
+            contours: Vec::new(),
+            pairs: Vec::new(),
+        }
+    }
+}
+
 impl Card {
     /// The file, with good checks. The counts are those of the lists, in or out of the limits.
     pub fn bytes(&self) -> Vec<u8> {
         let mut bytes = self.head();
         for (k, contour) in self.contours.iter().enumerate() {
-            bytes.extend(contour.block(k + 1));
+            bytes.extend(contour.block(self.version, k + 1));
         }
         for (k, pairs) in self.pairs.chunks(PAIRS_A_BLOCK).enumerate() {
-            let mut block = start(3, 1 + self.contours.len() + k);
+            let mut block = start(3, self.version, 1 + self.contours.len() + k);
             for pair in pairs {
                 for word in [pair.before.0, pair.before.1, pair.after.0, pair.after.1] {
                     block.extend(word.to_le_bytes());
@@ -51,7 +73,7 @@ impl Card {
     }
 
     fn head(&self) -> Vec<u8> {
-        let mut block = start(1, 0);
+        let mut block = start(1, self.version, 0);
         block.extend(self.job.to_le_bytes());
         for half in [self.contours.len() as u16, self.pairs.len() as u16, self.c, self.passes] {
             block.extend(half.to_le_bytes());
@@ -68,16 +90,11 @@ impl Card {
         let named = |k: usize| (self.contours[k].id, self.contours[k].tag);
         Pair { before: named(before), after: named(after) }
     }
-
-    /// The position of the contour that has an id.
-    pub fn position(&self, id: u32) -> usize {
-        self.contours.iter().position(|c| c.id == id).expect("pairs name contours")
-    }
 }
 
 impl Contour {
-    fn block(&self, number: usize) -> Vec<u8> {
-        let mut block = start(2, number);
+    fn block(&self, version: u8, number: usize) -> Vec<u8> {
+        let mut block = start(2, version, number);
         block.extend(self.id.to_le_bytes());
         block.extend(self.tag.to_le_bytes());
         block.extend((self.vertices.len() as u16).to_le_bytes());
@@ -86,13 +103,18 @@ impl Contour {
             block.extend(x.to_le_bytes());
             block.extend(y.to_le_bytes());
         }
+        if version == 2 {
+            block.resize(contour::PART, 0);
+            block.extend(self.part.to_le_bytes());
+            block.extend(self.instance.to_le_bytes());
+        }
         padded(block)
     }
 }
 
-fn start(kind: u8, number: usize) -> Vec<u8> {
+fn start(kind: u8, version: u8, number: usize) -> Vec<u8> {
     let number = (number as u16).to_le_bytes();
-    vec![kind, 1, number[0], number[1], 0, 0, 0, 0]
+    vec![kind, version, number[0], number[1], 0, 0, 0, 0]
 }
 
 /// A block's room: what does not fit (one vertex too many) is cut off.

@@ -1,9 +1,11 @@
 //! The cards at the edges that the paper names ("Both sides of each edge") and at further limits of its table, with what
-//! it says of each.
+//! it says of each; then those of request 2026-02.
 
-use crate::card::{Card, Contour, Pair};
+use crate::card::{Card, Contour, Pair, seal};
 use crate::generate::sheet;
-use crate::limits::{CANDIDATES, CONTOURS, PAIRS, PER_CONTOUR, REACH, VERTICES, shared};
+use crate::limits::{
+    BLOCK, CANDIDATES, CHECK_AT, CONTOURS, PAIRS, PER_CONTOUR, REACH, VERSION_AT, VERTICES, contour, head, shared,
+};
 use crate::random::Random;
 use crate::reading::Refusal;
 
@@ -31,7 +33,7 @@ fn empty(pairs: Vec<Pair>) -> Card {
 
 /// Contours in a row, a vertex each, and pairs of their positions.
 fn row(n: u32, pairs: &[(usize, usize)]) -> Card {
-    let one = |k| Contour { id: 10 + k, tag: k, interior: false, vertices: vec![(f64::from(k), 1.0)] };
+    let one = |k| Contour { id: 10 + k, tag: k, vertices: vec![(f64::from(k), 1.0)], ..Contour::default() };
     let mut card = Card { contours: (0..n).map(one).collect(), ..parts(1, 1, 0) };
     card.pairs = pairs.iter().map(|&(before, after)| card.pair(before, after)).collect();
     card
@@ -43,8 +45,11 @@ fn reaching(far: f64) -> [Card; 2] {
     [outlined(vec![(0.0, 0.0), (far, 0.0), (5.0, 5.0)]), home]
 }
 
-/// Each card with its refusal, none where it passes.
-pub fn edges() -> Vec<(Card, Option<Refusal>)> {
+/// A card and its refusal, none where it passes.
+pub type Edge = (Vec<u8>, Option<Refusal>);
+
+/// The edges that the paper names, and those of its further limits.
+pub fn edges() -> Vec<Edge> {
     let pair = Pair { before: (1, 1), after: (2, 2) };
     let mut all = vec![
         (parts(CONTOURS, shared(CONTOURS), 0), None),
@@ -75,15 +80,114 @@ pub fn edges() -> Vec<(Card, Option<Refusal>)> {
         let [vertex, home] = reaching(far);
         all.extend([(vertex, Some((8, 1))), (home, Some((8, 0)))]);
     }
+    written(all)
+}
+
+fn written(cards: Vec<(Card, Option<Refusal>)>) -> Vec<Edge> {
+    cards.into_iter().map(|(card, due)| (card.bytes(), due)).collect()
+}
+
+/// A row of version 2: each contour's type, part and instance, and pairs of positions.
+fn grouped(contours: &[(bool, u32, u32)], pairs: &[(usize, usize)]) -> Card {
+    let mut card = Card { version: 2, ..row(contours.len() as u32, pairs) };
+    for (contour, &group) in card.contours.iter_mut().zip(contours) {
+        (contour.interior, contour.part, contour.instance) = group;
+    }
+    card
+}
+
+/// So many vertices, and a part and an instance behind them.
+fn saw_of_a_part(v: usize) -> Card {
+    let mut card = Card { version: 2, ..saw(v) };
+    (card.contours[0].part, card.contours[0].instance) = (u32::MAX, u32::MAX);
+    card
+}
+
+/// As many written pairs as a card takes, and by rule one more for every contour but the last, whose holes they all are.
+fn all_by_rule() -> Card {
+    let mut card = Card { version: 2, ..parts(CONTOURS, shared(CONTOURS), PAIRS) };
+    for (k, contour) in card.contours.iter_mut().enumerate() {
+        (contour.part, contour.interior) = (1, k + 1 < CONTOURS);
+    }
+    card
+}
+
+/// The edges of the rule that holes go before their outline.
+fn of_the_rule() -> Vec<(Card, Option<Refusal>)> {
+    const OUTLINE: bool = false;
+    const HOLE: bool = true;
+    let plate = |instance| [(OUTLINE, 1, 0), (HOLE, 1, instance)];
+    let twice = [(OUTLINE, 1, 0), (OUTLINE, 1, 0), (HOLE, 1, 0)];
+    let two_parts = [(OUTLINE, 1, 0), (HOLE, 1, 0), (OUTLINE, 2, 0), (HOLE, 2, 0)];
+    vec![
+        // a hole that is written behind its outline; behind that of another instance, of another part, of no part
+        (grouped(&plate(0), &[]), None),
+        (grouped(&plate(0), &[(1, 0)]), None),
+        (grouped(&plate(0), &[(0, 1)]), Some((12, 0))),
+        (grouped(&plate(1), &[(0, 1)]), None),
+        (grouped(&[(OUTLINE, 1, 0), (HOLE, 2, 0)], &[(0, 1)]), None),
+        (grouped(&[(OUTLINE, 0, 7), (HOLE, 0, 7)], &[(0, 1)]), None),
+        (grouped(&[(OUTLINE, 1 << 24, 1 << 16), (HOLE, 1 << 24, 1 << 16)], &[(0, 1)]), Some((12, 0))),
+        (Card { version: 1, ..grouped(&plate(0), &[(0, 1)]) }, None),
+        // a contour in front that only waits on the cycle
+        (grouped(&[(OUTLINE, 2, 0), (OUTLINE, 1, 0), (HOLE, 1, 0)], &[(1, 2), (1, 0)]), Some((12, 1))),
+        // of two outlines the first waits; without an outline none does, and no outline waits for another
+        (grouped(&twice, &[(0, 2)]), Some((12, 0))),
+        (grouped(&twice, &[(1, 2)]), None),
+        (grouped(&[(HOLE, 1, 0), (HOLE, 1, 0)], &[(1, 0)]), None),
+        (grouped(&[(OUTLINE, 1, 0), (OUTLINE, 1, 0)], &[(1, 0)]), None),
+        // a cycle by two rules
+        (grouped(&two_parts, &[(0, 3), (2, 1)]), Some((12, 0))),
+        (grouped(&two_parts, &[(0, 3)]), None),
+        (all_by_rule(), None),
+    ]
+}
+
+/// The edges of the version: a card's limits with it, and single bytes of a card, given by their places.
+fn of_the_version() -> Vec<Edge> {
+    let mut all = written(vec![
+        (saw_of_a_part(VERTICES), None),
+        (saw_of_a_part(VERTICES + 1), Some((6, 0))),
+        (Card { version: 2, ..parts(3, 2, PAIRS + 1) }, Some((4, 2))),
+        (Card { version: 2, ..empty(vec![]) }, None),
+        (Card { version: 0, ..row(2, &[]) }, Some((3, 0))),
+        (Card { version: 3, ..row(2, &[]) }, Some((3, 0))),
+    ]);
+    let changed = |version: u8, at: usize, byte: u8| {
+        let mut bytes = Card { version, ..row(2, &[(0, 1)]) }.bytes();
+        bytes[at] = byte;
+        seal(&mut bytes);
+        bytes
+    };
+    let start = |block: usize| block * BLOCK + VERSION_AT;
+    let in_contour = |at: usize| BLOCK + at;
+    all.extend([
+        (changed(1, start(0), 2), Some((3, 1))),
+        (changed(2, start(0), 1), Some((3, 1))),
+        (changed(1, start(2), 2), Some((3, 2))),
+        (changed(2, start(2), 1), Some((3, 2))),
+        (changed(2, start(3), 3), Some((3, 3))),
+        (changed(1, in_contour(contour::PART - 1), 1), Some((7, 1))),
+        (changed(2, in_contour(contour::PART - 1), 1), Some((7, 1))),
+        (changed(1, in_contour(contour::PART), 1), Some((7, 1))),
+        (changed(2, in_contour(contour::PART), 1), None),
+        (changed(1, in_contour(CHECK_AT - 1), 1), Some((7, 1))),
+        (changed(2, in_contour(CHECK_AT - 1), 1), None),
+        (changed(2, head::END, 1), Some((7, 0))),
+    ]);
     all
+}
+
+/// The edges of request 2026-02.
+pub fn edges_of_parts() -> Vec<Edge> {
+    [written(of_the_rule()), of_the_version()].concat()
 }
 
 /// The second reading, the check and the export say what the paper says.
 #[test]
 fn each_edge_is_as_the_paper_says() {
     use crate::{check, doors::refused, exports, reading};
-    for (k, (card, due)) in edges().into_iter().enumerate() {
-        let bytes = card.bytes();
+    for (k, (bytes, due)) in edges().into_iter().chain(edges_of_parts()).enumerate() {
         let code = due.map_or(0, |(number, place)| refused(number, place));
         assert_eq!(reading::refusal(&bytes), due, "edge {k}");
         assert_eq!((check::check(&bytes), exports::check(&bytes)), (code, Ok(code)), "edge {k}");

@@ -6,9 +6,9 @@ use crate::card::seal;
 use crate::coverage::Coverage;
 use crate::doors::refused;
 use crate::exports::{UNTOUCHED, jl_check, jl_place, jl_tour};
-use crate::generate::{damaged, good, mutated};
+use crate::generate::{damaged, good, mutated, relabelled};
 use crate::guard::Guarded;
-use crate::limits::{BLOCK, CANDIDATES, CARD_BYTES, CONTOURS, PAIRS, PAYLOAD_AT, REACH, head};
+use crate::limits::{BLOCK, CANDIDATES, CARD_BYTES, CONTOURS, PAIRS, PAYLOAD_AT, REACH, contour, head};
 use crate::random::Random;
 use crate::reading;
 use crate::run::same;
@@ -20,11 +20,13 @@ const ROOM: usize = CONTOURS + 10;
 
 /// A card mutated by structure: from the generator, or one that was kept.
 fn structured(r: &Random, kept: &[Vec<u8>]) -> Vec<u8> {
-    match r.below(if kept.is_empty() { 3 } else { 6 }) {
-        0 => good(r).bytes(),
-        1 => mutated(r),
-        2 => damaged(r),
-        3 => joined(&kept[r.index(kept.len())], &kept[r.index(kept.len())], r),
+    let version = r.pick(&[1, 2]);
+    match r.below(if kept.is_empty() { 4 } else { 7 }) {
+        0 => good(r, version).bytes(),
+        1 => mutated(r, version),
+        2 => damaged(r, version),
+        3 => relabelled(r, version),
+        4 => joined(&kept[r.index(kept.len())], &kept[r.index(kept.len())], r),
         _ => kept[r.index(kept.len())].clone(),
     }
 }
@@ -43,9 +45,10 @@ fn field(r: &Random, bytes: &mut [u8]) {
     }
     let block = r.index(bytes.len() / BLOCK) * BLOCK;
     // eight bytes still fit
-    let at = block + r.pick(&[r.from(PAYLOAD_AT, head::DIRECTIONS), r.index(BLOCK - 8)]);
+    let part = r.pick(&[contour::PART, contour::INSTANCE]);
+    let at = block + r.pick(&[r.from(PAYLOAD_AT, head::DIRECTIONS), part, r.index(BLOCK - 8)]);
     let (contours, pairs) = (r.below(CONTOURS as u64 + 10), r.below(PAIRS as u64 + 6));
-    let number = r.pick(&[contours, pairs, r.next(), 1 << r.below(64), REACH.to_bits() + r.below(2)]);
+    let number = r.pick(&[r.below(3), contours, pairs, r.next(), 1 << r.below(64), REACH.to_bits() + r.below(2)]);
     bytes[at..at + width].copy_from_slice(&number.to_le_bytes()[..width]);
 }
 

@@ -1,18 +1,28 @@
 //! Cards to try: good ones of every shape, and damaged ones of every kind.
 
-use crate::card::{Card, Contour, seal};
+use crate::card::{Card, Contour, Pair, seal};
 use crate::limits::{
     AUTO, BLOCK, CANDIDATES, CARD_BYTES, CHECK_AT, CONTOURS, PAIR, PAIRS, PAIRS_A_BLOCK, PASSES, PAYLOAD_AT,
-    PER_CONTOUR, REACH, VERTEX, VERTICES, contour, head, shared,
+    PER_CONTOUR, REACH, VERSION_AT, VERTEX, VERTICES, contour, head, shared,
 };
 use crate::random::{KINDS, Kind, Random};
+use crate::reading::by_rule;
 
 /// The job that the paper prints whole.
 pub fn job_41() -> Card {
-    let one = |id, tag, interior, vertex| Contour { id, tag, interior, vertices: vec![vertex] };
+    let one = |id, tag, interior, vertex| Contour { id, tag, interior, vertices: vec![vertex], ..Contour::default() };
     let contours = vec![one(7, 70, false, (12.0, 12.0)), one(9, 90, false, (3.0, 0.0)), one(2, 20, true, (3.0, 4.0))];
     let mut card = Card { job: 41, c: 1, passes: 10, exterior: AUTO, interior: AUTO, contours, ..Card::default() };
     card.pairs.push(card.pair(2, 1));
+    card
+}
+
+/// Job 41 with its pair forgotten, in version 2: that the hole and the second outline are one part says it too.
+pub fn holes() -> Card {
+    let mut card = Card { version: 2, job: 47, pairs: Vec::new(), ..job_41() };
+    for k in [1, 2] {
+        (card.contours[k].part, card.contours[k].instance) = (5, 1);
+    }
     card
 }
 
@@ -21,7 +31,7 @@ fn on_a_line(job: u32, c: u16, home: f64, contours: &[&[f64]]) -> Card {
     let on = |x| (x, 0.0);
     let along = |(id, xs): (u32, &&[f64])| {
         let vertices = xs.iter().map(|&x| on(x)).collect();
-        Contour { id, tag: 10 * id, interior: false, vertices }
+        Contour { id, tag: 10 * id, vertices, ..Contour::default() }
     };
     let contours = (5..).zip(contours).map(along).collect();
     Card { job, c, passes: 10, home: on(home), exterior: AUTO, interior: AUTO, contours, ..Card::default() }
@@ -40,24 +50,25 @@ pub fn slit() -> Card {
     on_a_line(45, 3, 7.0, &[&[4.0, 10.0], &[2.0], &[1.0]])
 }
 
-/// Good cards of every shape.
-pub fn good(r: &Random) -> Card {
+/// Good cards of every shape, of either version.
+pub fn good(r: &Random, version: u8) -> Card {
     let n = match r.below(10) {
         0 => r.index(3),
         1..=4 => r.from(3, 8),
         5..=7 => r.from(9, CONTOURS / 2),
         _ => r.from(CONTOURS / 2 + 1, CONTOURS),
     };
-    sized(r, n)
+    sized(r, version, n)
 }
 
 /// Good cards with n contours.
-pub fn sized(r: &Random, n: usize) -> Card {
+pub fn sized(r: &Random, version: u8, n: usize) -> Card {
     let most = shared(n).min(PER_CONTOUR);
     let c = r.pick(&[1, most.min(2), r.from(1, most), most]) as u16;
     // plain sheets come most often: there a search has most to do
     let kind = r.pick(&[r.pick(&KINDS), Kind::Sheet, Kind::Grid]);
     let mut card = Card {
+        version,
         job: r.next() as u32,
         c,
         passes: r.pick(&[0, 1, 2, 3, 10, 10, 100, PASSES]),
@@ -76,16 +87,34 @@ pub fn sized(r: &Random, n: usize) -> Card {
             _ => (r.next() as u32) / 64 * 64 + k as u32,
         };
         let tag = if r.one_in(3) { 7 } else { r.next() as u32 };
-        card.contours.push(Contour { id, tag, interior: r.one_in(2), vertices: outline(r, kind) });
+        let interior = r.one_in(2);
+        card.contours.push(Contour { id, tag, interior, vertices: outline(r, kind), ..Contour::default() });
+    }
+    if version == 2 {
+        parts(r, &mut card);
     }
     pairs(r, &mut card);
     card
 }
 
+/// Parts and instances, few of each, so that groups are common. On a card they differ in one byte of the four. Without a
+/// part the instance is any number, and often another's.
+fn parts(r: &Random, card: &mut Card) {
+    let (parts, instances) = (r.pick(&[0, 1, 1, 2, 3]), r.pick(&[1, 1, 2, 3]));
+    let (part_byte, instance_byte) = (8 * r.below(4), 8 * r.below(4));
+    for contour in &mut card.contours {
+        contour.part = (r.from(0, parts) as u32) << part_byte;
+        contour.instance = match contour.part {
+            0 => r.pick(&[0, 1, 7, r.next() as u32]),
+            _ => (r.index(instances) as u32) << instance_byte,
+        };
+    }
+}
+
 /// Good cards with three contours or more and up to three candidates a contour or more, so that a turn may have two trials.
-pub fn turning(r: &Random) -> Card {
+pub fn turning(r: &Random, version: u8) -> Card {
     let n = r.from(3, CANDIDATES / 3);
-    let mut card = sized(r, n);
+    let mut card = sized(r, version, n);
     card.c = r.from(3, shared(n).min(PER_CONTOUR)) as u16;
     card
 }
@@ -102,12 +131,23 @@ pub fn sheet(r: &Random, n: usize, c: usize, m: usize) -> Card {
             (middle.0 + size * angle.cos(), middle.1 + size * angle.sin())
         };
         let vertices = (0..v).map(vertex).collect();
-        card.contours.push(Contour { id: k as u32 + 1, tag: 100 + k as u32, interior: r.one_in(3), vertices });
+        let (id, tag, interior) = (k as u32 + 1, 100 + k as u32, r.one_in(3));
+        card.contours.push(Contour { id, tag, interior, vertices, ..Contour::default() });
     }
     for _ in 0..m {
         let after = r.from(1, n - 1);
         let pair = card.pair(r.index(after), after);
         card.pairs.push(pair);
+    }
+    card
+}
+
+/// A sheet in version 2: by twos its contours are a part, the first of the two a hole. So the pairs by rule lead forward, as
+/// those that are written do.
+pub fn holed(sheet: Card) -> Card {
+    let mut card = Card { version: 2, ..sheet };
+    for (k, contour) in card.contours.iter_mut().enumerate() {
+        (contour.part, contour.interior) = (k as u32 / 2 + 1, k % 2 == 0);
     }
     card
 }
@@ -159,14 +199,15 @@ pub fn outline(r: &Random, kind: Kind) -> Vec<(f64, f64)> {
     vertices
 }
 
-/// Pairs that a legal order exists for: each leads forward in some hidden order of the contours.
+/// Pairs that a legal order exists for: each leads forward in some hidden order of the contours, and so do those by rule, of
+/// which some are written too.
 fn pairs(r: &Random, card: &mut Card) {
     let n = card.contours.len();
     if n < 2 || r.one_in(4) {
         return;
     }
-    let mut hidden: Vec<usize> = (0..n).collect();
-    r.shuffle(&mut hidden);
+    let rules = by_rule(card);
+    let hidden = hidden_order(r, n, &rules);
     let add = |card: &mut Card, i: usize, j: usize| {
         let pair = card.pair(hidden[i], hidden[j]);
         card.pairs.push(pair);
@@ -183,25 +224,59 @@ fn pairs(r: &Random, card: &mut Card) {
             }
         }
     }
+    if !rules.is_empty() && r.one_in(4) {
+        let written: Vec<Pair> = rules.iter().map(|&(hole, outline)| card.pair(hole, outline)).collect();
+        card.pairs.extend(written);
+        card.pairs.truncate(PAIRS);
+    }
     if r.one_in(2) {
         r.shuffle(&mut card.pairs);
     }
 }
 
+/// An order of n contours in which the pairs by rule lead forward: an outline that stands before a hole of its part changes
+/// places with it.
+fn hidden_order(r: &Random, n: usize, rules: &[(usize, usize)]) -> Vec<usize> {
+    let mut order: Vec<usize> = (0..n).collect();
+    r.shuffle(&mut order);
+    for pair in rules {
+        let place = |contour| order.iter().position(|&k| k == contour).unwrap();
+        let (hole, outline) = (place(pair.0), place(pair.1));
+        if outline < hole {
+            order.swap(hole, outline);
+        }
+    }
+    order
+}
+
 /// A damaged card, or one that stands just inside a limit.
-pub fn damaged(r: &Random) -> Vec<u8> {
-    let mut card = good(r);
+pub fn damaged(r: &Random, version: u8) -> Vec<u8> {
+    let card = good(r, version);
     let faults = if r.one_in(3) { 2 } else { 1 };
     let kinds: Vec<usize> = (0..faults).map(|_| r.from(1, 13)).collect();
-    for &kind in &kinds {
+    with_faults(r, card, &kinds)
+}
+
+/// A card with other versions, or other bytes where parts and instances stand, and now and then with a further fault.
+pub fn relabelled(r: &Random, version: u8) -> Vec<u8> {
+    let card = good(r, version);
+    let mut kinds = vec![r.pick(&[14, 15])];
+    if r.one_in(3) {
+        kinds.push(r.from(1, 15));
+    }
+    with_faults(r, card, &kinds)
+}
+
+fn with_faults(r: &Random, mut card: Card, kinds: &[usize]) -> Vec<u8> {
+    for &kind in kinds {
         in_fields(r, &mut card, kind);
     }
     let mut bytes = card.bytes();
-    for &kind in &kinds {
+    for &kind in kinds {
         in_bytes(r, &mut bytes, kind);
     }
     seal(&mut bytes);
-    for &kind in &kinds {
+    for &kind in kinds {
         after_seal(r, &mut bytes, kind);
     }
     bytes
@@ -259,7 +334,7 @@ fn count_edges(r: &Random, card: &mut Card) {
         let n = r.pick(&[CONTOURS - 1, CONTOURS, CONTOURS + 1, CONTOURS + 2]);
         while card.contours.len() < n {
             let id = card.contours.len() as u32 + 5_000_000;
-            card.contours.push(Contour { id, tag: 0, interior: false, vertices: vec![(3.0, 4.0)] });
+            card.contours.push(Contour { id, vertices: vec![(3.0, 4.0)], ..Contour::default() });
         }
         card.pairs.truncate(r.pick(&[0, PAIRS_A_BLOCK, FEWER]));
     } else if let Some(&pair) = card.pairs.first() {
@@ -268,17 +343,30 @@ fn count_edges(r: &Random, card: &mut Card) {
     }
 }
 
-/// A walk of pairs that comes back, on few or many contours.
+/// A walk of pairs that comes back, on few or many contours. Steps by rule are often on it, and are not written.
 fn cycle(r: &Random, card: &mut Card) {
     let n = card.contours.len();
     let length = r.from(1, n.min(r.pick(&[1, 2, 5, CONTOURS])));
     let mut ring: Vec<usize> = (0..n).collect();
     r.shuffle(&mut ring);
     ring.truncate(length);
+    let rules = by_rule(card);
+    if !rules.is_empty() && !r.one_in(3) {
+        // the pairs that are there often lead from a hole to its outline too
+        card.pairs.truncate(r.pick(&[0, 0, PAIRS]));
+        for _ in 0..r.from(1, 2) {
+            let (hole, outline) = r.pick(&rules);
+            ring.retain(|&k| k != hole && k != outline);
+            ring.extend([hole, outline]);
+        }
+    }
     card.pairs.truncate(PAIRS - ring.len());
     for k in 0..ring.len() {
-        let pair = card.pair(ring[k], ring[(k + 1) % ring.len()]);
-        card.pairs.push(pair);
+        let (before, after) = (ring[k], ring[(k + 1) % ring.len()]);
+        if !rules.contains(&(before, after)) {
+            let pair = card.pair(before, after);
+            card.pairs.push(pair);
+        }
     }
     r.shuffle(&mut card.pairs);
 }
@@ -315,6 +403,19 @@ fn in_bytes(r: &Random, bytes: &mut Vec<u8>, kind: usize) {
             let (more, less) = (bytes[at].wrapping_add(1), bytes[at].wrapping_sub(1));
             bytes[at] = r.pick(&[more, less, 0, CONTOURS as u8, PAIRS as u8]);
         }
+        14 => {
+            // another version: of the head alone, of any block alone, or of all
+            let (version, one) = (r.pick(&[0, 1, 2, 2, 3, 255]), r.index(blocks));
+            let changed = r.pick(&[(0, 1), (one, one + 1), (0, blocks)]);
+            for block in changed.0..changed.1 {
+                bytes[block * BLOCK + VERSION_AT] = version;
+            }
+        }
+        15 => {
+            // about a part and an instance, whether the card has them or not
+            let at = block(r) + r.pick(&[r.from(contour::PART - 1, CHECK_AT - 1), head::END]);
+            bytes[at] = r.pick(&[0, 1, 2, 255]);
+        }
         _ => {}
     }
 }
@@ -343,12 +444,13 @@ fn after_seal(r: &Random, bytes: &mut Vec<u8>, kind: usize) {
 }
 
 /// A good card with one byte changed, with or without the check made good.
-pub fn mutated(r: &Random) -> Vec<u8> {
-    let mut bytes = good(r).bytes();
+pub fn mutated(r: &Random, version: u8) -> Vec<u8> {
+    let mut bytes = good(r, version).bytes();
     let block = r.index(bytes.len() / BLOCK) * BLOCK;
     // two vertices: most contours have as many
     let used = contour::VERTICES + 2 * VERTEX;
-    let at = block + r.pick(&[r.index(PAYLOAD_AT), r.from(PAYLOAD_AT, used), r.index(BLOCK)]);
+    let last = r.from(contour::PART - 1, CHECK_AT - 1);
+    let at = block + r.pick(&[r.index(PAYLOAD_AT), r.from(PAYLOAD_AT, used), last, r.index(BLOCK)]);
     bytes[at] = r.pick(&[bytes[at] ^ (1 << r.below(8)), 0, 255, r.next() as u8]);
     if !r.one_in(4) {
         seal(&mut bytes);

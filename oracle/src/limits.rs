@@ -15,7 +15,8 @@ pub const AUTO: u8 = 2;
 /// The most pierces that `sequence_cost` counts.
 pub const PIERCES: usize = 1000;
 
-/// Where a block's payload begins and ends: there stands its check.
+/// Where a block's version stands, and where its payload begins and ends: there stands its check.
+pub const VERSION_AT: usize = 1;
 pub const PAYLOAD_AT: usize = 8;
 pub const CHECK_AT: usize = 508;
 
@@ -39,6 +40,9 @@ pub mod contour {
     pub const TYPE: usize = PAYLOAD_AT + 10;
     pub const ZERO: usize = PAYLOAD_AT + 11;
     pub const VERTICES: usize = PAYLOAD_AT + 12;
+    // in version 2
+    pub const PART: usize = PAYLOAD_AT + 492;
+    pub const INSTANCE: usize = PAYLOAD_AT + 496;
 }
 
 /// The most candidates of each of n contours, where only those of all of them are limited.

@@ -4,13 +4,14 @@
 use crate::card::{Card, Contour, Pair, check_of};
 use std::ops::Range;
 
-// "The card": the bytes of a block, of its start, of a point and of a pair; where a block's check stands; the pairs that
-// one takes.
+// "The card": the bytes of a block, of its start, of a point and of a pair; where a block's version and check stand; the
+// pairs that one takes. Request 2026-02 adds the second version.
 const BLOCK: usize = 512;
 const START: usize = 8;
 const CHECK: usize = 508;
 const PAYLOAD: Range<usize> = START..CHECK;
-const VERSION: u8 = 1;
+const VERSION: usize = 1;
+const VERSIONS: [u8; 2] = [1, 2];
 const POINT: usize = 16;
 const PAIR: usize = 16;
 const PAIRS_A_BLOCK: usize = 31;
@@ -49,6 +50,9 @@ mod contour {
     pub const TYPE: usize = 10;
     pub const ZERO: usize = 11;
     pub const POINTS: usize = 12;
+    // in version 2
+    pub const PART: usize = 492;
+    pub const INSTANCE: usize = 496;
 }
 
 /// The number of a refusal and its place.
@@ -69,6 +73,7 @@ fn f64_at(bytes: &[u8], at: usize) -> f64 {
 /// A file of whole blocks whose head has been looked at.
 struct File<'a> {
     bytes: &'a [u8],
+    version: u8,
     n: usize,
     m: usize,
 }
@@ -76,7 +81,7 @@ struct File<'a> {
 impl<'a> File<'a> {
     fn of(bytes: &'a [u8]) -> File<'a> {
         let head = &bytes[PAYLOAD];
-        File { bytes, n: u16_at(head, head::CONTOURS), m: u16_at(head, head::PAIRS) }
+        File { bytes, version: bytes[VERSION], n: u16_at(head, head::CONTOURS), m: u16_at(head, head::PAIRS) }
     }
 
     fn block(&self, number: usize) -> &'a [u8] {
@@ -104,6 +109,18 @@ impl<'a> File<'a> {
         u32_at(self.contour(position), contour::TAG)
     }
 
+    fn interior(&self, position: usize) -> bool {
+        self.contour(position)[contour::TYPE] == 1
+    }
+
+    /// A contour's part and instance. Version 1 has neither: it reads as part 0.
+    fn group(&self, position: usize) -> (u32, u32) {
+        match self.version {
+            1 => (0, 0),
+            _ => [contour::PART, contour::INSTANCE].map(|at| u32_at(self.contour(position), at)).into(),
+        }
+    }
+
     fn vertex(&self, position: usize, number: usize) -> (f64, f64) {
         let at = contour::POINTS + POINT * number;
         (f64_at(self.contour(position), at), f64_at(self.contour(position), at + POINT / 2))
@@ -118,16 +135,37 @@ impl<'a> File<'a> {
     fn position(&self, id: u32) -> Option<usize> {
         (0..self.n).find(|&k| self.id(k) == id)
     }
+
+    /// The contour that waits for an interior of a part by rule: the first exterior with its part and instance.
+    fn outline(&self, hole: usize) -> Option<usize> {
+        let (part, _) = self.group(hole);
+        if part == 0 || !self.interior(hole) {
+            return None;
+        }
+        (0..self.n).find(|&k| !self.interior(k) && self.group(k) == self.group(hole))
+    }
+
+    /// The pairs by rule, as positions, in the order of the interiors.
+    fn by_rule(&self) -> impl Iterator<Item = (usize, usize)> {
+        (0..self.n).filter_map(|k| Some((k, self.outline(k)?)))
+    }
+
+    /// The pairs that tours and cycles go by, as positions: the written ones, then those by rule.
+    fn joined(&self) -> impl Iterator<Item = (usize, usize)> {
+        let position = |id| self.position(id).unwrap();
+        let written = (0..self.m).map(|q| self.pair(q));
+        written.map(move |[before, _, after, _]| (position(before), position(after))).chain(self.by_rule())
+    }
 }
 
 /// What a block must start with.
-fn due_start(number: usize, n: usize) -> [u8; START] {
+fn due_start(number: usize, n: usize, version: u8) -> [u8; START] {
     let kind = match number {
         0 => 1,
         k if k <= n => 2,
         _ => 3,
     };
-    [kind, VERSION, number as u8, (number >> 8) as u8, 0, 0, 0, 0]
+    [kind, version, number as u8, (number >> 8) as u8, 0, 0, 0, 0]
 }
 
 fn far(x: f64) -> bool {
@@ -150,7 +188,8 @@ pub fn refusal(bytes: &[u8]) -> Option<Refusal> {
     if let Some(at) = (0..blocks).find(check) {
         return Some((2, at as u64));
     }
-    if bytes[..START] != due_start(0, 0) {
+    let version = bytes[VERSION];
+    if !VERSIONS.contains(&version) || bytes[..START] != due_start(0, 0, version) {
         return Some((3, 0));
     }
     let head = &bytes[PAYLOAD];
@@ -161,7 +200,7 @@ pub fn refusal(bytes: &[u8]) -> Option<Refusal> {
     if blocks != 1 + file.n + file.m.div_ceil(PAIRS_A_BLOCK) {
         return Some((5, blocks as u64));
     }
-    lowest(3, (1..blocks).find(|&b| file.block(b)[..START] != due_start(b, file.n)))
+    lowest(3, (1..blocks).find(|&b| file.block(b)[..START] != due_start(b, file.n, version)))
         .or_else(|| lowest(6, (0..file.n).find(|&k| bad_contour(file.contour(k)))))
         .or_else(|| lowest(7, (0..blocks).find(|&b| spare(&file, b).iter().any(|&byte| byte != 0))))
         .or_else(|| lowest(8, far_place(&file)))
@@ -181,7 +220,7 @@ pub fn refusal(bytes: &[u8]) -> Option<Refusal> {
             };
             lowest(11, (0..file.m).find(other_tag))
         })
-        .or_else(|| lowest(12, on_cycle(&file)))
+        .or_else(|| lowest(12, led_back(file.n, file.joined())))
 }
 
 /// Row 4: which field of the head is out of its limits.
@@ -208,12 +247,16 @@ fn bad_contour(payload: &[u8]) -> bool {
 
 /// Row 7: the payload bytes of a block that no field has.
 fn spare<'a>(file: &File<'a>, block: usize) -> &'a [u8] {
-    let used = match block {
-        0 => head::END,
-        b if b <= file.n => contour::POINTS + POINT * file.v(b - 1),
-        b => PAIR * (file.m - (b - 1 - file.n) * PAIRS_A_BLOCK).min(PAIRS_A_BLOCK),
+    let all = PAYLOAD.len();
+    let spare = match block {
+        0 => head::END..all,
+        b if b <= file.n => {
+            let end = if file.version == 1 { all } else { contour::PART };
+            contour::POINTS + POINT * file.v(b - 1)..end
+        }
+        b => PAIR * (file.m - (b - 1 - file.n) * PAIRS_A_BLOCK).min(PAIRS_A_BLOCK)..all,
     };
-    &file.payload(block)[used..]
+    &file.payload(block)[spare]
 }
 
 /// Row 8: 0 for home, else one more than the contour's position.
@@ -226,13 +269,7 @@ fn far_place(file: &File) -> Option<usize> {
     (0..file.n).find(bad).map(|k| k + 1)
 }
 
-/// Row 12: the lowest position that pairs lead back to.
-fn on_cycle(file: &File) -> Option<usize> {
-    let position = |id| file.position(id).unwrap();
-    led_back(file.n, (0..file.m).map(|q| file.pair(q)).map(|[before, _, after, _]| (position(before), position(after))))
-}
-
-/// The lowest of n positions that pairs of them lead back to. A flag for each two positions: pairs lead from one to the
+/// Row 12: the lowest of n positions that pairs of them lead back to. A flag for each two positions: pairs lead from one to the
 /// other.
 pub fn led_back(n: usize, pairs: impl Iterator<Item = (usize, usize)>) -> Option<usize> {
     let mut leads = [[false; CONTOURS]; CONTOURS];
@@ -257,17 +294,17 @@ pub fn card(bytes: &[u8]) -> Result<Card, Refusal> {
     }
     let file = File::of(bytes);
     let head = file.payload(0);
-    let contour = |k: usize| Contour {
-        id: file.id(k),
-        tag: file.tag(k),
-        interior: file.contour(k)[contour::TYPE] == 1,
-        vertices: (0..file.v(k)).map(|j| file.vertex(k, j)).collect(),
+    let contour = |k: usize| {
+        let (part, instance) = file.group(k);
+        let vertices = (0..file.v(k)).map(|j| file.vertex(k, j)).collect();
+        Contour { id: file.id(k), tag: file.tag(k), part, instance, interior: file.interior(k), vertices }
     };
     let pair = |q: usize| {
         let [a, b, c, d] = file.pair(q);
         Pair { before: (a, b), after: (c, d) }
     };
     Ok(Card {
+        version: file.version,
         job: u32_at(head, head::JOB),
         c: u16_at(head, head::PER_CONTOUR) as u16,
         passes: u16_at(head, head::PASSES) as u16,
@@ -278,6 +315,28 @@ pub fn card(bytes: &[u8]) -> Result<Card, Refusal> {
         contours: (0..file.n).map(contour).collect(),
         pairs: (0..file.m).map(pair).collect(),
     })
+}
+
+/// The pairs of a good card that tours and cycles go by, as positions: the written ones, then those by rule.
+pub fn joined(card: &Card) -> Vec<(usize, usize)> {
+    File::of(&card.bytes()).joined().collect()
+}
+
+/// The pairs by rule alone, in the order of the interiors. The written ones may name what they will.
+pub fn by_rule(card: &Card) -> Vec<(usize, usize)> {
+    File::of(&card.bytes()).by_rule().collect()
+}
+
+/// The written pairs come first, repeats and all; those by rule follow the interiors, not the parts.
+#[test]
+fn joined_in_order() {
+    let contour = |id, part, interior| Contour { id, part, interior, vertices: vec![(0.0, 0.0)], ..Contour::default() };
+    let groups = [(2, true), (1, true), (1, false), (2, true), (2, false), (1, false), (0, true), (0, false)];
+    let contours = (0..).zip(groups).map(|(id, (part, interior))| contour(id, part, interior)).collect();
+    let mut card = Card { version: 2, c: 1, contours, ..Card::default() };
+    card.pairs = [(7, 6), (1, 2), (1, 2)].map(|(before, after)| card.pair(before, after)).into();
+    assert_eq!(joined(&card), [(7, 6), (1, 2), (1, 2), (0, 4), (1, 2), (3, 4)]);
+    assert_eq!(joined(&Card { version: 1, ..card }), [(7, 6), (1, 2), (1, 2)]);
 }
 
 /// The Rust host's limits are those that this reading takes from the paper.

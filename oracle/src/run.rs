@@ -52,6 +52,42 @@ pub fn cases(wanted: Wanted, part: &str, full: u64, compare: impl Fn(&Random) ->
     true
 }
 
+/// The same with cards of either version, half of the cases each.
+pub fn by_version(
+    wanted: Wanted,
+    part: &str,
+    full: u64,
+    compare: impl Fn(&Random, u8) -> Result<u64, String> + Sync,
+) -> bool {
+    let half = |version| cases(wanted, &format!("{part}, version {version}"), full / 2, |r| compare(r, version));
+    half(1) & half(2)
+}
+
+/// Counts the cases of a kind that a run must meet often enough: one in so many.
+pub struct Tally {
+    what: &'static str,
+    one_in: u64,
+    met: AtomicU64,
+}
+
+impl Tally {
+    pub fn of(what: &'static str, one_in: u64) -> Tally {
+        Tally { what, one_in, met: AtomicU64::new(0) }
+    }
+
+    pub fn count(&self, met: bool) {
+        self.met.fetch_add(u64::from(met), Ordering::Relaxed);
+    }
+
+    /// Prints how many of the cases there were, and says whether that is enough.
+    pub fn enough(self, cases: u64) -> bool {
+        let met = self.met.into_inner();
+        let enough = met * self.one_in >= cases;
+        println!("{met} {}{}", self.what, if enough { "" } else { ": TOO FEW" });
+        enough
+    }
+}
+
 /// Two answers that must be the same.
 pub fn same<T: PartialEq + std::fmt::Debug>(what: impl FnOnce() -> String, ours: T, theirs: T) -> Result<u64, String> {
     if ours == theirs { Ok(1) } else { Err(format!("{}: ours {ours:x?}, theirs {theirs:x?}", what())) }

@@ -5,9 +5,9 @@ use crate::answer::Problem;
 use crate::card::Card;
 use crate::generate::{good, limit_near, turning};
 use crate::random::Random;
-use crate::run::{Wanted, cases, same};
+use crate::reading::joined;
+use crate::run::{Tally, Wanted, by_version, same};
 use original::gtsp::evaluate_solution;
-use std::sync::atomic::{AtomicU64, Ordering};
 
 unsafe extern "C" {
     fn probe_evaluate(
@@ -39,7 +39,8 @@ unsafe extern "C" {
 }
 
 /// A card as the search reads it, taken from the original's instance: distances from home and between the t candidates,
-/// the contour of each candidate, each contour's first candidate with the count of all at the end, and the pairs by position.
+/// the contour of each candidate, each contour's first candidate with the count of all at the end, and the pairs by position,
+/// written and by rule.
 pub struct Chart {
     pub home: Vec<f64>,
     pub table: Vec<f64>,
@@ -53,7 +54,6 @@ impl Chart {
     pub fn of(card: &Card, problem: &Problem) -> Chart {
         let instance = &problem.instance;
         let t = instance.total_candidates;
-        let place = |id: u32| card.position(id) as u8;
         let first = instance.cluster_offsets.iter().map(|&k| k as u8).chain([t as u8]);
         Chart {
             home: instance.home_distances.clone(),
@@ -61,7 +61,7 @@ impl Chart {
             t: t as u8,
             owner: (0..t).map(|g| instance.global_to_local(g).0 as u8).collect(),
             first: first.collect(),
-            pairs: card.pairs.iter().flat_map(|p| [place(p.before.0), place(p.after.0)]).collect(),
+            pairs: joined(card).into_iter().flat_map(|(before, after)| [before as u8, after as u8]).collect(),
         }
     }
 
@@ -103,12 +103,15 @@ pub fn bytes(tour: &[usize]) -> Vec<u8> {
 
 const ALL: u64 = 120_000;
 
-/// One search in so many must have three candidates a contour or more and a candidate that is rejected after another was
-/// accepted in the same turn: there alone the rule for a rejected candidate shows.
-const ONE_IN: u64 = 6;
+/// The searches that a run must have met: those where alone the rule for a rejected candidate shows, and those where pairs by
+/// rule do.
+struct Telling {
+    after_another: Tally,
+    by_rule: Tally,
+}
 
-fn one(r: &Random, telling: &AtomicU64) -> Result<u64, String> {
-    let mut card = if r.one_in(2) { turning(r) } else { good(r) };
+fn one(r: &Random, version: u8, telling: &Telling) -> Result<u64, String> {
+    let mut card = if r.one_in(2) { turning(r, version) } else { good(r, version) };
     let problem = Problem::of(&card);
     limit_near(r, &mut card, || problem.search(0).moves as u32);
     let what = || format!("{card:?}");
@@ -123,18 +126,21 @@ fn one(r: &Random, telling: &AtomicU64) -> Result<u64, String> {
     same(what, chart.evaluate(&tour).to_bits(), found.length)?;
     let mut whole = bytes(&start);
     chart.improve(&mut whole, u32::from(card.passes), 0);
-    telling.fetch_add(u64::from(card.c > 2 && found.rejected_after > 0), Ordering::Relaxed);
-    same(what, &whole, &bytes(&problem.unlimited()))
+    let agreed = same(what, &whole, &bytes(&problem.unlimited()))?;
+    telling.after_another.count(card.c > 2 && found.rejected_after > 0);
+    let written = problem.dag.precedences()[..card.pairs.len()].to_vec();
+    telling.by_rule.count(version == 2 && problem.by(written).search(card.limit).tour != found.tour);
+    Ok(agreed)
 }
 
 pub fn compare(wanted: Wanted) -> bool {
-    let telling = AtomicU64::new(0);
-    if !cases(wanted, "searches", ALL, |r| one(r, &telling)) {
-        return false;
-    }
-    let telling = telling.into_inner();
-    let enough = telling * ONE_IN >= wanted.of(ALL);
-    let few = if enough { "" } else { ": TOO FEW" };
-    println!("searches: {telling} with c of 3 or more and a candidate rejected after one accepted in the same turn{few}");
-    enough
+    let telling = Telling {
+        after_another: Tally::of(
+            "searches with c of 3 or more and a candidate rejected after one accepted in the same turn",
+            6,
+        ),
+        by_rule: Tally::of("searches with another tour than by the written pairs alone", 15),
+    };
+    by_version(wanted, "searches", ALL, |r, version| one(r, version, &telling))
+        && telling.after_another.enough(wanted.of(ALL)) & telling.by_rule.enough(wanted.of(ALL))
 }

@@ -3,7 +3,7 @@
 use crate::answer::Problem;
 use crate::generate::good;
 use crate::random::Random;
-use crate::run::{Wanted, cases, same};
+use crate::run::{Wanted, by_version, same};
 use crate::search::{Chart, bytes};
 use original::gtsp::solve_nn;
 
@@ -69,8 +69,8 @@ fn free(s: &Chart, n: usize) -> (usize, Vec<u8>) {
     })
 }
 
-fn one(r: &Random) -> Result<u64, String> {
-    let card = good(r);
+fn one(r: &Random, version: u8) -> Result<u64, String> {
+    let card = good(r, version);
     let n = card.contours.len();
     let problem = Problem::of(&card);
     let chart = Chart::of(&card, &problem);
@@ -81,5 +81,5 @@ fn one(r: &Random) -> Result<u64, String> {
 }
 
 pub fn compare(wanted: Wanted) -> bool {
-    cases(wanted, "both starts", 120_000, one)
+    by_version(wanted, "both starts", 120_000, one)
 }

@@ -5,7 +5,7 @@ use crate::answer::Problem;
 use crate::doors::KEPT;
 use crate::generate::good;
 use crate::random::Random;
-use crate::run::{Wanted, cases, same};
+use crate::run::{Wanted, by_version, same};
 
 unsafe extern "C" {
     fn probe_distances(
@@ -26,8 +26,8 @@ fn room(distances: &[f64], size: usize) -> Vec<u64> {
     room.into_iter().map(f64::to_bits).collect()
 }
 
-fn one(r: &Random) -> Result<u64, String> {
-    let card = good(r);
+fn one(r: &Random, version: u8) -> Result<u64, String> {
+    let card = good(r, version);
     let bytes = card.bytes();
     let instance = Problem::of(&card).instance;
     let t = instance.total_candidates;
@@ -44,5 +44,5 @@ fn one(r: &Random) -> Result<u64, String> {
 }
 
 pub fn compare(wanted: Wanted) -> bool {
-    cases(wanted, "distances of a card", 120_000, one)
+    by_version(wanted, "distances of a card", 120_000, one)
 }

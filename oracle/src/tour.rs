@@ -7,7 +7,7 @@ use crate::exports::{Left, UNTOUCHED, check, place, tour};
 use crate::generate::{good, limit_near};
 use crate::limits::CANDIDATES;
 use crate::random::Random;
-use crate::run::{Wanted, cases, same};
+use crate::run::{Wanted, by_version, same};
 
 /// The contour of a candidate and its number within, or 15 where the card has no such candidate.
 pub fn place_due(problem: &Problem, candidate: u64) -> (u64, u64, u64) {
@@ -18,8 +18,8 @@ pub fn place_due(problem: &Problem, candidate: u64) -> (u64, u64, u64) {
     (0, contour as u64, within as u64)
 }
 
-fn one(r: &Random) -> Result<u64, String> {
-    let mut card = good(r);
+fn one(r: &Random, version: u8) -> Result<u64, String> {
+    let mut card = good(r, version);
     let n = card.contours.len();
     let problem = Problem::of(&card);
     limit_near(r, &mut card, || problem.search(0).moves as u32);
@@ -42,5 +42,5 @@ fn one(r: &Random) -> Result<u64, String> {
 }
 
 pub fn compare(wanted: Wanted) -> bool {
-    cases(wanted, "good cards", 200_000, one)
+    by_version(wanted, "good cards", 200_000, one)
 }

@@ -61,16 +61,16 @@ pub mod timing {
     }
 }
 
-/// What the nesting of parts in holes needs. Pairs come from a card, so nothing asks.
+/// What the nesting of parts in holes needs. That rule is left out, so nothing asks.
 pub mod geom {
     pub mod collision {
         pub fn boundary_distance(_: &[(f64, f64)], _: &[(f64, f64)]) -> Option<f64> {
-            unreachable!("pairs come from a card")
+            unreachable!("no part is looked for in a hole")
         }
     }
     pub mod polygon {
         pub fn contains_point(_: &[(f64, f64)], _: (f64, f64)) -> bool {
-            unreachable!("pairs come from a card")
+            unreachable!("no part is looked for in a hole")
         }
     }
 }

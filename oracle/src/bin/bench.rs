@@ -36,26 +36,38 @@ fn check() {
     use oracle::limits::{BLOCK, CONTOURS, PAIRS, shared};
     use oracle::{check, generate, random::Random, reading};
     use std::hint::black_box;
-    let card = generate::sheet(&Random::of(1, "bench", 0), CONTOURS, shared(CONTOURS), PAIRS).bytes();
-    let (ours, plain) = both(
-        300,
-        || assert_eq!(check::check(black_box(&card)), 0),
-        || assert_eq!(reading::refusal(black_box(&card)), None),
-    );
-    println!(
-        "check of {} blocks: {:.1} µs, plain Rust {:.1} µs, {:.2} times",
-        card.len() / BLOCK,
-        ours / 1e3,
-        plain / 1e3,
-        ours / plain
-    );
+    let sheet = generate::sheet(&Random::of(1, "bench", 0), CONTOURS, shared(CONTOURS), PAIRS);
+    for card in [sheet.clone(), generate::holed(sheet)] {
+        let bytes = card.bytes();
+        let (ours, plain) = both(
+            300,
+            || assert_eq!(check::check(black_box(&bytes)), 0),
+            || assert_eq!(reading::refusal(black_box(&bytes)), None),
+        );
+        println!(
+            "check of {} blocks, version {}: {:.1} µs, plain Rust {:.1} µs, {:.2} times",
+            bytes.len() / BLOCK,
+            card.version,
+            ours / 1e3,
+            plain / 1e3,
+            ours / plain
+        );
+    }
 }
 
-/// The classes of cards: contours, candidates a contour, pairs. All but the third have as many candidates as a card takes.
+/// The classes of cards: version, contours, candidates a contour, written pairs. In version 2 each two contours are a hole and
+/// its outline. All but the third have as many candidates as a card takes.
 #[cfg(feature = "original")]
-const CLASSES: [(usize, usize, usize); 5] = {
+const CLASSES: [(u8, usize, usize, usize); 6] = {
     use oracle::limits::{CANDIDATES as ALL, CONTOURS, PAIRS, PER_CONTOUR as EACH};
-    [(ALL / 2, 2, 0), (ALL / 2, 2, ALL / 2), (CONTOURS, 1, PAIRS), (ALL / 4, 4, 0), (ALL / EACH, EACH, 0)]
+    [
+        (1, ALL / 2, 2, 0),
+        (1, ALL / 2, 2, ALL / 2),
+        (1, CONTOURS, 1, PAIRS),
+        (1, ALL / 4, 4, 0),
+        (1, ALL / EACH, EACH, 0),
+        (2, ALL / 2, 2, 0),
+    ]
 };
 
 /// Times ten cards of each class. `ours` and `theirs` make of a card what is timed.
@@ -67,16 +79,17 @@ fn classes<A: FnMut(), B: FnMut()>(
 ) {
     use oracle::{answer::Problem, generate, random::Random};
     const CARDS: u64 = 10;
-    for (n, c, m) in CLASSES {
+    for (version, n, c, m) in CLASSES {
         let (mut a, mut b, mut trials) = (0.0, 0.0, 0);
         for case in 0..CARDS {
-            let card = generate::sheet(&Random::of(1, "bench", case), n, c, m);
+            let sheet = generate::sheet(&Random::of(1, "bench", case), n, c, m);
+            let card = if version == 2 { generate::holed(sheet) } else { sheet };
             let times = both(5, ours(&card), theirs(&card));
             (a, b) = (a + times.0, b + times.1);
             trials += Problem::of(&card).search(0).moves;
         }
         println!(
-            "{what} n={n} c={c} m={m}: {:.0} µs a card, {:.0} ns a trial; the original {:.0} µs, {:.0} ns; {:.1} times as fast",
+            "{what} n={n} c={c} m={m} version {version}: {:.0} µs a card, {:.0} ns a trial; the original {:.0} µs, {:.0} ns; {:.1} times as fast",
             a / 1e3 / CARDS as f64,
             a / trials as f64,
             b / 1e3 / CARDS as f64,

@@ -3,17 +3,18 @@
 //! where an answer differs or a name is no part's. With a time it goes on from seed to seed until the time is over.
 
 use oracle::run::Wanted;
-use oracle::{candidates, check, cost, hierarchy, root, search, start, table, tour};
+use oracle::{candidates, check, cost, hierarchy, root, rules, search, start, table, tour};
 
 /// A part's name, how it is compared, and whether that is quick: in full size a few seconds.
 type Part = (&'static str, fn(Wanted) -> bool, bool);
 
-const PARTS: [Part; 9] = [
+const PARTS: [Part; 10] = [
     ("root", root::compare, true),
     ("cost", cost::compare, true),
     ("hierarchy", hierarchy::compare, true),
     ("candidates", candidates::compare, true),
     ("table", table::compare, false),
+    ("rules", rules::compare, false),
     ("start", start::compare, false),
     ("search", search::compare, false),
     ("check", check::compare, true),

@@ -3,9 +3,9 @@
 
 use oracle::answer::printed;
 use oracle::card::Card;
-use oracle::edges::edges;
+use oracle::edges::{Edge, edges, edges_of_parts};
 use oracle::generate;
-use oracle::limits::{BLOCK, CARD_BYTES};
+use oracle::limits::{BLOCK, CARD_BYTES, VERSION_AT};
 use oracle::random::Random;
 use std::fs;
 use std::path::Path;
@@ -38,31 +38,49 @@ fn refused() -> Card {
 /// The examples: each card beside its list.
 fn examples() {
     fs::create_dir_all("examples").unwrap();
-    let cards =
-        [("job-41", generate::job_41()), ("sheet", plates()), ("refused", refused()), ("slit", generate::slit())];
+    let cards = [
+        ("job-41", generate::job_41()),
+        ("sheet", plates()),
+        ("refused", refused()),
+        ("slit", generate::slit()),
+        ("holes", generate::holes()),
+    ];
     for (name, card) in cards {
         fs::write(format!("examples/{name}.card"), card.bytes()).unwrap();
         fs::write(format!("examples/{name}.list"), printed(&card.bytes())).unwrap();
     }
 }
 
-/// The cards that the program `replay` runs over, each after its length in four bytes, and what it must print: first the
-/// edges that the paper names, then the card with a slit, then cards from the generator, by turns good and damaged. Most are
-/// small, so that the file is; every twenty-fifth has any size up to one byte too many.
-fn replay(crate_folder: &Path) {
-    let (mut cards, mut lists) = (Vec::new(), String::new());
-    let kept = |case: &u64, bytes: &[u8]| bytes.len() <= if case % 25 == 0 { CARD_BYTES + 1 } else { 6 * BLOCK };
-    let made = |case: u64| {
-        let r = Random::of(2026, "replay", case);
-        if case % 2 == 0 { generate::good(&r).bytes() } else { generate::damaged(&r) }
+/// Cards from the generator, by turns good and damaged. Most are small, so that the file is; every twenty-fifth has any size up
+/// to one byte too many.
+fn random(part: &str, cases: u64, version: u8) -> impl Iterator<Item = Vec<u8>> {
+    let made = move |case: u64| {
+        let r = Random::of(2026, part, case);
+        match case % 4 {
+            0 | 2 => generate::good(&r, version).bytes(),
+            3 if version == 2 => generate::relabelled(&r, version),
+            _ => generate::damaged(&r, version),
+        }
     };
-    let edges = edges().into_iter().map(|(card, _)| card.bytes());
-    let random = (0..2000).map(|case| (case, made(case))).filter(|(case, bytes)| kept(case, bytes)).map(|made| made.1);
-    for bytes in edges.chain([generate::slit().bytes()]).chain(random) {
+    let most = |case: u64| if case % 25 == 0 { CARD_BYTES + 1 } else { 6 * BLOCK };
+    (0..cases).map(move |case| (case, made(case))).filter(move |made| made.1.len() <= most(made.0)).map(|made| made.1)
+}
+
+/// The cards that the program `replay` runs over, each after its length in four bytes, and what it must print: first the
+/// edges that the paper names, then the card with a slit, then cards from the generator; then the same again for version 2.
+/// The first of them stay as they are, so that what a request leaves alone is seen.
+fn replay(crate_folder: &Path) {
+    let (mut cards, mut lists, mut of_two) = (Vec::new(), String::new(), 0);
+    let written = |edges: Vec<Edge>| edges.into_iter().map(|edge| edge.0);
+    let one = written(edges()).chain([generate::slit().bytes()]).chain(random("replay", 2000, 1));
+    let two = written(edges_of_parts()).chain([generate::holes().bytes()]).chain(random("replay, version 2", 400, 2));
+    for bytes in one.chain(two) {
         cards.extend((bytes.len() as u32).to_le_bytes());
         cards.extend(&bytes);
         lists += &printed(&bytes);
+        of_two += u32::from(bytes.get(VERSION_AT) == Some(&2));
     }
+    assert!(of_two >= 60, "{of_two} cards of version 2");
     fs::create_dir_all(crate_folder.join("data")).unwrap();
     fs::write(crate_folder.join("data/cards"), cards).unwrap();
     fs::write(crate_folder.join("stdout"), lists).unwrap();
