@@ -48,14 +48,17 @@ abbrev pub cornered : ℕ → Contour
 cornered id = dot id (10 * id) Exterior 0 0
 
 -- job 41: (12,12), (3,0) and (3,4), the last before the second
+abbrev pub seven : Contour
+seven = dot 7 70 Exterior 0x4028_0000_0000_0000 0x4028_0000_0000_0000
+
+abbrev pub nine : Contour
+nine = dot 9 90 Exterior 0x4008_0000_0000_0000 0
+
+abbrev pub two : Contour
+two = dot 2 20 Interior 0x4008_0000_0000_0000 0x4010_0000_0000_0000
+
 abbrev pub job41 : Card
-job41 =
-    asJob41
-    (dot 7 70 Exterior 0x4028_0000_0000_0000 0x4028_0000_0000_0000
-    ∷ dot 9 90 Exterior 0x4008_0000_0000_0000 0
-    ∷ dot 2 20 Interior 0x4008_0000_0000_0000 0x4010_0000_0000_0000
-    ∷ [])
-    (waits 2 9 ∷ [])
+job41 = asJob41 (seven ∷ nine ∷ two ∷ []) (waits 2 9 ∷ [])
 
 -- position 3 waits on itself
 abbrev pub selfPair : Card
