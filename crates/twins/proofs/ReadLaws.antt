@@ -70,20 +70,23 @@ module _ (s t : List ℕ) (w : Twins s t) where
   same-blocks = λ i. same-length i / blockBytes
 
   -- n bytes of block b from p on, none of them the version, the check or, in a contour's block, the part or the copy
-  pub run : (a b p n : ℕ) → a ≡ blockBytes * b + p → p + n ≤ checkOffset → ((i : ℕ) → i < n → p + i ≡ 1 → ⊥)
-      → (0 < b → b ≤ contoursOf s → p + n ≤ 8 + partOffset) → Run s t a n
-  run a b p n e inside no-version no-part i h =
+  abbrev Shared : ℕ → ℕ → Type 0
+  Shared b p = (p < checkOffset) × (p ≡ 1 → ⊥) × (0 < b → b ≤ contoursOf s → p < 8 + partOffset)
+
+  pub run : (a b p n : ℕ) → a ≡ blockBytes * b + p → ((i : ℕ) → i < n → Shared b (p + i)) → Run s t a n
+  run a b p n e shared i h =
       let place : blockBytes * b + (p + i) ≡ a + i = omega arith in
-      subst (λ (x : ℕ). byteAt s x ≡ byteAt t x) place (sym (w .shared b (p + i) (omega arith) own))
+      subst (λ (x : ℕ). byteAt s x ≡ byteAt t x) place
+      (sym (w .shared b (p + i) (omega (arith, shared i h .0)) (own (shared i h))))
     where
-      own : Own s b (p + i) → ⊥
-      own (of-version v) = no-version i h v
-      own (of-check c) = omega arith
-      own (of-part some few g) = omega (arith, no-part some few)
+      own : Shared b (p + i) → Own s b (p + i) → ⊥
+      own c (of-version v) = c .1 v
+      own c (of-check g) = omega (arith, c .0)
+      own c (of-part some few g) = omega (arith, c .2 some few)
 
   -- in a payload, before the part
   pub front : (b o n : ℕ) → o + n ≤ partOffset → Run s t (payload b + o) n
-  front b o n h = run _ b (8 + o) n (omega arith) (omega arith) (omega arith) (omega arith)
+  front b o n h = run _ b (8 + o) n (omega arith) (omega arith)
 
   pub same-job : jobOf s ≡ jobOf t
   same-job = word s t _ (front 0 0 4 (lit≤ tt))
@@ -129,12 +132,12 @@ module _ (s t : List ℕ) (w : Twins s t) where
 
   -- as many vertices as a contour may have stand before the part
   pub at-vertex : (k j : ℕ) → j < vertexLimit → Run s t (vertexOffset k j) 16
-  at-vertex k j h = run _ (k + 1) (20 + 16 * j) 16 (omega arith) (omega arith) (omega arith) (omega arith)
+  at-vertex k j h = run _ (k + 1) (20 + 16 * j) 16 (omega arith) (omega arith)
 
   -- a word of a pair
   pub same-word : (q o : ℕ) → o + 4 ≤ 16 → u32At s (pairOffset s q + o) ≡ u32At t (pairOffset t q + o)
   same-word q o h =
       let b = contoursOf s + 1 + q / pairsABlock in
       let r : q % pairsABlock < pairsABlock = mod-lt q (lit< tt) in
-      word s t _ (run _ b (8 + 16 * (q % pairsABlock) + o) 4 (omega arith) (omega arith) (omega arith) (omega arith))
+      word s t _ (run _ b (8 + 16 * (q % pairsABlock) + o) 4 (omega arith) (omega arith))
       ∙ (λ i. u32At t (payload (same-contours i + 1 + q / pairsABlock) + 16 * (q % pairsABlock) + o))

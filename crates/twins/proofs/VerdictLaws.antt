@@ -5,25 +5,27 @@ use mathlib.Core.Bool.{Bool, true, false, not, cond, _||_, _&&_}
 use mathlib.Core.List.{List, [], _∷_, _++_}
 use Prim.Native.Nat.{ℕ, zero, suc, _+_, _*_, _-_, _/_, _%_, _≤_, _<_, min}
 use native.Mathlib.Nat.{zero-lt-suc, add-assoc, le-of-suc-le-suc}
+use native.Mathlib.Numerals.{add-one}
 use native.Mathlib.Omega.{arith}
-use lib.Dec.{eqb, ltb, leb, lit<}
+use lib.Dec.{eqb, ltb, leb, lit≤}
 use lib.ListN.{getD}
 use borrow.Author.Tests.{eq-eqb, le-leb, lt-leb, leb-true, leb-false, ltb-false}
 use Rattle.answer.specs.declared.Found.{Found}
 use Rattle.answer.specs.declared.Found.the-variants.{At, Absent}
 use Rattle.answer.specs.declared.Check.{Check}
+use Rattle.answer.specs.declared.Check.the-variants.{Fine}
 use Rattle.answer.specs.Lowest.{lowest, refuseAt}
 use Rattle.answer.specs.Stage.{orElse, firstRefusal}
 use Rattle.answer.proofs.LowestLaws.{LowestAt, Nowhere, at-is, absent-is, is-absent, search-through}
 use Rattle.answer.proofs.Truth.{or-none}
-use Rattle.block.specs.Field.{byteAt}
+use Rattle.block.specs.Field.{byteAt, u32At}
 use Rattle.block.specs.Block.{blockBytes, payloadBytes, checked, starts, zerosAt}
 use Rattle.block.proofs.Readings.{zeros-each, each-zeros}
 use Rattle.closure.specs.Limits.{contourLimit, pairLimit}
 use Rattle.closure.specs.Cycle.{firstOnCycle}
 use Rattle.fields.specs.Limits.{cardBytes, perContourLimit, candidateLimit, passLimit, vertexLimit, pairsABlock}
 use Rattle.fields.specs.Layout.{blocksOf, payload, versionOf, contoursOf, pairsOf, vertexCountOf, typeOf, fillerOf}
-use Rattle.fields.specs.Layout.{homeOffset, vertexOffset, idOf, tagOf, beforeIdOf, afterIdOf, beforeTagOf, afterTagOf}
+use Rattle.fields.specs.Layout.{homeOffset, vertexOffset, pairOffset, beforeIdOf, afterIdOf}
 use Rattle.fields.specs.Layout.{headSize, contourSize, vertexSize, pairSize, partOffset}
 use Rattle.card.specs.Stages.{foundIf, isAt, outside, lengthFault, checkFault, kindDue, isVersion, badStart, startFault}
 use Rattle.card.specs.Stages.{headFault, countFault, badContour, contourFault, pairsIn, usedIn, spareEnd, badSpare}
@@ -31,6 +33,7 @@ use Rattle.card.specs.Stages.{spareFault, farPoint, farVertex, farPlace, farFau
 use Rattle.card.specs.Stages.{nameFault, seat, beforeOf, afterOf, tagFault}
 use Rattle.card.specs.Names.{seatsOf, writtenOn, pairsOn}
 use Rattle.card.specs.Verdict.{cycleFault, checkOf}
+use Rattle.card.proofs.SpareLaws.{end-head, used-contour, end-contour, end-pairs, some-spare}
 use Rattle.card_laws.proofs.JoinedLaws.{unruled}
 use Rattle.twins.specs.Twins.{Checked, Twins}
 use Rattle.twins.proofs.ReadLaws.{Run, byte, half, word, far, same-length, same-blocks, run, front}
@@ -117,12 +120,12 @@ module _ (s t : List ℕ) (w : Twins s t) where
       let known : isVersion (versionOf s) ≡ isVersion (versionOf t) =
       ap isVersion is-two ∙ sym (ap isVersion is-one) in
       let kind : byteAt s (blockBytes * b) ≡ byteAt t (blockBytes * b) =
-      byte s t _ (run s t w _ b 0 1 (omega arith) (omega arith) (omega arith) (omega arith)) in
+      byte s t _ (run s t w _ b 0 1 (omega arith) (omega arith)) in
       let version : eqb (byteAt s (blockBytes * b + 1)) (versionOf s) ≡ eqb (byteAt t (blockBytes * b + 1)) (versionOf t) =
       eq-eqb _ _ (w .two b h ∙ sym is-two)
       ∙ sym (eq-eqb _ _ (w .one b (subst (λ (n : ℕ). b < n) (same-blocks s t w) h) ∙ sym is-one)) in
-      let number = half s t (blockBytes * b + 2) (run s t w _ b 2 2 refl (omega arith) (omega arith) (omega arith)) in
-      let zeros = word s t (blockBytes * b + 4) (run s t w _ b 4 4 refl (omega arith) (omega arith) (omega arith)) in
+      let number = half s t (blockBytes * b + 2) (run s t w _ b 2 2 refl (omega arith)) in
+      let zeros = word s t (blockBytes * b + 4) (run s t w _ b 4 4 refl (omega arith)) in
       λ i. not (known i && (eqb (kind i) (same-kind b i) && (version i && (eqb (number i) b && eqb (zeros i) 0))))
 
   same-start-fault : (count : ℕ) → count ≤ blocksOf s → startFault s count ≡ startFault t count
@@ -154,3 +157,144 @@ module _ (s t : List ℕ) (w : Twins s t) where
   unfolding contourFault
   same-contour-fault = λ i. lowest (λ k. outside 1 vertexLimit (same-count s t w k i)
       || (ltb 1 (same-type s t w k i) || not (eqb (same-filler s t w k i) 0))) (n-same i)
+
+  -- ---- 7
+
+  same-used : (b : ℕ) → usedIn s b ≡ usedIn t b
+  same-used b = λ i. cond (eqb b 0) headSize (cond (leb b (n-same i)) (contourSize + vertexSize * same-count s t w (b - 1) i)
+      (pairSize * min pairsABlock (same-pairs s t w i - pairsABlock * (b - (n-same i + 1)))))
+
+  -- spare bytes that end at c in the one and at d in the other
+  like-spare : (b c d : ℕ) → c ≡ spareEnd s b → d ≡ spareEnd t b → c ≤ d
+      → ((i : ℕ) → usedIn s b + i < c → 0 < b → b ≤ contoursOf s → usedIn s b + i < partOffset) → c ≤ payloadBytes
+      → ((o : ℕ) → c ≤ o → o < d → byteAt t (payload b + o) ≡ 0) → badSpare s b ≡ badSpare t b
+  like-spare b c d ends-c ends-d within clear inside rest =
+      let u = usedIn s b in
+      sym (some-spare s b u c refl ends-c _ refl)
+      ∙ ap not (like-zeros s t (payload b + u) (c - u) (d - u) (omega arith)
+        (run s t w _ b (8 + u) (c - u) (omega arith) (λ i h.
+        (omega arith, omega arith, λ some few. omega (arith, clear i (omega arith) some few))))
+        (λ i h g. ap (byteAt t) (add-assoc (payload b) u i) ∙ rest (u + i) (omega arith) (omega arith)))
+      ∙ some-spare t b u d (same-used b) ends-d _ refl
+
+  same-spare : (b : ℕ) → badSpare s b ≡ badSpare t b
+  same-spare zero = like-spare 0 payloadBytes payloadBytes refl refl (omega arith) (λ i h some few. absurd (omega arith))
+      (omega arith) (λ o h g. absurd (omega arith))
+  same-spare (suc k) = go (leb (suc k) (contoursOf s)) refl
+    where
+      later : suc k ≡ 0 → ⊥
+      later e = omega arith
+
+      few : suc k ≤ contoursOf s → suc k ≤ contoursOf t
+      few h = omega (arith, n-same)
+
+      go : (b : Bool) → leb (suc k) (contoursOf s) ≡ b → badSpare s (suc k) ≡ badSpare t (suc k)
+      go true e =
+          let h : suc k ≤ contoursOf s = leb-true _ _ e in
+          like-spare (suc k) partOffset payloadBytes
+          (ap (λ (v : ℕ). cond (eqb v 2) partOffset payloadBytes) (sym is-two) ∙ end-contour s (suc k) later h)
+          (ap (λ (v : ℕ). cond (eqb v 2) partOffset payloadBytes) (sym is-one) ∙ end-contour t (suc k) later (few h))
+          (omega arith) (λ i g some within. g) (omega arith)
+          (λ o l g. ap (λ (b : ℕ). byteAt t (payload b + o)) (sym (add-one k)) ∙ w .zeros k o h l g)
+      go false e =
+          let h : contoursOf s < suc k = leb-false _ _ e in
+          like-spare (suc k) payloadBytes payloadBytes (end-pairs s (suc k) later h)
+          (end-pairs t (suc k) later (omega (arith, n-same)))
+          (omega arith) (λ i g some within. absurd (omega arith)) (omega arith) (λ o l g. absurd (omega arith))
+
+  same-spare-fault : spareFault s ≡ spareFault t
+  unfolding spareFault
+  same-spare-fault = λ i. lowest (λ b. same-spare b i) (same-blocks s t w i)
+
+  -- ---- 8, once 6 has let the card pass
+
+  same-far-place : ((k : ℕ) → k < contoursOf s → vertexCountOf s k ≤ vertexLimit) → (p : ℕ) → p < contoursOf s + 1
+      → farPlace s p ≡ farPlace t p
+  unfolding farVertex
+  same-far-place few zero h = far s t homeOffset (at-home s t w)
+  same-far-place few (suc k) h =
+      let v : vertexCountOf s k ≤ vertexLimit = few k (omega arith) in
+      ap isAt (agree _ _ (vertexCountOf s k) (λ j g. far s t _ (at-vertex s t w k j (omega arith)))
+      ∙ ap (lowest (λ j. farPoint t (vertexOffset k j))) (same-count s t w k))
+
+  same-far-fault : contourFault s ≡ Absent → farFault s ≡ farFault t
+  unfolding farFault
+  same-far-fault none =
+      agree _ _ (contoursOf s + 1) (same-far-place (few-vertices s none))
+      ∙ (λ i. lowest (farPlace t) (n-same i + 1))
+
+  -- ---- 9, 10, 11
+
+  same-seek : (count id : ℕ) → seekOf s count id ≡ seekOf t count id
+  unfolding seekOf
+  same-seek count id = λ i. lowest (λ k. eqb (same-id s t w k i) id) count
+
+  same-repeat-fault : repeatFault s ≡ repeatFault t
+  unfolding repeatFault
+  same-repeat-fault = λ i. lowest (λ k. isAt (same-seek k (same-id s t w k i) i)) (n-same i)
+
+  -- the contour that a pair's word names, as an id
+  same-position : (q o : ℕ) → o + 4 ≤ 16
+      → positionOf s (u32At s (pairOffset s q + o)) ≡ positionOf t (u32At t (pairOffset t q + o))
+  same-position q o h = λ i. same-seek (n-same i) (same-word s t w q o h i) i
+
+  abbrev first : (q : ℕ) → positionOf s (beforeIdOf s q) ≡ positionOf t (beforeIdOf t q)
+  first q = same-position q 0 (lit≤ tt)
+
+  abbrev second : (q : ℕ) → positionOf s (afterIdOf s q) ≡ positionOf t (afterIdOf t q)
+  second q = same-position q 8 (lit≤ tt)
+
+  pub same-name-fault : nameFault s ≡ nameFault t
+  unfolding nameFault
+  same-name-fault = λ i. lowest (λ q. not (isAt (first q i)) || not (isAt (second q i))) (same-pairs s t w i)
+
+  same-tag-fault : tagFault s ≡ tagFault t
+  unfolding tagFault
+  same-tag-fault = λ i. lowest (λ q.
+      not (eqb (same-tag s t w (seat (first q i)) i) (same-word s t w q 4 (lit≤ tt) i))
+      || not (eqb (same-tag s t w (seat (second q i)) i) (same-word s t w q 12 (lit≤ tt) i))) (same-pairs s t w i)
+
+  -- ---- 12: none has a pair by rule
+
+  pub same-seats : (q : ℕ) → seatsOf s q ≡ seatsOf t q
+  unfolding seatsOf
+  same-seats zero = refl
+  same-seats (suc q) = λ i. same-seats q i ++ (seat (first q i) ∷ seat (second q i) ∷ [])
+
+  pub same-pairs-on : pairsOn s ≡ pairsOn t
+  same-pairs-on =
+      unruled s .as-written (w .no-part)
+      ∙ (λ i. same-seats (same-pairs s t w i) i)
+      ∙ sym (unruled t .as-written (λ k h. unruled t .version-one is-one k))
+
+  same-cycle-fault : cycleFault s ≡ cycleFault t
+  unfolding cycleFault
+  same-cycle-fault = λ i. firstOnCycle (n-same i) (same-pairs-on i)
+
+  -- ---- all
+
+  -- what comes after stage 6 counts only where that finds nothing
+  after-six : (f g : Found) (x y : Check) → f ≡ g → (f ≡ Absent → x ≡ y)
+      → orElse (refuseAt 6 f) x ≡ orElse (refuseAt 6 g) y
+  after-six (At p) g x y e h = ap (λ (z : Found). orElse (refuseAt 6 z) y) e
+  after-six Absent g x y e h = λ i. orElse (refuseAt 6 (e i)) (h refl i)
+
+  pub same-verdict : checkOf s ≡ checkOf t
+  unfolding checkOf firstRefusal
+  same-verdict = λ i.
+      orElse (refuseAt 1 (same-length-fault i))
+      (orElse (refuseAt 2 (same-check-fault i))
+      (orElse (refuseAt 3 (same-start-fault 1 (w .some-block) i))
+      (orElse (refuseAt 4 (same-head-fault i))
+      (orElse (refuseAt 5 (same-count-fault i))
+      (orElse (refuseAt 3 (all-starts i))
+      (after-six (contourFault s) (contourFault t) _ _ same-contour-fault (λ none j.
+      orElse (refuseAt 7 (same-spare-fault j))
+      (orElse (refuseAt 8 (same-far-fault none j))
+      (orElse (refuseAt 9 (same-repeat-fault j))
+      (orElse (refuseAt 10 (same-name-fault j))
+      (orElse (refuseAt 11 (same-tag-fault j))
+      (orElse (refuseAt 12 (same-cycle-fault j)) Fine)))))) i))))))
+    where
+      all-starts : startFault s (blocksOf s) ≡ startFault t (blocksOf t)
+      all-starts = same-start-fault (blocksOf s) (omega arith) ∙ (λ i. startFault t (same-blocks s t w i))
