@@ -1,3 +1,4 @@
 pub mod ReadLaws
 pub mod VerdictLaws
 pub mod SearchLaws
+pub mod Witness
