@@ -1,6 +1,6 @@
--- What twins read alike: every byte that is not one of their own, so every field but the version, the part and the copy.
--- Assumes nothing.
-use mathlib.Core.Path.{_≡_, sym, ap, _∙_, subst}
+-- What twins read alike: every byte that is not one of their own, so every field but version, part and copy. Assumes
+-- nothing.
+use mathlib.Core.Path.{_≡_, sym, _∙_, subst}
 use mathlib.Core.Bool.{_||_}
 use mathlib.Core.List.{List}
 use Prim.Native.Nat.{ℕ, _+_, _*_, _/_, _%_, _≤_, _<_}
@@ -12,7 +12,7 @@ use lib.ListN.{length}
 use Rattle.block.specs.Field.{byteAt, u16At, u32At, u64At, f64At}
 use Rattle.block.specs.Block.{blockBytes, checkOffset}
 use Rattle.fields.specs.Limits.{vertexLimit, pairsABlock}
-use Rattle.fields.specs.Layout.{blocksOf, payload, partOffset, versionOf, jobOf, contoursOf, pairsOf, perContourOf}
+use Rattle.fields.specs.Layout.{blocksOf, payload, partOffset, jobOf, contoursOf, pairsOf, perContourOf}
 use Rattle.fields.specs.Layout.{passesOf, moveLimitOf, homeOffset, exteriorOf, interiorOf, idOf, tagOf, vertexCountOf}
 use Rattle.fields.specs.Layout.{typeOf, fillerOf, vertexOffset, pairOffset}
 use Rattle.fields.specs.Values.{pointAt}
@@ -69,7 +69,7 @@ module _ (s t : List ℕ) (w : Twins s t) where
   pub same-blocks : blocksOf s ≡ blocksOf t
   same-blocks = λ i. same-length i / blockBytes
 
-  -- n bytes of block b from p on, none of them the version, the check or, in a contour's block, the part or the copy
+  -- not the version, nor one of the check or, in a contour's block, of the part and the copy
   abbrev Shared : ℕ → ℕ → Type 0
   Shared b p = (p < checkOffset) × (p ≡ 1 → ⊥) × (0 < b → b ≤ contoursOf s → p < 8 + partOffset)
 

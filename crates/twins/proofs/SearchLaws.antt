@@ -1,5 +1,5 @@
 -- What is prepared and searched on twins, the tour and the list. Assumes nothing.
-use mathlib.Core.Path.{_≡_, refl, ap, _∙_}
+use mathlib.Core.Path.{_≡_, refl, _∙_}
 use mathlib.Core.Bool.{cond, _||_}
 use mathlib.Core.List.{List, [], _∷_, _++_}
 use Prim.Native.Nat.{ℕ, zero, suc, _+_, _*_, _-_, _≤_, min}
@@ -19,23 +19,22 @@ use Rattle.candidates.specs.Generate.{blank, candidatesOf}
 use Rattle.closure.specs.Limits.{contourLimit, pairLimit}
 use Rattle.fields.specs.Limits.{candidateLimit, vertexLimit}
 use Rattle.fields.specs.Layout.{contoursOf, vertexCountOf, homeOffset, vertexOffset}
-use Rattle.fields.specs.Values.{asType, asPreference, pointAt}
+use Rattle.fields.specs.Values.{asType, asPreference}
 use Rattle.card.specs.Names.{namedAs, knownBefore, namedOf}
-use Rattle.card.specs.Verdict.{checkOf}
 use Rattle.table.specs.Distances.{homed, homesOf, distancesOf}
 use Rattle.improve.specs.Code.{chartOf}
 use Rattle.instance.specs.Gather.{verticesOf, outlineOf, wayOf, offersOf, gathered, owners, firsts, roomFor}
 use Rattle.instance.specs.Room.{heldAt, instanceOf}
-use Rattle.instance.specs.Search.{homeOn, candidatesOn, countOn, ownersOn, firstsOn, tableOn, chartOn}
+use Rattle.instance.specs.Search.{homeOn, candidatesOn, ownersOn, firstsOn, tableOn, chartOn}
 use Rattle.instance.specs.Prepared.{noDistances, preparedOf}
 use Rattle.solve.specs.Solve.{endIn, outcomeIn}
 use Rattle.tour.specs.declared.Toured.the-variants as answer
-use Rattle.tour.specs.Search.{endOn, tourOn, outcomeOn}
+use Rattle.tour.specs.Search.{endOn, outcomeOn}
 use Rattle.tour.specs.Tour.{left, roomCheck, tourCheck, touredUnless, tourOf}
 use Rattle.text.specs.Text.{bytes, decimalOf}
 use Rattle.list.specs.Lines.{headLine, wayWord, nameWords, placeLine, stopLine, stopLines, outcomeLines, tourLines}
 use Rattle.list.specs.Lines.{listUnless, listOf}
-use Rattle.twins.specs.Twins.{Twins, Alike, Claim}
+use Rattle.twins.specs.Twins.{Twins}
 use Rattle.twins.proofs.ReadLaws.{point, same-job, same-contours, same-pairs, same-per-contour, same-passes}
 use Rattle.twins.proofs.ReadLaws.{same-limit, at-home, same-exterior, same-interior, same-id, same-tag}
 use Rattle.twins.proofs.ReadLaws.{same-count, same-type, at-vertex}
@@ -106,10 +105,11 @@ module _ (s t : List ℕ) (w : Twins s t) where
   same-named : namedOf s ≡ namedOf t
   unfolding namedOf
   same-named = λ i.
-      let stop = cond (ltb contourLimit (n-same i) || ltb pairLimit (same-pairs s t w i)) (At 0) (same-name-fault s t w i) in
+      let many = ltb contourLimit (n-same i) || ltb pairLimit (same-pairs s t w i) in
+      let stop = cond many (At 0) (same-name-fault s t w i) in
       namedAs stop (same-known stop i)
 
-  same-prepared : preparedOf s ≡ preparedOf t
+  pub same-prepared : preparedOf s ≡ preparedOf t
   unfolding preparedOf
   same-prepared = λ i. record {
     all = same-instance i;
@@ -151,7 +151,7 @@ module _ (s t : List ℕ) (w : Twins s t) where
       firstRefusal (same-verdict s t w i ∷ firstRefusal (refuseIf (ltb entries (n-same i)) 13 (n-same i)
       ∷ refuseIf (ltb distances (c * c)) 13 (c * c) ∷ []) ∷ [])
 
-  same-tour : (room : List ℕ) (table : List Float) → tourOf s room table ≡ tourOf t room table
+  pub same-tour : (room : List ℕ) (table : List Float) → tourOf s room table ≡ tourOf t room table
   unfolding tourOf
   same-tour room table = λ i.
       let c = length (same-candidates i) in
@@ -180,17 +180,6 @@ module _ (s t : List ℕ) (w : Twins s t) where
       bytes "JOB " ++ decimalOf (same-job s t w i) ++ (bytes " CONTOURS " ++ decimalOf (n-same i)) ++ bytes "\n"
       ++ same-stops (same-end i .tour) i ++ outcomeLines (same-outcome i)
 
-  same-list : listOf s ≡ listOf t
+  pub same-list : listOf s ≡ listOf t
   unfolding listOf
   same-list = λ i. same-lines (same-verdict s t w i) i
-
-  alike : Alike s t
-  alike = record {
-    verdict = same-verdict s t w;
-    prepared = λ fine. same-prepared;
-    toured = same-tour;
-    printed = same-list;
-  }
-
-pub claim : Claim
-claim = alike

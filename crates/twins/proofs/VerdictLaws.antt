@@ -4,12 +4,12 @@ use mathlib.Core.Logic.{_⊎_, inl, inr}
 use mathlib.Core.Bool.{Bool, true, false, not, cond, _||_, _&&_}
 use mathlib.Core.List.{List, [], _∷_, _++_}
 use Prim.Native.Nat.{ℕ, zero, suc, _+_, _*_, _-_, _/_, _%_, _≤_, _<_, min}
-use native.Mathlib.Nat.{zero-lt-suc, add-assoc, le-of-suc-le-suc}
+use native.Mathlib.Nat.{add-assoc}
 use native.Mathlib.Numerals.{add-one}
 use native.Mathlib.Omega.{arith}
 use lib.Dec.{eqb, ltb, leb, lit≤}
 use lib.ListN.{getD}
-use borrow.Author.Tests.{eq-eqb, le-leb, lt-leb, leb-true, leb-false, ltb-false}
+use borrow.Author.Tests.{eq-eqb, leb-true, leb-false, ltb-true, ltb-false}
 use Rattle.answer.specs.declared.Found.{Found}
 use Rattle.answer.specs.declared.Found.the-variants.{At, Absent}
 use Rattle.answer.specs.declared.Check.{Check}
@@ -24,19 +24,19 @@ use Rattle.block.proofs.Readings.{zeros-each, each-zeros}
 use Rattle.closure.specs.Limits.{contourLimit, pairLimit}
 use Rattle.closure.specs.Cycle.{firstOnCycle}
 use Rattle.fields.specs.Limits.{cardBytes, perContourLimit, candidateLimit, passLimit, vertexLimit, pairsABlock}
-use Rattle.fields.specs.Layout.{blocksOf, payload, versionOf, contoursOf, pairsOf, vertexCountOf, typeOf, fillerOf}
+use Rattle.fields.specs.Layout.{blocksOf, payload, versionOf, contoursOf, vertexCountOf}
 use Rattle.fields.specs.Layout.{homeOffset, vertexOffset, pairOffset, beforeIdOf, afterIdOf}
 use Rattle.fields.specs.Layout.{headSize, contourSize, vertexSize, pairSize, partOffset}
-use Rattle.card.specs.Stages.{foundIf, isAt, outside, lengthFault, checkFault, kindDue, isVersion, badStart, startFault}
-use Rattle.card.specs.Stages.{headFault, countFault, badContour, contourFault, pairsIn, usedIn, spareEnd, badSpare}
+use Rattle.card.specs.Stages.{foundIf, isAt, outside, lengthFault, checkFault, kindDue, isVersion, badStart}
+use Rattle.card.specs.Stages.{startFault, headFault, countFault, badContour, contourFault, usedIn, spareEnd, badSpare}
 use Rattle.card.specs.Stages.{spareFault, farPoint, farVertex, farPlace, farFault, seekOf, repeatFault, positionOf}
-use Rattle.card.specs.Stages.{nameFault, seat, beforeOf, afterOf, tagFault}
-use Rattle.card.specs.Names.{seatsOf, writtenOn, pairsOn}
+use Rattle.card.specs.Stages.{nameFault, seat, tagFault}
+use Rattle.card.specs.Names.{seatsOf, pairsOn}
 use Rattle.card.specs.Verdict.{cycleFault, checkOf}
-use Rattle.card.proofs.SpareLaws.{end-head, used-contour, end-contour, end-pairs, some-spare}
+use Rattle.card.proofs.SpareLaws.{end-within, end-contour, end-pairs, some-spare}
 use Rattle.card_laws.proofs.JoinedLaws.{unruled}
 use Rattle.twins.specs.Twins.{Checked, Twins}
-use Rattle.twins.proofs.ReadLaws.{Run, byte, half, word, far, same-length, same-blocks, run, front}
+use Rattle.twins.proofs.ReadLaws.{Run, byte, half, word, far, same-length, same-blocks, run}
 use Rattle.twins.proofs.ReadLaws.{same-contours, same-pairs, same-per-contour, same-passes, at-home}
 use Rattle.twins.proofs.ReadLaws.{same-exterior, same-interior, same-id, same-tag, same-count, same-type}
 use Rattle.twins.proofs.ReadLaws.{same-filler, at-vertex, same-word}
@@ -49,10 +49,10 @@ agree f g n h = go (search-through f n)
     go (inl (k, w)) =
         at-is f n k w
         ∙ sym (at-is g n k (record {
-            within = w .within;
-            holds = sym (h k (w .within)) ∙ w .holds;
-            before = λ j l. sym (h j (omega (arith, w .within))) ∙ w .before j l;
-          }))
+          within = w .within;
+          holds = sym (h k (w .within)) ∙ w .holds;
+          before = λ j l. sym (h j (omega (arith, w .within))) ∙ w .before j l;
+        }))
     go (inr none) = absent-is f n none ∙ sym (absent-is g n (λ j l. sym (h j l) ∙ none j l))
 
 -- where every check is the one due, none is at fault
@@ -82,7 +82,7 @@ like-zeros s t a c d within same rest = either (zerosAt s a c) (zerosAt t a d) t
       where
         go : (i : ℕ) → i < d → (b : Bool) → ltb i c ≡ b → byteAt t (a + i) ≡ 0
         go i h true e =
-            let g : i < c = borrow.Author.Tests.ltb-true i c e in sym (same i g) ∙ zeros-each s a c z i g
+            let g : i < c = ltb-true i c e in sym (same i g) ∙ zeros-each s a c z i g
         go i h false e = rest i (ltb-false i c e) h
 
     from : zerosAt t a d ≡ true → zerosAt s a c ≡ true
@@ -121,7 +121,8 @@ module _ (s t : List ℕ) (w : Twins s t) where
       ap isVersion is-two ∙ sym (ap isVersion is-one) in
       let kind : byteAt s (blockBytes * b) ≡ byteAt t (blockBytes * b) =
       byte s t _ (run s t w _ b 0 1 (omega arith) (omega arith)) in
-      let version : eqb (byteAt s (blockBytes * b + 1)) (versionOf s) ≡ eqb (byteAt t (blockBytes * b + 1)) (versionOf t) =
+      let at = blockBytes * b + 1 in
+      let version : eqb (byteAt s at) (versionOf s) ≡ eqb (byteAt t at) (versionOf t) =
       eq-eqb _ _ (w .two b h ∙ sym is-two)
       ∙ sym (eq-eqb _ _ (w .one b (subst (λ (n : ℕ). b < n) (same-blocks s t w) h) ∙ sym is-one)) in
       let number = half s t (blockBytes * b + 2) (run s t w _ b 2 2 refl (omega arith)) in
@@ -161,46 +162,46 @@ module _ (s t : List ℕ) (w : Twins s t) where
   -- ---- 7
 
   same-used : (b : ℕ) → usedIn s b ≡ usedIn t b
-  same-used b = λ i. cond (eqb b 0) headSize (cond (leb b (n-same i)) (contourSize + vertexSize * same-count s t w (b - 1) i)
-      (pairSize * min pairsABlock (same-pairs s t w i - pairsABlock * (b - (n-same i + 1)))))
+  same-used b = λ i.
+      let contour = contourSize + vertexSize * same-count s t w (b - 1) i in
+      let pairs = min pairsABlock (same-pairs s t w i - pairsABlock * (b - (n-same i + 1))) in
+      cond (eqb b 0) headSize (cond (leb b (n-same i)) contour (pairSize * pairs))
 
-  -- spare bytes that end at c in the one and at d in the other
-  like-spare : (b c d : ℕ) → c ≡ spareEnd s b → d ≡ spareEnd t b → c ≤ d
-      → ((i : ℕ) → usedIn s b + i < c → 0 < b → b ≤ contoursOf s → usedIn s b + i < partOffset) → c ≤ payloadBytes
+  -- spare bytes end at c in the one, in a contour's block at its part, and at d in the other: zeros up to there
+  like-spare : (b c d : ℕ) → c ≡ spareEnd s b → d ≡ spareEnd t b → c ≤ d → (0 < b → b ≤ contoursOf s → c ≤ partOffset)
       → ((o : ℕ) → c ≤ o → o < d → byteAt t (payload b + o) ≡ 0) → badSpare s b ≡ badSpare t b
-  like-spare b c d ends-c ends-d within clear inside rest =
+  like-spare b c d ends-c ends-d within clear rest =
       let u = usedIn s b in
+      let same : Run s t (payload b + u) (c - u) = run s t w _ b (8 + u) (c - u) (omega arith) (λ i h.
+      (omega (arith, end-within s b), omega arith, λ some few. omega (arith, clear some few))) in
       sym (some-spare s b u c refl ends-c _ refl)
-      ∙ ap not (like-zeros s t (payload b + u) (c - u) (d - u) (omega arith)
-        (run s t w _ b (8 + u) (c - u) (omega arith) (λ i h.
-        (omega arith, omega arith, λ some few. omega (arith, clear i (omega arith) some few))))
-        (λ i h g. ap (byteAt t) (add-assoc (payload b) u i) ∙ rest (u + i) (omega arith) (omega arith)))
+      ∙ ap not (like-zeros s t (payload b + u) (c - u) (d - u) (omega arith) same
+      (λ i h g. ap (byteAt t) (add-assoc (payload b) u i) ∙ rest (u + i) (omega arith) (omega arith)))
       ∙ some-spare t b u d (same-used b) ends-d _ refl
 
   same-spare : (b : ℕ) → badSpare s b ≡ badSpare t b
-  same-spare zero = like-spare 0 payloadBytes payloadBytes refl refl (omega arith) (λ i h some few. absurd (omega arith))
-      (omega arith) (λ o h g. absurd (omega arith))
+  same-spare zero =
+      like-spare 0 payloadBytes payloadBytes refl refl (omega arith) (λ some few. absurd (omega arith))
+      (λ o l g. absurd (omega arith))
   same-spare (suc k) = go (leb (suc k) (contoursOf s)) refl
     where
       later : suc k ≡ 0 → ⊥
       later e = omega arith
 
-      few : suc k ≤ contoursOf s → suc k ≤ contoursOf t
-      few h = omega (arith, n-same)
-
       go : (b : Bool) → leb (suc k) (contoursOf s) ≡ b → badSpare s (suc k) ≡ badSpare t (suc k)
       go true e =
           let h : suc k ≤ contoursOf s = leb-true _ _ e in
+          let ends : ℕ → ℕ = λ v. cond (eqb v 2) partOffset payloadBytes in
           like-spare (suc k) partOffset payloadBytes
-          (ap (λ (v : ℕ). cond (eqb v 2) partOffset payloadBytes) (sym is-two) ∙ end-contour s (suc k) later h)
-          (ap (λ (v : ℕ). cond (eqb v 2) partOffset payloadBytes) (sym is-one) ∙ end-contour t (suc k) later (few h))
-          (omega arith) (λ i g some within. g) (omega arith)
+          (ap ends (sym is-two) ∙ end-contour s (suc k) later h)
+          (ap ends (sym is-one) ∙ end-contour t (suc k) later (omega (arith, n-same)))
+          (omega arith) (λ some few. omega arith)
           (λ o l g. ap (λ (b : ℕ). byteAt t (payload b + o)) (sym (add-one k)) ∙ w .zeros k o h l g)
       go false e =
           let h : contoursOf s < suc k = leb-false _ _ e in
           like-spare (suc k) payloadBytes payloadBytes (end-pairs s (suc k) later h)
           (end-pairs t (suc k) later (omega (arith, n-same)))
-          (omega arith) (λ i g some within. absurd (omega arith)) (omega arith) (λ o l g. absurd (omega arith))
+          (omega arith) (λ some few. absurd (omega arith)) (λ o l g. absurd (omega arith))
 
   same-spare-fault : spareFault s ≡ spareFault t
   unfolding spareFault

@@ -1,15 +1,15 @@
--- The twins that there are, computed: one test over all places of the file, and one over the blocks or contours for each
+-- The twins that there are, computed: one test over all places of the file, and one over blocks or contours for each
 -- other premise. Assumes nothing.
 use mathlib.Mathlib.Data.Bool.Basic.{eq-false-of-not-eq-true, and-elim-left, and-elim-right}
 use mathlib.Core.Path.{_≡_, refl, sym, ap, _∙_}
 use mathlib.Core.Logic.{_⊎_, inl, inr, ⊎-elim}
 use mathlib.Core.Bool.{Bool, true, false, not, _||_, _&&_, true≢false}
 use mathlib.Core.List.{List, [], _∷_}
-use Prim.Native.Nat.{ℕ, zero, suc, _+_, _*_, _-_, _/_, _%_, _≤_, _<_}
+use Prim.Native.Nat.{ℕ, zero, suc, _+_, _*_, _-_, _/_, _%_, _<_}
 use native.Mathlib.Nat.{add-zero, zero-add, add-suc, suc-add}
 use native.Mathlib.Omega.{arith}
-use lib.Dec.{eqb, leb, ltb, lit<}
-use lib.ListN.{length, getD}
+use lib.Dec.{eqb, leb, ltb}
+use lib.ListN.{length}
 use borrow.Author.Tests.{eqb-true, leb-true, ltb-true, not-false}
 use Rattle.answer.specs.declared.Found.the-variants.{Absent}
 use Rattle.answer.specs.declared.Check.the-variants.{Fine}
@@ -17,13 +17,13 @@ use Rattle.answer.specs.Lowest.{lowest}
 use Rattle.answer.proofs.LowestLaws.{is-absent}
 use Rattle.answer.proofs.Truth.{or-cases}
 use Rattle.block.specs.Field.{byteAt}
-use Rattle.block.specs.Block.{blockBytes, payloadBytes, checkOffset, checked, zerosAt}
+use Rattle.block.specs.Block.{blockBytes, checkOffset, checked, zerosAt}
 use Rattle.block.proofs.Readings.{zeros-each}
-use Rattle.fields.specs.Layout.{blocksOf, payload, contoursOf, partOf, copyOf, partOffset}
+use Rattle.fields.specs.Layout.{blocksOf, payload, contoursOf, partOf, partOffset}
 use Rattle.card.specs.Stages.{checkFault}
 use Rattle.card.specs.Verdict.{checkOf}
 use Rattle.card_laws.proofs.Starred.{verdict-computes}
-use Rattle.twins.specs.Twins.{Own, of-version, of-check, of-part, Checked, AllOf, Twins}
+use Rattle.twins.specs.Twins.{Own, of-version, of-check, of-part, Checked, Twins}
 use Rattle.twins.specs.Witness.{second, first, Witness}
 
 -- place a of a card of n contours is one of those that twins need not share
@@ -47,7 +47,9 @@ like-at n a [] [] e i o = refl
 like-at n a [] (y ∷ t) e i o = absurd (true≢false (sym e))
 like-at n a (x ∷ s) [] e i o = absurd (true≢false (sym e))
 like-at n a (x ∷ s) (y ∷ t) e zero o =
-    eqb-true y x (rw (ap (ownAt n) (sym (add-zero a)) ∙ o) at (and-elim-left (ownAt n a || eqb y x) (likeFrom n (suc a) s t) e))
+    let own : ownAt n a ≡ false = ap (ownAt n) (sym (add-zero a)) ∙ o in
+    let like : (ownAt n a || eqb y x) ≡ true = and-elim-left (ownAt n a || eqb y x) (likeFrom n (suc a) s t) e in
+    eqb-true y x (rw own at like)
 like-at n a (x ∷ s) (y ∷ t) e (suc i) o =
     like-at n (suc a) s t (and-elim-right (ownAt n a || eqb y x) (likeFrom n (suc a) s t) e) i
     (ap (ownAt n) (suc-add a i ∙ sym (add-suc a i)) ∙ o)
@@ -126,9 +128,6 @@ fine : checkOf second ≡ Fine
 unfolding verdict-computes
 fine = refl
 
-copied : copyOf second 0 ≡ 7
+pub claim : Witness
 unfolding verdict-computes
-copied = refl
-
-pub witness : Witness
-witness = record { are-twins = twins second first computed; is-fine = fine; has-copy = copied }
+claim = record { are-twins = twins second first computed; is-fine = fine; has-copy = refl }

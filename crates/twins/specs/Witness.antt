@@ -1,5 +1,5 @@
--- There are twins: a fine card of version 2, with an outline, a hole that a written pair puts first, and no part, and the
--- same card of version 1. Assumes nothing.
+-- There are twins: a fine card of version 2 with an outline, a hole that a written pair puts first and no part, and
+-- the same card of version 1. Assumes nothing.
 use mathlib.Core.Path.{_≡_}
 use mathlib.Core.List.{List, [], _∷_}
 use Prim.Native.Nat.{ℕ}
