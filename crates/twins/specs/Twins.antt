@@ -40,8 +40,8 @@ pub record Twins (s t : List ℕ) : Type 0 where
   pub no-part : (k : ℕ) → k < contoursOf s → partOf s k ≡ 0
   pub zeros : (k p : ℕ) → k < contoursOf s → partOffset ≤ p → p < payloadBytes → byteAt t (payload (k + 1) + p) ≡ 0
 
--- what is answered of the one is answered of the other: the verdict, all that the doors read of a fine card, the tour and
--- what is left in the rooms, the list
+-- what is answered of the one is answered of the other: the verdict, all that the doors read of a fine card, the tour
+-- and what is left in the rooms, the list
 pub record Alike (s t : List ℕ) : Type 0 where
   pub verdict : checkOf s ≡ checkOf t
   pub prepared : checkOf s ≡ Fine → preparedOf s ≡ preparedOf t

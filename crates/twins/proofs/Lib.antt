@@ -1,0 +1,5 @@
+pub mod ReadLaws
+pub mod VerdictLaws
+pub mod SearchLaws
+pub mod Twins
+pub mod Witness

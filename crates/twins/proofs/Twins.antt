@@ -1,0 +1,12 @@
+-- Twins are answered alike. Assumes nothing.
+use Rattle.twins.specs.Twins.{Claim}
+use Rattle.twins.proofs.VerdictLaws.{same-verdict}
+use Rattle.twins.proofs.SearchLaws.{same-prepared, same-tour, same-list}
+
+pub claim : Claim
+claim s t w = record {
+  verdict = same-verdict s t w;
+  prepared = λ fine. same-prepared s t w;
+  toured = same-tour s t w;
+  printed = same-list s t w;
+}
