@@ -13,13 +13,13 @@ use Rattle.card.specs.Verdict.{checkOf}
 use Rattle.card_laws.specs.Card.{Card, Contour, Pair}
 use Rattle.card_laws.specs.Write.{written}
 
--- a card like job 41's: home at the corner, one candidate a contour, ten passes, no move limit, directions left to the
--- types
-abbrev pub asJob41 : List Contour → List Pair → Card
-asJob41 contours pairs =
+-- a card like job 41's, of a version and with a number: home at the corner, one candidate a contour, ten passes, no move
+-- limit, directions left to the types
+abbrev pub asJob : ℕ → ℕ → List Contour → List Pair → Card
+asJob version job contours pairs =
     record {
-      version = 1;
-      job = 41;
+      version = version;
+      job = job;
       per-contour = 1;
       passes = 10;
       move-limit = 0;
@@ -29,6 +29,9 @@ asJob41 contours pairs =
       contours = contours;
       pairs = pairs;
     }
+
+abbrev pub asJob41 : List Contour → List Pair → Card
+asJob41 = asJob 1 41
 
 -- a contour of no part
 abbrev pub partless : ℕ → ℕ → ContourType → List Point → Contour

@@ -18,7 +18,8 @@ pub enum Refusal {
         /// The first such block.
         block: u32,
     },
-    /// A block does not begin as its place asks.
+    /// A block does not begin as its place asks: its kind, its version, which is 1 or 2 in the head and the head's in
+    /// every other block, its number or its zeros.
     Start {
         /// The first such block.
         block: u32,
@@ -64,7 +65,7 @@ pub enum Refusal {
         /// The first such pair.
         pair: u32,
     },
-    /// A contour would have to be cut before itself.
+    /// A contour would have to be cut before itself, by the pairs and, in version 2, by holes before outlines.
     Cycle {
         /// The first such contour.
         position: u32,
@@ -139,7 +140,7 @@ impl Refusal {
 fn due(field: u32) -> String {
     match field {
         1 => format!("a card has at most {CONTOURS} contours"),
-        2 => format!("a card has at most {PAIRS} pairs"),
+        2 => format!("a card has at most {PAIRS} written pairs"),
         3 => format!("a contour has 1 to {PER_CONTOUR} candidates"),
         4 => format!("a search makes at most {PASSES} passes"),
         5 => "the direction of outlines is 0, 1 or 2".to_string(),
@@ -213,7 +214,7 @@ fn sentences() {
     says(3, 4, "block 4 does not begin as it should");
     says(4, 0, "a field of the head is out of its limits");
     says(4, 1, &format!("a card has at most {CONTOURS} contours"));
-    says(4, 2, &format!("a card has at most {PAIRS} pairs"));
+    says(4, 2, &format!("a card has at most {PAIRS} written pairs"));
     says(4, 3, &format!("a contour has 1 to {PER_CONTOUR} candidates"));
     says(4, 4, &format!("a search makes at most {PASSES} passes"));
     says(4, 5, "the direction of outlines is 0, 1 or 2");

@@ -11,7 +11,7 @@ fn example(name: &str) -> Vec<u8> {
 
 #[test]
 fn every_example_prints_its_list() {
-    for name in ["job-41", "sheet", "refused", "slit"] {
+    for name in ["job-41", "sheet", "refused", "slit", "holes"] {
         let due = String::from_utf8(example(&format!("{name}.list"))).unwrap();
         assert_eq!(list(&example(&format!("{name}.card"))), due, "{name}");
     }
@@ -30,6 +30,21 @@ fn job_41() {
 fn slit() {
     let found = tour(&example("slit.card")).unwrap();
     assert_eq!((found.candidates.as_slice(), found.moves, found.length), ([0, 3, 4].as_slice(), 6, 6.0));
+}
+
+/// The hole is cut before the outline of its part, which is nearer, though no pair says so; and a block of another version
+/// than the head's is refused there.
+#[test]
+fn holes() {
+    let mut card = example("holes.card");
+    assert_eq!(tour(&card).unwrap().candidates, [2, 1, 0]);
+    // the last block's version, and so its check, which counts that byte twice
+    let last = card.len() - BLOCK;
+    card[last + 1] = 1;
+    let check_at = last + BLOCK - 4;
+    let sum = u32::from_le_bytes(card[check_at..].try_into().unwrap()) - 2;
+    card[check_at..].copy_from_slice(&sum.to_le_bytes());
+    assert_eq!(check(&card), Err(Refusal::Start { block: 3 }));
 }
 
 #[test]

@@ -23,8 +23,8 @@ use Rattle.fields.specs.Layout.{blocksOf, payload, contoursOf, partOf, partOffs
 use Rattle.card.specs.Stages.{checkFault}
 use Rattle.card.specs.Verdict.{checkOf}
 use Rattle.card_laws.proofs.Starred.{verdict-computes}
-use Rattle.twins.specs.Twins.{Own, of-version, of-check, of-part, Checked, Twins}
-use Rattle.twins.specs.Witness.{second, first, Witness}
+use Rattle.parts.specs.Twins.{Own, of-version, of-check, of-part, Checked, Twins}
+use Rattle.parts.specs.Witness.{second, first, Witness}
 
 -- place a of a card of n contours is one of those that twins need not share
 abbrev ownAt : ℕ → ℕ → Bool

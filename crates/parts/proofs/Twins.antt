@@ -1,7 +1,7 @@
 -- Twins are answered alike. Assumes nothing.
-use Rattle.twins.specs.Twins.{Claim}
-use Rattle.twins.proofs.VerdictLaws.{same-verdict}
-use Rattle.twins.proofs.SearchLaws.{same-prepared, same-tour, same-list}
+use Rattle.parts.specs.Twins.{Claim}
+use Rattle.parts.proofs.VerdictLaws.{same-verdict}
+use Rattle.parts.proofs.SearchLaws.{same-prepared, same-tour, same-list}
 
 pub claim : Claim
 claim s t w = record {

@@ -3,3 +3,4 @@ pub mod VerdictLaws
 pub mod SearchLaws
 pub mod Twins
 pub mod Witness
+pub mod Holes

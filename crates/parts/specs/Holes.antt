@@ -4,13 +4,12 @@ use mathlib.Core.Path.{_≡_}
 use mathlib.Core.List.{List, [], _∷_}
 use Prim.Native.Nat.{ℕ}
 use lib.IntN.{pos}
-use lib.Ieee.{binary64, ofBits, ofInt}
-use Rattle.answer.specs.declared.CutDirectionPreference.the-variants.{Auto}
+use lib.Ieee.{binary64, ofInt}
 use Rattle.answer.specs.declared.Check.the-variants.{Fine, Refused}
 use Rattle.card.specs.Verdict.{checkOf}
 use Rattle.card.specs.Names.{pairsOn}
-use Rattle.card_laws.specs.Card.{Card, Contour, Pair}
-use Rattle.card_laws.specs.Examples.{seven, nine, two, waits, verdictOn}
+use Rattle.card_laws.specs.Card.{Card, Contour, Pair, cardOf}
+use Rattle.card_laws.specs.Examples.{asJob, seven, nine, two, waits, verdictOn}
 use Rattle.card_laws.specs.Write.{written}
 use Rattle.tour.specs.Search.{tourOn, outcomeOn}
 
@@ -19,28 +18,18 @@ abbrev pub inPart : ℕ → ℕ → Contour → Contour
 inPart part copy c =
     record { id = c .id; tag = c .tag; kind = c .kind; vertices = c .vertices; part = part; copy = copy }
 
--- job 41's head in version 2, under another number
+-- job 41 in version 2, under another number
 abbrev pub parted : List Contour → List Pair → Card
-parted contours pairs =
-    record {
-      version = 2;
-      job = 47;
-      per-contour = 1;
-      passes = 10;
-      move-limit = 0;
-      home = record { x = ofBits binary64 0; y = ofBits binary64 0 };
-      exterior = Auto;
-      interior = Auto;
-      contours = contours;
-      pairs = pairs;
-    }
+parted = asJob 2 47
 
 -- the hole and the outline at (3,0) are one part
 abbrev pub holes : List Pair → Card
 holes = parted (seven ∷ inPart 5 1 nine ∷ inPart 5 1 two ∷ [])
 
--- no pair is written: the hole goes before its outline, which is nearer home, and the tour is job 41's
+-- no pair is written: the hole goes before its outline, which is nearer home, and the tour is job 41's; written and read
+-- back, the card is itself
 pub record HoleFirst : Type 0 where
+  pub read-back : cardOf (written (holes [])) ≡ holes []
   pub fine : checkOf (written (holes [])) ≡ Fine
   pub bound : pairsOn (written (holes [])) ≡ 2 ∷ 1 ∷ []
   pub tour-is : tourOn (written (holes [])) ≡ 2 ∷ 1 ∷ 0 ∷ []

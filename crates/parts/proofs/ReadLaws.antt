@@ -17,7 +17,7 @@ use Rattle.fields.specs.Layout.{passesOf, moveLimitOf, homeOffset, exteriorOf, 
 use Rattle.fields.specs.Layout.{typeOf, fillerOf, vertexOffset, pairOffset}
 use Rattle.fields.specs.Values.{pointAt}
 use Rattle.card.specs.Stages.{tooFar, farPoint}
-use Rattle.twins.specs.Twins.{Own, of-version, of-check, of-part, Twins}
+use Rattle.parts.specs.Twins.{Own, of-version, of-check, of-part, Twins}
 
 -- ---- fields of the same bytes
 

@@ -34,11 +34,11 @@ use Rattle.tour.specs.Tour.{left, roomCheck, tourCheck, touredUnless, tourOf}
 use Rattle.text.specs.Text.{bytes, decimalOf}
 use Rattle.list.specs.Lines.{headLine, wayWord, nameWords, placeLine, stopLine, stopLines, outcomeLines, tourLines}
 use Rattle.list.specs.Lines.{listUnless, listOf}
-use Rattle.twins.specs.Twins.{Twins}
-use Rattle.twins.proofs.ReadLaws.{point, same-job, same-contours, same-pairs, same-per-contour, same-passes}
-use Rattle.twins.proofs.ReadLaws.{same-limit, at-home, same-exterior, same-interior, same-id, same-tag}
-use Rattle.twins.proofs.ReadLaws.{same-count, same-type, at-vertex}
-use Rattle.twins.proofs.VerdictLaws.{same-name-fault, same-seats, same-pairs-on, same-verdict}
+use Rattle.parts.specs.Twins.{Twins}
+use Rattle.parts.proofs.ReadLaws.{point, same-job, same-contours, same-pairs, same-per-contour, same-passes}
+use Rattle.parts.proofs.ReadLaws.{same-limit, at-home, same-exterior, same-interior, same-id, same-tag}
+use Rattle.parts.proofs.ReadLaws.{same-count, same-type, at-vertex}
+use Rattle.parts.proofs.VerdictLaws.{same-name-fault, same-seats, same-pairs-on, same-verdict}
 
 module _ (s t : List ℕ) (w : Twins s t) where
   abbrev n-same : contoursOf s ≡ contoursOf t

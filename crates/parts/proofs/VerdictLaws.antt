@@ -35,11 +35,11 @@ use Rattle.card.specs.Names.{seatsOf, pairsOn}
 use Rattle.card.specs.Verdict.{cycleFault, checkOf}
 use Rattle.card.proofs.SpareLaws.{end-within, end-contour, end-pairs, some-spare}
 use Rattle.card_laws.proofs.JoinedLaws.{unruled}
-use Rattle.twins.specs.Twins.{Checked, Twins}
-use Rattle.twins.proofs.ReadLaws.{Run, byte, half, word, far, same-length, same-blocks, run}
-use Rattle.twins.proofs.ReadLaws.{same-contours, same-pairs, same-per-contour, same-passes, at-home}
-use Rattle.twins.proofs.ReadLaws.{same-exterior, same-interior, same-id, same-tag, same-count, same-type}
-use Rattle.twins.proofs.ReadLaws.{same-filler, at-vertex, same-word}
+use Rattle.parts.specs.Twins.{Checked, Twins}
+use Rattle.parts.proofs.ReadLaws.{Run, byte, half, word, far, same-length, same-blocks, run}
+use Rattle.parts.proofs.ReadLaws.{same-contours, same-pairs, same-per-contour, same-passes, at-home}
+use Rattle.parts.proofs.ReadLaws.{same-exterior, same-interior, same-id, same-tag, same-count, same-type}
+use Rattle.parts.proofs.ReadLaws.{same-filler, at-vertex, same-word}
 
 -- two tests that agree below n find the same
 agree : (f g : ℕ → Bool) (n : ℕ) → ((k : ℕ) → k < n → f k ≡ g k) → lowest f n ≡ lowest g n

@@ -1,11 +1,12 @@
 -- The cards on which the rule shows, computed from their bytes. Assumes nothing.
 use mathlib.Core.Path.{refl}
+use Rattle.card_laws.specs.Card.{tabulated}
 use Rattle.tour_laws.proofs.Computes.{tour-computes}
-use Rattle.twins.specs.Holes.{HoleFirst, FirstWaits, Free, holed, apart, loose, Claim}
+use Rattle.parts.specs.Holes.{HoleFirst, FirstWaits, apart, loose, Free, Claim}
 
 hole-first : HoleFirst
-unfolding tour-computes
-hole-first = record { fine = refl; bound = refl; farther = refl; tour-is = refl; tour-long = refl }
+unfolding tour-computes tabulated
+hole-first = record { read-back = refl; fine = refl; bound = refl; tour-is = refl; tour-long = refl }
 
 first-waits : FirstWaits
 unfolding tour-computes
@@ -23,8 +24,8 @@ pub claim : Claim
 unfolding tour-computes
 claim = record {
   hole-first = hole-first;
-  told-otherwise = refl;
   first-waits = first-waits;
   other-copy = other-copy;
   no-part = no-part;
+  told-otherwise = refl;
 }
