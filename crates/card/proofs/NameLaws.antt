@@ -21,7 +21,7 @@ use Rattle.card.specs.declared.Named.{Named}
 use Rattle.closure.specs.Limits.{contourLimit, pairLimit}
 use Rattle.fields.specs.Layout.{tagOf, contoursOf, pairsOf, beforeIdOf, beforeTagOf, afterIdOf, afterTagOf}
 use Rattle.card.specs.Stages.{isAt, seekOf, positionOf, unnamed, nameFault, beforeOf, afterOf, otherTag}
-use Rattle.card.specs.Names.{seatsOf, writtenOn, pairsOn, seatLimit, namedAs, namedPairs, AllNamed, namedOf}
+use Rattle.card.specs.Names.{seatsOf, pairsOn, seatLimit, namedAs, namedPairs, AllNamed, namedOf}
 use Rattle.card.proofs.LoopLaws.{found-here, none-found}
 
 -- ---- the two contours of a pair

@@ -14,9 +14,8 @@ use Rattle.answer.proofs.LowestLaws.{is-at}
 use Rattle.answer.proofs.RoomLaws.{padded-two}
 use Rattle.closure.specs.Limits.{contourLimit, pairLimit}
 use Rattle.fields.specs.Layout.{contoursOf, pairsOf}
-use Rattle.card.specs.declared.Named.{Named}
 use Rattle.card.specs.Rules.{isHole, encloses, enclosingOf, rulePair, rulesOf}
-use Rattle.card.specs.Names.{writtenOn, pairsOn, seatLimit, namedAs, AllNamed}
+use Rattle.card.specs.Names.{writtenOn, seatLimit}
 use Rattle.card.proofs.NameLaws.{seats-length}
 
 -- ---- what one contour goes before

@@ -1,5 +1,5 @@
--- How many bytes of a block are fields, by the kind of block, and where its spare bytes end; and spare bytes where there
--- are none. Assumes nothing.
+-- How many bytes of a block are fields, by the kind of block, and where its spare bytes end; and spare bytes where
+-- there are none. Assumes nothing.
 use mathlib.Core.Path.{_≡_}
 use mathlib.Core.Bool.{Bool, true, false, not, cond, _&&_}
 use mathlib.Core.List.{List}

@@ -1,7 +1,7 @@
 -- The list of all pairs, place by place. Assumes nothing.
 use mathlib.Core.Path.{_≡_, refl, sym, ap, _∙_, subst}
 use mathlib.Core.Logic.{_⊎_, inl, inr}
-use mathlib.Core.Bool.{Bool, true, false, not, _&&_, and-false}
+use mathlib.Core.Bool.{Bool, false, not, _&&_, and-false}
 use mathlib.Core.List.{List, [], _∷_, _++_, append-nil}
 use Prim.Native.Nat.{ℕ, zero, suc, _+_, _*_, _<_}
 use native.Mathlib.Nat.{add-zero, not-suc-le-zero, le-of-suc-le-suc, eq-or-lt-of-le}
@@ -13,13 +13,13 @@ use lib.Seq.{getD-append-add}
 use Rattle.answer.specs.declared.Found.{Found}
 use Rattle.answer.specs.declared.Found.the-variants.{At, Absent}
 use Rattle.answer.specs.declared.Check.the-variants.{Fine}
-use Rattle.fields.specs.Layout.{versionOf, contoursOf, pairsOf, typeOf, partOf, beforeIdOf, afterIdOf}
+use Rattle.fields.specs.Layout.{contoursOf, pairsOf, typeOf, partOf, beforeIdOf, afterIdOf}
 use Rattle.card.specs.Rules.{isHole, enclosingOf, rulePair, rulesOf}
 use Rattle.card.specs.Names.{writtenOn, pairsOn}
 use Rattle.card.specs.Verdict.{checkOf}
 use Rattle.card.proofs.NameLaws.{seats-length, seat-before, seat-after}
 use Rattle.card.proofs.RuleLaws.{no-hole, ruleCount, rulesIn, rules-whole}
-use Rattle.card_laws.specs.Table.{Has, ByRule}
+use Rattle.card_laws.specs.Table.{Has}
 use Rattle.card_laws.specs.Joined.{firstAt, secondAt, Joined, Unruled}
 use Rattle.card_laws.proofs.RuleLaws.{enclosing-rule, rule-enclosing}
 use Rattle.card_laws.proofs.Facts.{accepted}
@@ -74,7 +74,8 @@ module _ (s l : List ℕ) (c k : ℕ) (to : RuledTo s l c k) where
         plus : (r : ℕ) → r < c + 1 → r < suc c
         plus r h = omega arith
 
-        own : (r : ℕ) → (r ≡ c) ⊎ (r < c) → (firstAt more r < suc k) × (enclosingOf s (firstAt more r) ≡ At (secondAt more r))
+        own : (r : ℕ) → (r ≡ c) ⊎ (r < c)
+            → (firstAt more r < suc k) × (enclosingOf s (firstAt more r) ≡ At (secondAt more r))
         own r (inl e) = subst
             (λ (x : ℕ). (firstAt more x < suc k) × (enclosingOf s (firstAt more x) ≡ At (secondAt more x))) (sym e)
             (rw (last-first, last-second) (omega arith, one))
@@ -176,5 +177,6 @@ pub unruled : (s : List ℕ) → Unruled s
 unruled s = record {
   version-one = λ e k. rw (e);
   no-rule = λ i j none b. b .of-a-part none;
-  as-written = λ none. ap (λ (l : List ℕ). writtenOn s ++ l) (no-rules s (contoursOf s) none) ∙ append-nil (writtenOn s);
+  as-written =
+      λ none. ap (λ (l : List ℕ). writtenOn s ++ l) (no-rules s (contoursOf s) none) ∙ append-nil (writtenOn s);
 }

@@ -5,10 +5,10 @@ use mathlib.Core.Path.{_≡_, refl, sym, ap, _∙_, subst}
 use mathlib.Core.Logic.{_⊎_, inl, inr}
 use mathlib.Core.Bool.{Bool, true, false, _&&_, _||_, or-assoc, or-false}
 use mathlib.Core.List.{List, [], _∷_, _++_}
-use Prim.Native.Nat.{ℕ, zero, suc, _+_, _*_, _-_, _≤_, _<_}
+use Prim.Native.Nat.{ℕ, zero, suc, _+_, _*_, _-_, _<_}
 use native.Mathlib.Nat.{not-suc-le-zero, le-of-suc-le-suc, eq-or-lt-of-le}
 use native.Mathlib.Omega.{arith}
-use lib.Dec.{eqb, ltb}
+use lib.Dec.{eqb}
 use lib.ListN.{length}
 use borrow.Author.Tests.{eq-eqb, eqb-true, lt-ltb}
 use Rattle.answer.specs.declared.Found.{Found}
@@ -157,11 +157,12 @@ module _ (s : List ℕ) (unique : No (Row9 s)) (named : No (Row10 s)) where
       go : Lists i j (writtenOn s) ⊎ Lists i j (rulesOf s (contoursOf s)) → Precedes s i j
       go (inl t) =
           let b = found-pair s i j (pairsOf s) t in
+          let q = b .pair in
           written (record {
-            pair = b .pair;
+            pair = q;
             is-pair = b .is-pair;
-            first = subst (Has s (beforeIdOf s (b .pair))) (b .first) (before-has s unique named (b .pair) (b .is-pair));
-            second = subst (Has s (afterIdOf s (b .pair))) (b .second) (after-has s unique named (b .pair) (b .is-pair));
+            first = subst (Has s (beforeIdOf s q)) (b .first) (before-has s unique named q (b .is-pair));
+            second = subst (Has s (afterIdOf s q)) (b .second) (after-has s unique named q (b .is-pair));
           })
       go (inr t) = let b = found-rule s i j (contoursOf s) t in by-rule (enclosing-rule s i j (b .0) (b .1))
 

@@ -90,7 +90,8 @@ module _ (s : List ℕ) where
       ap (vertexCountOf s) (let i : k ≡ b - 1 = omega arith in i) in
       let u : contourSize + vertexSize * vertexCountOf s k ≡ usedIn s b =
       used-contour s b (λ z. omega arith) _ (omega arith) v in
-      (omega arith, subst (λ (x : ℕ). offset < x) (end-contour s b (λ z. omega arith) (omega arith)) (ends-by offset two l))
+      let end = end-contour s b (λ z. omega arith) (omega arith) in
+      (omega arith, subst (λ (x : ℕ). offset < x) end (ends-by offset two l))
   used-behind b offset (past-last-pair i e h) l =
       let k : b - (contoursOf s + 1) ≡ i = omega arith in
       let u : pairSize * pairsIn s b ≡ usedIn s b = used-pairs s b (λ z. omega arith) _ (omega arith) refl in

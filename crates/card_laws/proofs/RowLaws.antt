@@ -21,7 +21,8 @@ use Rattle.fields.specs.Limits.{cardBytes, perContourLimit, vertexLimit, pairsA
 use Rattle.fields.specs.Layout.{blocksOf, versionOf, contoursOf, pairsOf, perContourOf, idOf, vertexCountOf, typeOf}
 use Rattle.fields.specs.Layout.{fillerOf}
 use Rattle.card.specs.Stages.{outside, badLength, lengthFault, checkFault, kindDue, isVersion, startFault, headFaults}
-use Rattle.card.specs.Stages.{headFault, blocksDue, countFault, badContour, contourFault, seekOf, repeats, repeatFault, isAt}
+use Rattle.card.specs.Stages.{headFault, blocksDue, countFault, badContour, contourFault, seekOf, repeats, repeatFault}
+use Rattle.card.specs.Stages.{isAt}
 use Rattle.card.proofs.FaultLaws.{kind-head, kind-contour, kind-pairs}
 use Rattle.card_laws.specs.Table.{Row1, CheckDiffers, Row2, Kind, of-head, of-contour, of-pairs, Version}
 use Rattle.card_laws.specs.Table.{is-one, is-two, StartsOtherwise}

@@ -1,7 +1,7 @@
 -- What is found to enclose a contour is what the table's rule says. Assumes nothing.
 use mathlib.Mathlib.Data.Bool.Basic.{and-elim-left, and-elim-right, and-intro, not-iff-not, eq-false-of-not-eq-true}
-use mathlib.Core.Path.{_≡_, refl, sym, _∙_}
-use mathlib.Core.Bool.{Bool, true, false, not, _&&_}
+use mathlib.Core.Path.{_≡_, refl}
+use mathlib.Core.Bool.{Bool, true, false, _&&_}
 use mathlib.Core.List.{List}
 use Prim.Native.Nat.{ℕ, _<_}
 use native.Mathlib.Omega.{arith}
@@ -9,7 +9,6 @@ use lib.Dec.{eqb}
 use borrow.Author.Tests.{eq-eqb, eqb-true}
 use Rattle.answer.specs.declared.Found.{Found}
 use Rattle.answer.specs.declared.Found.the-variants.{At, Absent}
-use Rattle.answer.specs.Lowest.{lowest}
 use Rattle.answer.proofs.LowestLaws.{is-at, at-is}
 use Rattle.answer.proofs.Truth.{true-false}
 use Rattle.fields.specs.Layout.{contoursOf, typeOf, partOf, copyOf}

@@ -23,10 +23,10 @@ use Rattle.card_laws.specs.Examples.{Examples}
 unfoldable pub verdict-computes : Unit {0}
 unfolding checkOf firstRefusal lengthFault checkFault startFault headFault countFault contourFault spareFault
     farVertex farFault seekOf repeatFault nameFault tagFault cycleFault
-    seatsOf enclosingOf rulesOf lowest lowestFrom u16At u32At u64At f64At weigh checkAt checked starts allZero zerosAt paired someOf
-    linked leads
-    bytes blockOf numberBytes pointBytes headBytes pointsBytes frontBytes contourBytes contourBlocks pairBytes pairBlocks
-    written
+    seatsOf enclosingOf rulesOf lowest lowestFrom u16At u32At u64At f64At weigh checkAt checked starts allZero zerosAt
+    paired someOf linked leads
+    bytes blockOf numberBytes pointBytes headBytes pointsBytes frontBytes contourBytes contourBlocks pairBytes
+    pairBlocks written
     ofBits ofFields odd size span climb round units trailingZeros toBits
 verdict-computes = tt
 

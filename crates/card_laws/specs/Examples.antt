@@ -13,8 +13,8 @@ use Rattle.card.specs.Verdict.{checkOf}
 use Rattle.card_laws.specs.Card.{Card, Contour, Pair}
 use Rattle.card_laws.specs.Write.{written}
 
--- a card like job 41's, of a version and with a number: home at the corner, one candidate a contour, ten passes, no move
--- limit, directions left to the types
+-- a card like job 41's, of a version and with a number: home at the corner, one candidate a contour, ten passes, no
+-- move limit, directions left to the types
 abbrev pub asJob : ℕ → ℕ → List Contour → List Pair → Card
 asJob version job contours pairs =
     record {

@@ -34,8 +34,8 @@ pub record Twelve (s : List ℕ) : Type 0 where
   pub sent-back : Past11 s → (SomeOrder s → ⊥) → RefusedWith 12 s
   pub fine-order : checkOf s ≡ Fine → SomeOrder s
 
--- of a fine card: positions are linked exactly where a written pair or the rule puts the one before the other, and every
--- pair's positions are contours
+-- of a fine card: positions are linked exactly where a written pair or the rule puts the one before the other, and
+-- every pair's positions are contours
 pub record Links (s : List ℕ) : Type 0 where
   pub linked-if : (i j : ℕ) → Precedes s i j → linked (contoursOf s) (pairsOn s) i j ≡ true
   pub linked-only : (i j : ℕ) → linked (contoursOf s) (pairsOn s) i j ≡ true → Precedes s i j

@@ -94,8 +94,8 @@ abbrev pub Row6 : List ℕ → ℕ → Type 0
 Row6 s = Lowest (contoursOf s) (BadContour s)
 
 -- no field stands at this byte of block b's payload: the head has 34 bytes of fields, contour k 12 and 16 a vertex and,
--- in version 2, all from 492 on, a block of pairs 16 a pair, 31 pairs at most; where the earlier blocks of pairs and the
--- bytes before this one hold all m pairs, no field is left
+-- in version 2, all from 492 on, a block of pairs 16 a pair, 31 pairs at most; where the earlier blocks of pairs and
+-- the bytes before this one hold all m pairs, no field is left
 pub data Spare (s : List ℕ) (b offset : ℕ) : Type 0 where
   in-head : b ≡ 0 → headSize ≤ offset → Spare s b offset
   in-contour : (k : ℕ) → k < contoursOf s → b ≡ suc k → contourSize + vertexSize * vertexCountOf s k ≤ offset

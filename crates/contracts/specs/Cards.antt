@@ -5,7 +5,8 @@ use lib.ListN.{length}
 use Rattle.block.specs.Field.{byteAt}
 use Rattle.fields.specs.Layout.{payload, versionOf, hasParts, jobOf, contoursOf, pairsOf, perContourOf, passesOf}
 use Rattle.fields.specs.Layout.{moveLimitOf, homeOffset, exteriorOf, interiorOf, idOf, tagOf, vertexCountOf, typeOf}
-use Rattle.fields.specs.Layout.{partOf, copyOf, vertexOffset, pairOffset, beforeIdOf, beforeTagOf, afterIdOf, afterTagOf}
+use Rattle.fields.specs.Layout.{partOf, copyOf, vertexOffset, pairOffset, beforeIdOf, beforeTagOf, afterIdOf}
+use Rattle.fields.specs.Layout.{afterTagOf}
 use Rattle.fields.specs.Values.{asType, asPreference, pointAt}
 use Rattle.card.specs.Stages.{positionOf}
 use Rattle.card.specs.Names.{namedOf}

@@ -99,9 +99,9 @@ pub record Apart (s : List ℕ) (a b : ℕ) : Type 0 where
 
 -- ---- pairs
 
--- what the search reads of the pairs is one list, two positions a pair, before and after: for each written pair those of
--- the contours that have its ids on the card (Has s id k: k is a contour, and that is its id), then those by rule. No two
--- contours have one id, so contours and positions with equal ids are the same
+-- what the search reads of the pairs is one list, two positions a pair, before and after: for each written pair those
+-- of the contours that have its ids on the card (Has s id k: k is a contour, and that is its id), then those by rule.
+-- No two contours have one id, so contours and positions with equal ids are the same
 pub record Paired (s : List ℕ) : Type 0 where
   pub read : chartOn s .pairs ≡ pairsOn s
   pub all : (rules : ℕ) × Joined s rules

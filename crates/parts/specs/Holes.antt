@@ -26,8 +26,8 @@ parted = asJob 2 47
 abbrev pub holes : List Pair → Card
 holes = parted (seven ∷ inPart 5 1 nine ∷ inPart 5 1 two ∷ [])
 
--- no pair is written: the hole goes before its outline, which is nearer home, and the tour is job 41's; written and read
--- back, the card is itself
+-- no pair is written: the hole goes before its outline, which is nearer home, and the tour is job 41's; written and
+-- read back, the card is itself
 pub record HoleFirst : Type 0 where
   pub read-back : cardOf (written (holes [])) ≡ holes []
   pub fine : checkOf (written (holes [])) ≡ Fine

@@ -52,7 +52,8 @@ room c = let l = c .before .before .before .before .before in
     omega (
       arith,
       i .3,
-      joined-room (now (st .args .card)) (l .loop .k) (st .pre .few-contours) (st .pre .few-pairs) (omega (arith, l, i .0)),
+      joined-room (now (st .args .card)) (l .loop .k) (st .pre .few-contours) (st .pre .few-pairs)
+          (omega (arith, l, i .0)),
     )
 
 cast-positions : tie.Need-cast-positions Inv-loop μ-loop

@@ -1,5 +1,4 @@
 -- `fields::copy` meets its contract. Assumes nothing.
-use mathlib.Core.Path.{sym, _∙_}
 use borrow.Author.Needs.{needs}
 use Rattle.fields.proofs.copy.Statement.{statement}
 use Rattle.fields.proofs.copy.Tie as tie

@@ -1,5 +1,4 @@
 -- `fields::part` meets its contract. Assumes nothing.
-use mathlib.Core.Path.{sym, _∙_}
 use borrow.Author.Needs.{needs}
 use Rattle.fields.proofs.part.Statement.{statement}
 use Rattle.fields.proofs.part.Tie as tie
