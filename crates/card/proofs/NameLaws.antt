@@ -99,31 +99,32 @@ module _ (s p : List ℕ) (q : ℕ) (before : Nowhere (unnamed s) q)
 
 -- ---- a pair's two places
 
--- the pairs after the first q do not change what stands before them
-earlier : (s : List ℕ) (m i : ℕ) → i < 2 * m → getD (seatsOf s (suc m)) i 0 ≡ getD (seatsOf s m) i 0
-unfolding seatsOf
-earlier s m i h = List·getD-append (seatsOf s m) (beforeOf s m ∷ afterOf s m ∷ []) 0 i (omega (arith, seats-length s m))
+-- a pair more, behind c pairs: what stands before it stays, and its two positions follow
+module _ (l : List ℕ) (c b a : ℕ) (whole : length l ≡ 2 * c) where
+  pub pair-earlier : (i : ℕ) → i < 2 * c → getD (l ++ (b ∷ a ∷ [])) i 0 ≡ getD l i 0
+  pair-earlier i h = List·getD-append l (b ∷ a ∷ []) 0 i (omega (arith, whole))
 
-last-before : (s : List ℕ) (m : ℕ) → getD (seatsOf s (suc m)) (2 * m) 0 ≡ beforeOf s m
-unfolding seatsOf
-last-before s m = getD-at (seatsOf s m) (beforeOf s m) (afterOf s m ∷ []) 0 (2 * m) (seats-length s m)
+  pub pair-first : getD (l ++ (b ∷ a ∷ [])) (2 * c) 0 ≡ b
+  pair-first = getD-at l b (a ∷ []) 0 (2 * c) whole
 
-last-after : (s : List ℕ) (m : ℕ) → getD (seatsOf s (suc m)) (2 * m + 1) 0 ≡ afterOf s m
-unfolding seatsOf
-last-after s m =
-    rw (← seats-length s m) (getD-append-add (seatsOf s m) (beforeOf s m ∷ afterOf s m ∷ []) 1 0)
+  pub pair-second : getD (l ++ (b ∷ a ∷ [])) (2 * c + 1) 0 ≡ a
+  pair-second = rw (← whole) (getD-append-add l (b ∷ a ∷ []) 1 0)
 
 pub seat-before : (s : List ℕ) (m q : ℕ) → q < m → getD (seatsOf s m) (2 * q) 0 ≡ beforeOf s q
+unfolding seatsOf
 seat-before s zero q h = absurd (not-suc-le-zero h)
 seat-before s (suc m) q h =
-    ⊎-elim (λ e. rw e (last-before s m)) (λ g. earlier s m (2 * q) (omega arith) ∙ seat-before s m q g)
-    (eq-or-lt-of-le (le-of-suc-le-suc h))
+    let more = pair-earlier (seatsOf s m) m (beforeOf s m) (afterOf s m) (seats-length s m) in
+    ⊎-elim (λ e. rw e (pair-first (seatsOf s m) m (beforeOf s m) (afterOf s m) (seats-length s m)))
+    (λ g. more (2 * q) (omega arith) ∙ seat-before s m q g) (eq-or-lt-of-le (le-of-suc-le-suc h))
 
 pub seat-after : (s : List ℕ) (m q : ℕ) → q < m → getD (seatsOf s m) (2 * q + 1) 0 ≡ afterOf s q
+unfolding seatsOf
 seat-after s zero q h = absurd (not-suc-le-zero h)
 seat-after s (suc m) q h =
-    ⊎-elim (λ e. rw e (last-after s m)) (λ g. earlier s m (2 * q + 1) (omega arith) ∙ seat-after s m q g)
-    (eq-or-lt-of-le (le-of-suc-le-suc h))
+    let more = pair-earlier (seatsOf s m) m (beforeOf s m) (afterOf s m) (seats-length s m) in
+    ⊎-elim (λ e. rw e (pair-second (seatsOf s m) m (beforeOf s m) (afterOf s m) (seats-length s m)))
+    (λ g. more (2 * q + 1) (omega arith) ∙ seat-after s m q g) (eq-or-lt-of-le (le-of-suc-le-suc h))
 
 -- ---- the two tags of a pair, looked up at its two places
 

@@ -10,7 +10,7 @@ use Rattle.answer.specs.declared.Found.{Found}
 use Rattle.answer.specs.declared.Found.the-variants.{At, Absent}
 use Rattle.answer.specs.Lowest.{lowest}
 use Rattle.answer.specs.Room.{padded}
-use Rattle.answer.proofs.LowestLaws.{is-at}
+use Rattle.answer.proofs.LowestLaws.{LowestAt, is-at}
 use Rattle.answer.proofs.RoomLaws.{padded-two}
 use Rattle.closure.specs.Limits.{contourLimit, pairLimit}
 use Rattle.fields.specs.Layout.{contoursOf, pairsOf}
@@ -28,6 +28,19 @@ pub hole-before : (s : List ℕ) (k : ℕ) (f : Found) → isHole s k ≡ true �
     → f ≡ enclosingOf s k
 unfolding enclosingOf
 hole-before s k f e is = rw e is
+
+-- one that goes before another is a hole, and the other is the first that encloses it
+pub found-enclosing : (s : List ℕ) (k j : ℕ) → enclosingOf s k ≡ At j
+    → (isHole s k ≡ true) × LowestAt (encloses s k) (contoursOf s) j
+unfolding enclosingOf
+found-enclosing s k j e = go (isHole s k) refl
+  where
+    go : (b : Bool) → isHole s k ≡ b → (isHole s k ≡ true) × LowestAt (encloses s k) (contoursOf s) j
+    go true hole = (hole, is-at (encloses s k) (contoursOf s) j (rw hole at e))
+    go false hole =
+        let none : _≡_ {A = Found} Absent (At j) = rw hole at e in
+        let z : _≡_ {A = ℕ} 0 1 = cc in
+        absurd (omega arith)
 
 -- ---- the first k contours
 
@@ -105,18 +118,6 @@ module _ (s : List ℕ) (k : ℕ) where
   pub joined-pair : (f : Found) (j : ℕ) → f ≡ enclosingOf s k → f ≡ At j
       → joinedTo s k ++ (k ∷ j ∷ []) ≡ joinedTo s (k + 1)
   joined-pair f j is e = sym (joined-more ∙ ap (λ (g : Found). joinedTo s k ++ rulePair k g) (sym is ∙ e))
-
--- what is found is a contour
-pub enclosing-below : (s : List ℕ) (k j : ℕ) (f : Found) → f ≡ enclosingOf s k → f ≡ At j → j < contoursOf s
-unfolding enclosingOf
-enclosing-below s k j f is e = go (isHole s k) refl
-  where
-    go : (b : Bool) → isHole s k ≡ b → j < contoursOf s
-    go true hole = is-at (encloses s k) (contoursOf s) j (rw hole at (sym is ∙ e)) .within
-    go false hole =
-        let none : _≡_ {A = Found} Absent (At j) = rw hole at (sym is ∙ e) in
-        let z : _≡_ {A = ℕ} 0 1 = cc in
-        absurd (omega arith)
 
 -- ---- one more pair written to the places
 

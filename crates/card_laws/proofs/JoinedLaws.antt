@@ -17,7 +17,7 @@ use Rattle.fields.specs.Layout.{contoursOf, pairsOf, typeOf, partOf, beforeIdOf
 use Rattle.card.specs.Rules.{isHole, enclosingOf, rulePair, rulesOf}
 use Rattle.card.specs.Names.{writtenOn, pairsOn}
 use Rattle.card.specs.Verdict.{checkOf}
-use Rattle.card.proofs.NameLaws.{seats-length, seat-before, seat-after}
+use Rattle.card.proofs.NameLaws.{seats-length, pair-earlier, pair-first, pair-second, seat-before, seat-after}
 use Rattle.card.proofs.RuleLaws.{no-hole, ruleCount, rulesIn, rules-whole}
 use Rattle.card_laws.specs.Table.{Has}
 use Rattle.card_laws.specs.Joined.{firstAt, secondAt, Joined, Unruled}
@@ -54,14 +54,14 @@ module _ (s l : List ℕ) (c k : ℕ) (to : RuledTo s l c k) where
     abbrev more : List ℕ
     more = l ++ (k ∷ j ∷ [])
 
-    earlier : (a : ℕ) → a < 2 * c → getD more a 0 ≡ getD l a 0
-    earlier a h = List·getD-append l (k ∷ j ∷ []) 0 a (omega (arith, to .whole))
+    earlier : (i : ℕ) → i < 2 * c → getD more i 0 ≡ getD l i 0
+    earlier = pair-earlier l c k j (to .whole)
 
     last-first : firstAt more c ≡ k
-    last-first = ap (λ (a : ℕ). getD more a 0) (sym (to .whole) ∙ omega arith) ∙ getD-append-add l (k ∷ j ∷ []) 0 0
+    last-first = pair-first l c k j (to .whole)
 
     last-second : secondAt more c ≡ j
-    last-second = rw (← to .whole) (getD-append-add l (k ∷ j ∷ []) 1 0)
+    last-second = pair-second l c k j (to .whole)
 
     ruled-more : RuledTo s more (c + 1) (suc k)
     ruled-more = record {

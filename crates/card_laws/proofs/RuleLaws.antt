@@ -1,18 +1,17 @@
 -- What is found to enclose a contour is what the table's rule says. Assumes nothing.
 use mathlib.Mathlib.Data.Bool.Basic.{and-elim-left, and-elim-right, and-intro, not-iff-not, eq-false-of-not-eq-true}
-use mathlib.Core.Path.{_≡_, refl}
-use mathlib.Core.Bool.{Bool, true, false, _&&_}
+use mathlib.Core.Path.{_≡_}
+use mathlib.Core.Bool.{true, _&&_}
 use mathlib.Core.List.{List}
 use Prim.Native.Nat.{ℕ, _<_}
-use native.Mathlib.Omega.{arith}
 use lib.Dec.{eqb}
 use borrow.Author.Tests.{eq-eqb, eqb-true}
-use Rattle.answer.specs.declared.Found.{Found}
-use Rattle.answer.specs.declared.Found.the-variants.{At, Absent}
-use Rattle.answer.proofs.LowestLaws.{is-at, at-is}
+use Rattle.answer.specs.declared.Found.the-variants.{At}
+use Rattle.answer.proofs.LowestLaws.{at-is}
 use Rattle.answer.proofs.Truth.{true-false}
 use Rattle.fields.specs.Layout.{contoursOf, typeOf, partOf, copyOf}
 use Rattle.card.specs.Rules.{isHole, encloses, enclosingOf}
+use Rattle.card.proofs.RuleLaws.{found-enclosing}
 use Rattle.card_laws.specs.Table.{Encloses, ByRule}
 
 module _ (s : List ℕ) (i : ℕ) where
@@ -32,27 +31,20 @@ module _ (s : List ℕ) (i : ℕ) where
 
   -- a contour that is found is the rule's
   pub enclosing-rule : (j : ℕ) → i < contoursOf s → enclosingOf s i ≡ At j → ByRule s i j
-  unfolding enclosingOf
-  enclosing-rule j h e = go (isHole s i) refl
-    where
-      go : (b : Bool) → isHole s i ≡ b → ByRule s i j
-      go true hole =
-          let w = is-at (encloses s i) (contoursOf s) j (rw hole at e) in
-          record {
-            is-contour = h;
-            interior = eqb-true _ _ (and-elim-left (eqb (typeOf s i) 1) _ hole);
-            of-a-part = λ z. not-iff-not {b = eqb (partOf s i) 0} .0 (and-elim-right (eqb (typeOf s i) 1) _ hole)
-                (eq-eqb _ _ z);
-            enclosed = record {
-              within = w .within;
-              holds = encloses-is j (w .holds);
-              before = λ k g o. true-false {b = encloses s i k} (is-enclosing k o) (w .before k g);
-            };
-          }
-      go false hole =
-          let none : _≡_ {A = Found} Absent (At j) = rw hole at e in
-          let z : _≡_ {A = ℕ} 0 1 = cc in
-          absurd (omega arith)
+  enclosing-rule j h e =
+      let found = found-enclosing s i j e in
+      let w = found .1 in
+      record {
+        is-contour = h;
+        interior = eqb-true _ _ (and-elim-left (eqb (typeOf s i) 1) _ (found .0));
+        of-a-part = λ z. not-iff-not {b = eqb (partOf s i) 0} .0 (and-elim-right (eqb (typeOf s i) 1) _ (found .0))
+            (eq-eqb _ _ z);
+        enclosed = record {
+          within = w .within;
+          holds = encloses-is j (w .holds);
+          before = λ k g o. true-false {b = encloses s i k} (is-enclosing k o) (w .before k g);
+        };
+      }
 
   -- and the rule's is found
   pub rule-enclosing : (j : ℕ) → ByRule s i j → enclosingOf s i ≡ At j

@@ -10,7 +10,7 @@ use Rattle.fields.specs.Layout.{contoursOf}
 use Rattle.card.specs.declared.Named.{Named}
 use Rattle.card.specs.Names.{seatLimit}
 use Rattle.card.proofs.RuleLaws.{joinedTo, joined-none, joined-room, joined-same, joined-places, joined-count}
-use Rattle.card.proofs.RuleLaws.{enclosing-below}
+use Rattle.card.proofs.RuleLaws.{found-enclosing}
 use Rattle.card.proofs.join_rules.Statement.{statement}
 use Rattle.card.proofs.join_rules.Tie as tie
 
@@ -67,7 +67,7 @@ cast-positions-2 c = let k = c .before in
     omega (
       arith,
       st .pre .few-contours,
-      enclosing-below (now (st .args .card)) _ _ _ (f .enclosing-of .ensures) (k .j .given .1),
+      found-enclosing (now (st .args .card)) _ _ (sym (f .enclosing-of .ensures) ∙ k .j .given .1) .1 .within,
     )
 
 loop-again-2 : tie.Need-loop-again-2 Inv-loop μ-loop
