@@ -4,7 +4,6 @@ use mathlib.Core.List.{List}
 use Prim.Native.Nat.{ℕ, _+_, _*_, _≤_, _<_}
 use lib.ListN.{length}
 use lib.Ieee.{Float}
-use Rattle.answer.specs.declared.Check.the-variants.{Fine}
 use Rattle.block.specs.Field.{byteAt, u32At}
 use Rattle.block.specs.Block.{blockBytes, payloadBytes, checkOffset, checkAt}
 use Rattle.fields.specs.Layout.{blocksOf, payload, contoursOf, partOf, partOffset}
@@ -40,11 +39,11 @@ pub record Twins (s t : List ℕ) : Type 0 where
   pub no-part : (k : ℕ) → k < contoursOf s → partOf s k ≡ 0
   pub zeros : (k p : ℕ) → k < contoursOf s → partOffset ≤ p → p < payloadBytes → byteAt t (payload (k + 1) + p) ≡ 0
 
--- what is answered of the one is answered of the other: the verdict, all that the doors read of a fine card, the tour
--- and what is left in the rooms, the list
+-- what is answered of the one is answered of the other: the verdict, all that the doors read beside it, the tour and
+-- what is left in the rooms, the list
 pub record Alike (s t : List ℕ) : Type 0 where
   pub verdict : checkOf s ≡ checkOf t
-  pub prepared : checkOf s ≡ Fine → preparedOf s ≡ preparedOf t
+  pub prepared : preparedOf s ≡ preparedOf t
   pub toured : (room : List ℕ) (table : List Float) → tourOf s room table ≡ tourOf t room table
   pub printed : listOf s ≡ listOf t
 
