@@ -76,3 +76,18 @@ is-absent test n e = go (search-through test n)
     go : ((j : ℕ) × LowestAt test n j) ⊎ Nowhere test n → Nowhere test n
     go (inl (j, w)) = let z : _≡_ {A = ℕ} 0 1 = cc (at-is test n j w) in absurd (omega arith)
     go (inr none) = none
+
+-- ---- two tests
+
+-- two that agree below n find the same
+pub lowest-same : (n : ℕ) (test other : ℕ → Bool) → ((i : ℕ) → i < n → test i ≡ other i)
+    → lowest test n ≡ lowest other n
+lowest-same n test other same = go (search-through test n)
+  where
+    go : ((k : ℕ) × LowestAt test n k) ⊎ Nowhere test n → lowest test n ≡ lowest other n
+    go (inl (k, w)) = at-is test n k w ∙ sym (at-is other n k (record {
+      within = w .within;
+      holds = sym (same k (w .within)) ∙ w .holds;
+      before = λ j h. sym (same j (omega (arith, w .within))) ∙ w .before j h;
+    }))
+    go (inr none) = absent-is test n none ∙ sym (absent-is other n (λ j h. sym (same j h) ∙ none j h))

@@ -113,7 +113,7 @@ fn kind_due(card: &[u8], b: usize) -> u8
 }
 
 // Whether there is such a version.
-fn is_known(version: u8) -> bool
+fn is_version(version: u8) -> bool
     ensures { λ r. ⌜ r ≡ isVersion version ⌝ }
 {
     (version == 1) | (version == 2)
@@ -125,7 +125,7 @@ fn bad_start(card: &[u8], b: usize) -> bool
     ensures { λ r. ⌜ r ≡ badStart (now (card .entry)) b ⌝ }
 {
     let version = fields::version(card);
-    !(is_known(version) & block::starts_as(card, BLOCK * b, kind_due(card, b), version, b))
+    !(is_version(version) & block::starts_as(card, BLOCK * b, kind_due(card, b), version, b))
 }
 
 // Whether each of the head's fields is bad, by its number; there is no field 0.

@@ -24,12 +24,12 @@ use Rattle.fields.specs.Layout.{afterIdOf, afterTagOf}
 use Rattle.fields.specs.Values.{pointAt}
 use Rattle.card.specs.Stages.{blocksDue, beforeOf, afterOf}
 use Rattle.card.specs.Verdict.{checkOf}
-use Rattle.card_laws.specs.Table.{No, Row1, Row4, Row5, Row6, Row8, Row9, Row10, Row11, Row12, BadField, contours}
+use Rattle.card_laws.specs.Table.{No, Row1, Row3, Row4, Row5, Row6, Row8, Row9, Row10, Row11, Row12, BadField, contours}
 use Rattle.card_laws.specs.Table.{pairs, candidates, passes, exterior, interior, all-candidates, BadContour}
 use Rattle.card_laws.specs.Table.{few-vertices, many-vertices, no-type, FarCoordinate, at-home, at-vertex}
 use Rattle.card_laws.specs.Table.{OtherTag, Sound}
 use Rattle.card_laws.specs.Card.{Contour, Pair, tabulated, contourOf, pairOf, cardOf, Names, Accepted}
-use Rattle.card_laws.proofs.RowLaws.{due-blocks, no-bad-field, no-bad-contour}
+use Rattle.card_laws.proofs.RowLaws.{version-due, due-blocks, no-bad-field, no-bad-contour}
 use Rattle.card_laws.proofs.FarRow.{no-far}
 use Rattle.card_laws.proofs.PairRows.{same-contour, before-has, after-has, no-other-tag}
 use Rattle.card_laws.proofs.CycleRow.{no-cycle}
@@ -50,6 +50,9 @@ must-be a b h = go (eqb a b) refl
 module _ (s : List ℕ) (sound : Sound s) where
   row1 : No (Row1 s)
   row1 = sound .0 .0 .0 .0 .0 .0 .0 .0 .0 .0 .0 .0
+
+  row3 : No (Row3 s 1)
+  row3 = sound .0 .0 .0 .0 .0 .0 .0 .0 .0 .0 .1
 
   row4 : No (Row4 s)
   row4 = sound .0 .0 .0 .0 .0 .0 .0 .0 .0 .1
@@ -121,6 +124,7 @@ module _ (s : List ℕ) (sound : Sound s) where
   facts =
       record {
         whole = whole-length;
+        version-known = version-due s row3;
         few-contours = not-below contourLimit (contoursOf s) (λ h. fine-field 1 (lit< tt) (contours h));
         few-pairs = not-below pairLimit (pairsOf s) (λ h. fine-field 2 (lit< tt) (pairs h));
         some-candidates = not-below (perContourOf s) 1 (λ h. fine-field 3 (lit< tt) (candidates (inl h)));

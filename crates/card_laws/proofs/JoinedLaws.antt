@@ -13,7 +13,7 @@ use lib.Seq.{getD-append-add}
 use Rattle.answer.specs.declared.Found.{Found}
 use Rattle.answer.specs.declared.Found.the-variants.{At, Absent}
 use Rattle.answer.specs.declared.Check.the-variants.{Fine}
-use Rattle.fields.specs.Layout.{contoursOf, pairsOf, typeOf, partOf, beforeIdOf, afterIdOf}
+use Rattle.fields.specs.Layout.{versionOf, contoursOf, pairsOf, typeOf, partOf, beforeIdOf, afterIdOf}
 use Rattle.card.specs.Rules.{isHole, enclosingOf, rulePair, rulesOf}
 use Rattle.card.specs.Names.{writtenOn, pairsOn}
 use Rattle.card.specs.Verdict.{checkOf}
@@ -168,15 +168,17 @@ no-rules : (s : List ℕ) (k : ℕ) → ((i : ℕ) → i < k → partOf s i ≡ 
 unfolding rulesOf
 no-rules s zero none = refl
 no-rules s (suc k) none =
-    rw (no-rules s k (λ i h. none i (omega arith)), ← no-hole s k (partless (none k (omega arith))))
+    rw (no-rules s k (λ i h. none i (omega arith)), ← no-hole s k (no-part (none k (omega arith))))
   where
-    partless : partOf s k ≡ 0 → isHole s k ≡ false
-    partless e = ap (λ (b : Bool). eqb (typeOf s k) 1 && not b) (eq-eqb _ 0 e) ∙ and-false (eqb (typeOf s k) 1)
+    no-part : partOf s k ≡ 0 → isHole s k ≡ false
+    no-part e = ap (λ (b : Bool). eqb (typeOf s k) 1 && not b) (eq-eqb _ 0 e) ∙ and-false (eqb (typeOf s k) 1)
+
+pub partless : (s : List ℕ) → versionOf s ≡ 1 → (k : ℕ) → partOf s k ≡ 0
+partless s e k = rw e
 
 pub unruled : (s : List ℕ) → Unruled s
 unruled s = record {
-  version-one = λ e k. rw (e);
-  no-rule = λ i j none b. b .of-a-part none;
+  version-one = λ e i j b. b .of-a-part (partless s e i);
   as-written =
       λ none. ap (λ (l : List ℕ). writtenOn s ++ l) (no-rules s (contoursOf s) none) ∙ append-nil (writtenOn s);
 }

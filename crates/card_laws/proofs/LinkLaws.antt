@@ -23,7 +23,7 @@ use Rattle.card.specs.Rules.{enclosingOf, rulePair, rulesOf}
 use Rattle.card.specs.Names.{seatsOf, writtenOn, pairsOn}
 use Rattle.card.proofs.NameLaws.{seats-length}
 use Rattle.card.proofs.RuleLaws.{rules-whole}
-use Rattle.card_laws.specs.Table.{Row9, Row10, No, Has, Precedes, written, by-rule}
+use Rattle.card_laws.specs.Table.{Row9, Row10, No, Has, Precedes, by-pair, by-rule}
 use Rattle.card_laws.proofs.PairRows.{same-contour, before-has, after-has}
 use Rattle.card_laws.proofs.RuleLaws.{enclosing-rule, rule-enclosing}
 
@@ -158,7 +158,7 @@ module _ (s : List ℕ) (unique : No (Row9 s)) (named : No (Row10 s)) where
       go (inl t) =
           let b = found-pair s i j (pairsOf s) t in
           let q = b .pair in
-          written (record {
+          by-pair (record {
             pair = q;
             is-pair = b .is-pair;
             first = subst (Has s (beforeIdOf s q)) (b .first) (before-has s unique named q (b .is-pair));
@@ -172,7 +172,7 @@ module _ (s : List ℕ) (unique : No (Row9 s)) (named : No (Row10 s)) where
       from-either i j (writtenOn s) (rulesOf s (contoursOf s)) (pairsOf s) (seats-length s (pairsOf s)) (go b)
     where
       go : Precedes s i j → Lists i j (writtenOn s) ⊎ Lists i j (rulesOf s (contoursOf s))
-      go (written p) =
+      go (by-pair p) =
           let q = p .pair in
           inl (pair-found s i j (pairsOf s) (record {
             pair = q;
@@ -186,7 +186,7 @@ module _ (s : List ℕ) (unique : No (Row9 s)) (named : No (Row10 s)) where
 
   -- both are contours
   precedes-within : (i j : ℕ) → Precedes s i j → (i < contoursOf s) × (j < contoursOf s)
-  precedes-within i j (written p) = (p .first .is-contour, p .second .is-contour)
+  precedes-within i j (by-pair p) = (p .first .is-contour, p .second .is-contour)
   precedes-within i j (by-rule r) = (r .is-contour, r .enclosed .within)
 
   -- contours are linked by the card's pairs only where one of them puts the first before the second

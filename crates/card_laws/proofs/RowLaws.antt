@@ -136,6 +136,25 @@ module _ (s : List ℕ) where
       (known-version (and-elim-left (isVersion (versionOf s)) _ t))
       (due-is s (blockBytes * b) (kindDue s b) (versionOf s) b (and-elim-right (isVersion (versionOf s)) _ t))))
 
+  -- where block 0 starts as due, the version is 1 or 2
+  pub version-due : No (Row3 s 1) → (versionOf s ≡ 1) ⊎ (versionOf s ≡ 2)
+  version-due none = go (isVersion (versionOf s)) refl
+    where
+      other : isVersion (versionOf s) ≡ false → Row3 s 1 0
+      other e = record {
+        within = omega arith;
+        holds = λ kind version k v d. true-false {b = isVersion (versionOf s)} (version-known version v) e;
+        before = λ j h d. omega arith;
+      }
+
+      either : (eqb (versionOf s) 1 ≡ true) ⊎ (eqb (versionOf s) 2 ≡ true) → (versionOf s ≡ 1) ⊎ (versionOf s ≡ 2)
+      either (inl t) = inl (eqb-true _ _ t)
+      either (inr t) = inr (eqb-true _ _ t)
+
+      go : (b : Bool) → isVersion (versionOf s) ≡ b → (versionOf s ≡ 1) ⊎ (versionOf s ≡ 2)
+      go true e = either (or-cases (eqb (versionOf s) 1) (eqb (versionOf s) 2) e)
+      go false e = absurd (none 0 (other e))
+
   -- ---- 4
 
   bad-field : (f : ℕ) → getD (headFaults s) f false ≡ true → BadField s f

@@ -1,5 +1,6 @@
 -- What a card says, as a record of its fields; and the facts that hold of every card that is fine. Assumes nothing.
 use mathlib.Core.Path.{_≡_}
+use mathlib.Core.Logic.{_⊎_}
 use mathlib.Core.Bool.{false}
 use mathlib.Core.List.{List, [], _∷_, _++_}
 use Prim.Native.Nat.{ℕ, zero, suc, _*_, _≤_, _<_}
@@ -98,6 +99,7 @@ pub record Names (s : List ℕ) (id tag k : ℕ) : Type 0 where
 
 pub record Accepted (s : List ℕ) : Type 0 where
   pub whole : length s ≡ blockBytes * blocksDue s
+  pub version-known : (versionOf s ≡ 1) ⊎ (versionOf s ≡ 2)
   pub few-contours : contoursOf s ≤ contourLimit
   pub few-pairs : pairsOf s ≤ pairLimit
   pub some-candidates : 1 ≤ perContourOf s

@@ -26,8 +26,7 @@ pub record Joined (s : List ℕ) (rules : ℕ) : Type 0 where
       → firstAt (pairsOn s) (pairsOf s + r) < firstAt (pairsOn s) (pairsOf s + suc r)
   pub each : (i j : ℕ) → ByRule s i j → (r : ℕ) × (r < rules) × (firstAt (pairsOn s) (pairsOf s + r) ≡ i)
 
--- where no contour has a part, in version 1 always, there is no rule, and the pairs are those written
+-- in version 1 there is no rule; and where no contour has a part, the pairs are those written
 pub record Unruled (s : List ℕ) : Type 0 where
-  pub version-one : versionOf s ≡ 1 → (k : ℕ) → partOf s k ≡ 0
-  pub no-rule : (i j : ℕ) → partOf s i ≡ 0 → ByRule s i j → ⊥
+  pub version-one : versionOf s ≡ 1 → (i j : ℕ) → ByRule s i j → ⊥
   pub as-written : ((k : ℕ) → k < contoursOf s → partOf s k ≡ 0) → pairsOn s ≡ writtenOn s

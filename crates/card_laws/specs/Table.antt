@@ -175,7 +175,7 @@ pub record ByRule (s : List ℕ) (i j : ℕ) : Type 0 where
 
 -- contour i goes before contour j: by a written pair, or by rule
 pub data Precedes (s : List ℕ) (i j : ℕ) : Type 0 where
-  written : ByPair s i j → Precedes s i j
+  by-pair : ByPair s i j → Precedes s i j
   by-rule : ByRule s i j → Precedes s i j
 
 -- contour j can be reached from contour i by pairs, one or more

@@ -9,7 +9,7 @@ use native.Mathlib.Omega.{arith}
 use lib.ListN.{length, getD, set, drop, replicate, length-set, length-replicate, getD-replicate}
 use lib.Seq.{getD-set-same, getD-set-other}
 use Rattle.answer.specs.Lowest.{lowest}
-use Rattle.answer.proofs.LowestLaws.{LowestAt, Nowhere, at-is, absent-is, search-through}
+use Rattle.answer.proofs.LowestLaws.{lowest-same}
 use borrow.Author.Tests.{lt-ltb}
 use Rattle.closure.proofs.PairLaws.{same-or, both-or, lt-or, pairAt, paired-more, paired-end, is-pair, no-pair}
 use Rattle.closure.specs.Limits.{contourLimit}
@@ -233,18 +233,6 @@ noted-all n pairs at f g all part = record {
 }
 
 -- ---- the diagonal of the closed table
-
--- two tests that agree below n have the same lowest place
-lowest-same : (n : ℕ) (test other : ℕ → Bool) → ((i : ℕ) → i < n → test i ≡ other i) → lowest test n ≡ lowest other n
-lowest-same n test other same = go (search-through test n)
-  where
-    go : ((k : ℕ) × LowestAt test n k) ⊎ Nowhere test n → lowest test n ≡ lowest other n
-    go (inl (k, w)) = at-is test n k w ∙ sym (at-is other n k (record {
-      within = w .within;
-      holds = sym (same k (w .within)) ∙ w .holds;
-      before = λ j h. sym (same j (omega (arith, w .within))) ∙ w .before j h;
-    }))
-    go (inr none) = absent-is test n none ∙ sym (absent-is other n (λ j h. sym (same j h) ∙ none j h))
 
 -- below n a link is a pair
 pub linked-is : (n : ℕ) (pairs : List ℕ) (i j : ℕ) → i < n → j < n

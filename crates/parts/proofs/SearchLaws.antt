@@ -120,28 +120,28 @@ module _ (s t : List ℕ) (w : Twins s t) where
 
   -- ---- the search
 
-  abbrev same-candidates : candidatesOn s ≡ candidatesOn t
+  pub same-candidates : candidatesOn s ≡ candidatesOn t
   same-candidates = λ i. same-gathered (n-same i) i
 
-  abbrev same-owners-on : ownersOn s ≡ ownersOn t
+  pub same-owners-on : ownersOn s ≡ ownersOn t
   same-owners-on = λ i. same-owners (n-same i) i
 
-  abbrev same-firsts-on : firstsOn s ≡ firstsOn t
+  pub same-firsts-on : firstsOn s ≡ firstsOn t
   same-firsts-on = λ i. same-firsts (n-same i) i
 
-  abbrev same-table : tableOn s ≡ tableOn t
+  same-table : tableOn s ≡ tableOn t
   same-table = λ i. distancesOf (same-candidates i) (same-owners-on i)
 
-  same-chart : chartOn s ≡ chartOn t
+  pub same-chart : chartOn s ≡ chartOn t
   unfolding chartOn
   same-chart = λ i. chartOf (homesOf (same-candidates i) (same-home i)) (same-table i) (length (same-candidates i))
       (same-owners-on i) (same-firsts-on i) (same-pairs-on s t w i)
 
-  same-end : endOn s ≡ endOn t
+  pub same-end : endOn s ≡ endOn t
   unfolding endOn
   same-end = λ i. endIn (same-chart i) (n-same i) (same-passes s t w i) (same-limit s t w i)
 
-  abbrev same-outcome : outcomeOn s ≡ outcomeOn t
+  pub same-outcome : outcomeOn s ≡ outcomeOn t
   same-outcome = λ i. outcomeIn (same-chart i) (same-end i)
 
   same-check : (entries distances : ℕ) → tourCheck s entries distances ≡ tourCheck t entries distances

@@ -16,7 +16,7 @@ use Rattle.answer.specs.declared.Check.{Check}
 use Rattle.answer.specs.declared.Check.the-variants.{Fine}
 use Rattle.answer.specs.Lowest.{lowest, refuseAt}
 use Rattle.answer.specs.Stage.{orElse, firstRefusal}
-use Rattle.answer.proofs.LowestLaws.{LowestAt, Nowhere, at-is, absent-is, is-absent, search-through}
+use Rattle.answer.proofs.LowestLaws.{absent-is, is-absent, lowest-same}
 use Rattle.answer.proofs.Truth.{or-none}
 use Rattle.block.specs.Field.{byteAt, u32At}
 use Rattle.block.specs.Block.{blockBytes, payloadBytes, checked, starts, zerosAt}
@@ -34,29 +34,15 @@ use Rattle.card.specs.Stages.{nameFault, seat, tagFault}
 use Rattle.card.specs.Names.{seatsOf, pairsOn}
 use Rattle.card.specs.Verdict.{cycleFault, checkOf}
 use Rattle.card.proofs.SpareLaws.{end-within, end-contour, end-pairs, some-spare}
-use Rattle.card_laws.proofs.JoinedLaws.{unruled}
-use Rattle.parts.specs.Twins.{Checked, Twins}
+use Rattle.card_laws.proofs.JoinedLaws.{partless, unruled}
+use Rattle.parts.specs.Twins.{ChecksDue, Twins}
 use Rattle.parts.proofs.ReadLaws.{Run, byte, half, word, far, same-length, same-blocks, run}
 use Rattle.parts.proofs.ReadLaws.{same-contours, same-pairs, same-per-contour, same-passes, at-home}
 use Rattle.parts.proofs.ReadLaws.{same-exterior, same-interior, same-id, same-tag, same-count, same-type}
 use Rattle.parts.proofs.ReadLaws.{same-filler, at-vertex, same-word}
 
--- two tests that agree below n find the same
-agree : (f g : ℕ → Bool) (n : ℕ) → ((k : ℕ) → k < n → f k ≡ g k) → lowest f n ≡ lowest g n
-agree f g n h = go (search-through f n)
-  where
-    go : ((k : ℕ) × LowestAt f n k) ⊎ Nowhere f n → lowest f n ≡ lowest g n
-    go (inl (k, w)) =
-        at-is f n k w
-        ∙ sym (at-is g n k (record {
-          within = w .within;
-          holds = sym (h k (w .within)) ∙ w .holds;
-          before = λ j l. sym (h j (omega (arith, w .within))) ∙ w .before j l;
-        }))
-    go (inr none) = absent-is f n none ∙ sym (absent-is g n (λ j l. sym (h j l) ∙ none j l))
-
 -- where every check is the one due, none is at fault
-checks-due : (s : List ℕ) → Checked s → checkFault s ≡ Absent
+checks-due : (s : List ℕ) → ChecksDue s → checkFault s ≡ Absent
 unfolding checkFault checked
 checks-due s due = absent-is _ (blocksOf s) (λ b h. ap not (eq-eqb _ _ (due b h)))
 
@@ -108,7 +94,7 @@ module _ (s t : List ℕ) (w : Twins s t) where
   is-two : versionOf s ≡ 2
   is-two = w .two 0 (w .some-block)
 
-  pub is-one : versionOf t ≡ 1
+  is-one : versionOf t ≡ 1
   is-one = w .one 0 (subst (λ (n : ℕ). 0 < n) (same-blocks s t w) (w .some-block))
 
   same-kind : (b : ℕ) → kindDue s b ≡ kindDue t b
@@ -131,7 +117,7 @@ module _ (s t : List ℕ) (w : Twins s t) where
 
   same-start-fault : (count : ℕ) → count ≤ blocksOf s → startFault s count ≡ startFault t count
   unfolding startFault
-  same-start-fault count h = agree _ _ count (λ b g. same-start b (omega arith))
+  same-start-fault count h = lowest-same count _ _ (λ b g. same-start b (omega arith))
 
   -- ---- 4, 5, 6
 
@@ -215,13 +201,13 @@ module _ (s t : List ℕ) (w : Twins s t) where
   same-far-place few zero h = far s t homeOffset (at-home s t w)
   same-far-place few (suc k) h =
       let v : vertexCountOf s k ≤ vertexLimit = few k (omega arith) in
-      ap isAt (agree _ _ (vertexCountOf s k) (λ j g. far s t _ (at-vertex s t w k j (omega arith)))
+      ap isAt (lowest-same (vertexCountOf s k) _ _ (λ j g. far s t _ (at-vertex s t w k j (omega arith)))
       ∙ ap (lowest (λ j. farPoint t (vertexOffset k j))) (same-count s t w k))
 
   same-far-fault : contourFault s ≡ Absent → farFault s ≡ farFault t
   unfolding farFault
   same-far-fault none =
-      agree _ _ (contoursOf s + 1) (same-far-place (few-vertices s none))
+      lowest-same (contoursOf s + 1) _ _ (same-far-place (few-vertices s none))
       ∙ (λ i. lowest (farPlace t) (n-same i + 1))
 
   -- ---- 9, 10, 11
@@ -266,7 +252,7 @@ module _ (s t : List ℕ) (w : Twins s t) where
   same-pairs-on =
       unruled s .as-written (w .no-part)
       ∙ (λ i. same-seats (same-pairs s t w i) i)
-      ∙ sym (unruled t .as-written (λ k h. unruled t .version-one is-one k))
+      ∙ sym (unruled t .as-written (λ k h. partless t is-one k))
 
   same-cycle-fault : cycleFault s ≡ cycleFault t
   unfolding cycleFault

@@ -23,7 +23,7 @@ use Rattle.fields.specs.Layout.{blocksOf, payload, contoursOf, partOf, partOffs
 use Rattle.card.specs.Stages.{checkFault}
 use Rattle.card.specs.Verdict.{checkOf}
 use Rattle.card_laws.proofs.Starred.{verdict-computes}
-use Rattle.parts.specs.Twins.{Own, of-version, of-check, of-part, Checked, Twins}
+use Rattle.parts.specs.Twins.{Own, of-version, of-check, of-part, ChecksDue, Twins}
 use Rattle.parts.specs.Witness.{second, first, Witness}
 
 -- place a of a card of n contours is one of those that twins need not share
@@ -70,7 +70,7 @@ record Computed (s t : List ℕ) : Type 0 where
   zeros : lowest (λ k. not (zerosAt t (payload (k + 1) + partOffset) 8)) (contoursOf s) ≡ Absent
 
 module _ (s t : List ℕ) (c : Computed s t) where
-  checked-all : (u : List ℕ) → checkFault u ≡ Absent → Checked u
+  checked-all : (u : List ℕ) → checkFault u ≡ Absent → ChecksDue u
   unfolding checkFault checked
   checked-all u e b h = eqb-true _ _ (everywhere (λ b. checked u (blockBytes * b)) (blocksOf u) e b h)
 

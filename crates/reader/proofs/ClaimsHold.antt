@@ -10,7 +10,7 @@ use Rattle.fields.specs.Values.{pointAt}
 use Rattle.reader.specs.declared.Width.the-variants.{One, Two, Four, Eight}
 use Rattle.reader.specs.Walk.{walk, eights}
 use Rattle.reader.specs.OnCard.{headOf, contourWidths, pairRead, pairWidths}
-use Rattle.reader.specs.Claims.{HeadInOrder, ContourInOrder, PartInOrder, PairInOrder, PointOfBits}
+use Rattle.reader.specs.Claims.{HeadInOrder, ContourInOrder, GroupInOrder, PairInOrder, PointOfBits}
 use Rattle.reader.proofs.WalkLaws.{walk-cut, walk-on, walk-last}
 use Rattle.reader.proofs.CardLaws.{vertices-walked}
 
@@ -46,8 +46,8 @@ contour-in-order s k v =
       vertices-walked s k 0 v (min (p + 12) (length s)) (omega arith),
     )
 
-pub part-in-order : PartInOrder
-part-in-order s k has =
+pub group-in-order : GroupInOrder
+group-in-order s k has =
     let p = payload (k + 1) in
     rw (has, walk-on s p partOffset Four _, walk-last s (p + copyOffset) Four)
 

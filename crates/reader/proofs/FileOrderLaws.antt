@@ -14,7 +14,7 @@ use Rattle.reader.specs.FileOrder.{Stretch, groupStretches, contourStret
 use Rattle.reader.specs.FileOrder.{walkAll, bytesIn, Forward, groupList, contourList, contoursRead, pairsRead}
 use Rattle.reader.specs.FileOrder.{cardRead}
 use Rattle.reader.specs.Claims.{CardInOrder, CardForward}
-use Rattle.reader.proofs.ClaimsHold.{head-in-order, contour-in-order, part-in-order, pair-in-order}
+use Rattle.reader.proofs.ClaimsHold.{head-in-order, contour-in-order, group-in-order, pair-in-order}
 
 -- ---- what is answered
 
@@ -41,7 +41,7 @@ coordinates-taken s k v =
 group-answered : (s : List ℕ) (k : ℕ) (parts : Bool) → hasParts s ≡ parts
     → walkAll s (groupStretches parts k) ≡ groupList parts (contourRead s k)
 unfolding walkAll groupStretches contourRead
-group-answered s k true has = append-nil _ ∙ part-in-order s k has
+group-answered s k true has = append-nil _ ∙ group-in-order s k has
 group-answered s k false has = refl
 
 contour-answered : (s : List ℕ) (k : ℕ)

@@ -26,8 +26,8 @@ ContourInOrder = (s : List ℕ) (k v : ℕ)
     ∷ fillerOf s k ∷ coordinatesFrom s k 0 v
 
 -- its part and its copy, behind the vertices, in version 2
-abbrev pub PartInOrder : Type 0
-PartInOrder = (s : List ℕ) (k : ℕ) → hasParts s ≡ true
+abbrev pub GroupInOrder : Type 0
+GroupInOrder = (s : List ℕ) (k : ℕ) → hasParts s ≡ true
     → walk s (payload (k + 1) + partOffset) groupWidths ≡ partOf s k ∷ copyOf s k ∷ []
 
 -- a pair

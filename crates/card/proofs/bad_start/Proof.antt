@@ -6,7 +6,7 @@ use Rattle.card.proofs.bad_start.Tie as tie
 returns : tie.Need-returns
 returns c = let k = c .before in
     let v = k .before in
-    rw (← v .before .version .ensures, ← k .kind-due .ensures, c .starts-as .ensures, v .is-known .ensures)
+    rw (← v .before .version .ensures, ← k .kind-due .ensures, c .starts-as .ensures, v .is-version .ensures)
 
 pub bad-start-spec : {M : Type 1} → statement M
 bad-start-spec =
