@@ -105,6 +105,12 @@ impl Problem {
         }
     }
 
+    /// Whether the search by the written pairs alone ends with another tour, so that those by rule show.
+    pub fn shows_the_rule(self, card: &Card, found: &Found) -> bool {
+        let written = self.dag.precedences()[..card.pairs.len()].to_vec();
+        card.version == 2 && self.by(written).search(card.limit).tour != found.tour
+    }
+
     /// The same with other pairs, by ids.
     pub fn by(self, pairs: Vec<(usize, usize)>) -> Problem {
         Problem { dag: CuttingDag::from_pairs(self.dag.num_contours(), pairs), ..self }
@@ -206,6 +212,7 @@ fn no_part_no_difference() {
         let mut twin = Card { version: 2, ..card.clone() };
         twin.contours.iter_mut().for_each(|contour| contour.instance = r.next() as u32 % 3);
         assert_eq!(printed(&twin.bytes()), printed(&card.bytes()), "case {case}");
+        assert_eq!(jambolive::list(&twin.bytes()), jambolive::list(&card.bytes()), "case {case}");
     }
 }
 

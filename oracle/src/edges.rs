@@ -169,12 +169,12 @@ fn of_the_version() -> Vec<Edge> {
         (changed(2, start(3), 3), Some((3, 3))),
         (changed(1, in_contour(contour::PART - 1), 1), Some((7, 1))),
         (changed(2, in_contour(contour::PART - 1), 1), Some((7, 1))),
-        (changed(1, in_contour(contour::PART), 1), Some((7, 1))),
-        (changed(2, in_contour(contour::PART), 1), None),
-        (changed(1, in_contour(CHECK_AT - 1), 1), Some((7, 1))),
-        (changed(2, in_contour(CHECK_AT - 1), 1), None),
         (changed(2, head::END, 1), Some((7, 0))),
     ]);
+    // each byte of a part and an instance is a field in version 2 alone
+    for at in contour::PART..CHECK_AT {
+        all.extend([(changed(1, in_contour(at), 1), Some((7, 1))), (changed(2, in_contour(at), 1), None)]);
+    }
     all
 }
 

@@ -128,8 +128,7 @@ fn one(r: &Random, version: u8, telling: &Telling) -> Result<u64, String> {
     chart.improve(&mut whole, u32::from(card.passes), 0);
     let agreed = same(what, &whole, &bytes(&problem.unlimited()))?;
     telling.after_another.count(card.c > 2 && found.rejected_after > 0);
-    let written = problem.dag.precedences()[..card.pairs.len()].to_vec();
-    telling.by_rule.count(version == 2 && problem.by(written).search(card.limit).tour != found.tour);
+    telling.by_rule.count(problem.shows_the_rule(&card, &found));
     Ok(agreed)
 }
 

@@ -7,7 +7,7 @@ use crate::exports::{Left, UNTOUCHED, check, place, tour};
 use crate::generate::{good, limit_near};
 use crate::limits::CANDIDATES;
 use crate::random::Random;
-use crate::run::{Wanted, by_version, same};
+use crate::run::{Tally, Wanted, by_version, same};
 
 /// The contour of a candidate and its number within, or 15 where the card has no such candidate.
 pub fn place_due(problem: &Problem, candidate: u64) -> (u64, u64, u64) {
@@ -18,7 +18,9 @@ pub fn place_due(problem: &Problem, candidate: u64) -> (u64, u64, u64) {
     (0, contour as u64, within as u64)
 }
 
-fn one(r: &Random, version: u8) -> Result<u64, String> {
+const ALL: u64 = 200_000;
+
+fn one(r: &Random, version: u8, by_rule: &Tally) -> Result<u64, String> {
     let mut card = good(r, version);
     let n = card.contours.len();
     let problem = Problem::of(&card);
@@ -38,9 +40,12 @@ fn one(r: &Random, version: u8) -> Result<u64, String> {
     same(what, tour(&bytes, room)?, Left::accepted(&found.tour, found.moves, found.length, room))?;
     let candidate = r.pick(&[r.below(CANDIDATES as u64), r.below(1 << 32), problem.instance.total_candidates as u64]);
     same(what, place(&bytes, candidate)?, place_due(&problem, candidate))?;
-    same(what, jambolive::list(&bytes), problem.list(&card, &found))
+    let agreed = same(what, jambolive::list(&bytes), problem.list(&card, &found))?;
+    by_rule.count(problem.shows_the_rule(&card, &found));
+    Ok(agreed)
 }
 
 pub fn compare(wanted: Wanted) -> bool {
-    by_version(wanted, "good cards", 200_000, one)
+    let by_rule = Tally::of("good cards with another tour than by the written pairs alone", 20);
+    by_version(wanted, "good cards", ALL, |r, version| one(r, version, &by_rule)) && by_rule.enough(wanted.of(ALL))
 }

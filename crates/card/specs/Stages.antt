@@ -161,7 +161,7 @@ unfoldable pub repeatFault : List ℕ → Found
 unfolding lowest
 repeatFault s = lowest (repeats s) (contoursOf s)
 
--- ---- 10: pairs that name an id no contour has
+-- ---- 10: written pairs that name an id no contour has
 
 -- the contour that has an id
 abbrev pub positionOf : List ℕ → ℕ → Found
@@ -174,7 +174,7 @@ unfoldable pub nameFault : List ℕ → Found
 unfolding lowest
 nameFault s = lowest (unnamed s) (pairsOf s)
 
--- ---- 11: pairs whose tag is not their contour's
+-- ---- 11: written pairs whose tag is not their contour's
 
 -- the position found; 0 where there is none
 abbrev pub seat : Found → ℕ

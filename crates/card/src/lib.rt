@@ -460,7 +460,7 @@ fn wide(x: u8) -> usize
     x as usize
 }
 
-// 11: the first pair with a tag that is not its contour's. The written pairs' positions are handed in.
+// 11: the first written pair with a tag that is not its contour's. Their positions are handed in.
 fn tag_fault(card: &[u8], seats: &[u8]) -> Found
     requires { ⌜ now seats ≡ writtenOn (now card) ⌝ }
     ensures { λ r. ⌜ r ≡ tagFault (now (card .entry)) ⌝ }

@@ -78,7 +78,7 @@ module _ (i j : ℕ) where
 
 -- ---- written pairs, and pairs by rule
 
--- some of the first m pairs puts i before j
+-- some of the first m written pairs puts i before j
 record BeforeIn (s : List ℕ) (m i j : ℕ) : Type 0 where
   pub pair : ℕ
   pub is-pair : pair < m

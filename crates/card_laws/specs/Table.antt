@@ -137,7 +137,7 @@ pub record Has (s : List ℕ) (id k : ℕ) : Type 0 where
   pub is-contour : k < contoursOf s
   pub same : idOf s k ≡ id
 
--- 10: a pair names an id no contour has; the lowest pair
+-- 10: a written pair names an id no contour has; the lowest pair
 pub data Unnamed (s : List ℕ) (q : ℕ) : Type 0 where
   first : ((k : ℕ) → Has s (beforeIdOf s q) k → ⊥) → Unnamed s q
   second : ((k : ℕ) → Has s (afterIdOf s q) k → ⊥) → Unnamed s q
@@ -145,7 +145,7 @@ pub data Unnamed (s : List ℕ) (q : ℕ) : Type 0 where
 abbrev pub Row10 : List ℕ → ℕ → Type 0
 Row10 s = Lowest (pairsOf s) (Unnamed s)
 
--- 11: a pair's tag differs from its contour's; the lowest pair
+-- 11: a written pair's tag differs from its contour's; the lowest pair
 pub data OtherTag (s : List ℕ) (q : ℕ) : Type 0 where
   first : (k : ℕ) → Has s (beforeIdOf s q) k → (tagOf s k ≡ beforeTagOf s q → ⊥) → OtherTag s q
   second : (k : ℕ) → Has s (afterIdOf s q) k → (tagOf s k ≡ afterTagOf s q → ⊥) → OtherTag s q

@@ -179,7 +179,8 @@ pub record Measured (s : List ℕ) : Type 0 where
       ≡ add binary64 (longOn s (front ++ (a ∷ []))) (distanceAt (tableOn s) (countOn s) a b)
 
 -- what is asked of a trial: in floats, new < current - 1e-10; and, of a tour that meets each contour once, that it
--- meets of each pair the first before the second. Reversed is the stretch from i+1 to j; what stands around it stays
+-- meets of each pair, written or by rule, the first before the second. Reversed is the stretch from i+1 to j; what
+-- stands around it stays
 pub record Terms (s : List ℕ) : Type 0 where
   pub is-shorter : (new current : Float)
       → shorter new current ≡ lt new (sub binary64 current (ofBits binary64 0x3ddb_7cdf_d9d7_bdbb))
@@ -374,7 +375,7 @@ pub record Cut (s : List ℕ) : Type 0 where
 -- ---- the answer
 
 -- what is told, and what stands in the rooms: the tour and the table at their fronts, their rests as they were; the
--- tour cuts each contour once, and of each pair the first before the second
+-- tour cuts each contour once, and of each pair, written or by rule, the first before the second
 pub record Told (s room : List ℕ) (table : List Float) (told : Outcome) : Type 0 where
   pub tour : tourOf s room table .room ≡ searchOn s (moveLimitOf s) .tour ++ drop (contoursOf s) room
   pub legal-so : LegalOrder s (contours (ownersOn s) (searchOn s (moveLimitOf s) .tour))

@@ -1,7 +1,7 @@
 -- Demand 3: where home and all candidates of a card lie on a grid, the tour that is handed out cuts each contour once,
--- at one of the contour's own candidates, and of each pair the first before the second; the length reported is within
--- 2^-28 mm of the exact one; and the tour is at most 2^-27 mm longer than the start, exactly. tourOf is what
--- `tour::tour` promises, so it speaks of demand 2's tour, and no fixed legal order will do. Assumes nothing.
+-- at one of the contour's own candidates, and of each pair, written or by rule, the first before the second; the length
+-- reported is within 2^-28 mm of the exact one; and the tour is at most 2^-27 mm longer than the start, exactly. tourOf
+-- is what `tour::tour` promises, so it speaks of demand 2's tour, and no fixed legal order will do. Assumes nothing.
 use mathlib.Core.Path.{_≡_}
 use mathlib.Core.List.{List, [], _∷_, map}
 use Prim.Native.Nat.{ℕ, suc, _+_, _*_, _^_, _≤_, _<_}

@@ -29,7 +29,8 @@ module _ (s t : List ℕ) (w : Twins s t) where
   pub same-evaluated : (order : List ℕ) → evaluated s order ≡ evaluated t order
   unfolding evaluated
   same-evaluated order = λ i.
-      let check = orderCheck (same-contours s t w i) (same-owners-on s t w i) (length (same-candidates s t w i)) order in
+      let t-same = length (same-candidates s t w i) in
+      let check = orderCheck (same-contours s t w i) (same-owners-on s t w i) t-same order in
       measuredUnless (firstRefusal (same-verdict s t w i ∷ check ∷ [])) (lengthIn (same-chart s t w i) order)
 
   same-number : (a : ℕ) → numberCheck s a ≡ numberCheck t a

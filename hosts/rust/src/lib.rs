@@ -2,9 +2,9 @@
 //!
 //! A job comes as a card, a file of 512-byte blocks (docs/CARD.md). [`check`] says whether a card can be
 //! followed, [`tour`] finds its tour, [`list`] prints it as the machine reads it. A card of version 1 or 2 will do; in
-//! version 2 the holes of a part are cut before its outline without a pair that says so. The work is done by a library
-//! in which every function is proved: these calls only hand slices over and make numbers into words. They take
-//! any bytes, never panic, and keep nothing. They may run side by side, and take less than 96 KiB of stack.
+//! version 2 a hole is cut before the first outline of its part and instance without a pair that says so. The work is
+//! done by a library in which every function is proved: these calls only hand slices over and make numbers into words.
+//! They take any bytes, never panic, and keep nothing. They may run side by side, and take less than 96 KiB of stack.
 //!
 //! ```
 //! let mut card = std::fs::read("../../examples/job-41.card").unwrap();

@@ -3,7 +3,7 @@
 /// The most contours that a card has, so the most entries of a tour.
 pub const CONTOURS: usize = 40;
 
-/// The most pairs that a card has.
+/// The most pairs that are written on a card.
 pub const PAIRS: usize = 124;
 
 /// The most candidates that a contour has.

@@ -51,7 +51,7 @@ fn examples() {
     }
 }
 
-/// Cards from the generator, by turns good and damaged. Most are small, so that the file is; every twenty-fifth has any size up
+/// Cards from the generator, by turns good and damaged, in version 2 by turns in another way. Most are small, so that the file is; every twenty-fifth has any size up
 /// to one byte too many.
 fn random(part: &str, cases: u64, version: u8) -> impl Iterator<Item = Vec<u8>> {
     let made = move |case: u64| {
