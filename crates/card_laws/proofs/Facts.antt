@@ -26,8 +26,8 @@ use Rattle.card.specs.Stages.{blocksDue, beforeOf, afterOf}
 use Rattle.card.specs.Verdict.{checkOf}
 use Rattle.card_laws.specs.Table.{No, Row1, Row3, Row4, Row5, Row6, Row8, Row9, Row10, Row11, Row12, BadField}
 use Rattle.card_laws.specs.Table.{contours, pairs, candidates, passes, exterior, interior, all-candidates}
-use Rattle.card_laws.specs.Table.{BadContour, few-vertices, many-vertices, no-type, FarCoordinate, at-home, at-vertex}
-use Rattle.card_laws.specs.Table.{OtherTag, Sound}
+use Rattle.card_laws.specs.Table.{BadContour, few-vertices, many-vertices, no-type, FarCoordinate, at-home}
+use Rattle.card_laws.specs.Table.{at-vertex, OtherTag, Sound}
 use Rattle.card_laws.specs.Card.{Contour, Pair, tabulated, contourOf, pairOf, cardOf, Names, Accepted}
 use Rattle.card_laws.proofs.RowLaws.{version-due, due-blocks, no-bad-field, no-bad-contour}
 use Rattle.card_laws.proofs.FarRow.{no-far}
