@@ -173,12 +173,12 @@ no-rules s (suc k) none =
     no-part : partOf s k ≡ 0 → isHole s k ≡ false
     no-part e = ap (λ (b : Bool). eqb (typeOf s k) 1 && not b) (eq-eqb _ 0 e) ∙ and-false (eqb (typeOf s k) 1)
 
-pub partless : (s : List ℕ) → versionOf s ≡ 1 → (k : ℕ) → partOf s k ≡ 0
-partless s e k = rw e
+pub no-parts : (s : List ℕ) → versionOf s ≡ 1 → (k : ℕ) → partOf s k ≡ 0
+no-parts s e k = rw e
 
 pub unruled : (s : List ℕ) → Unruled s
 unruled s = record {
-  version-one = λ e i j b. b .of-a-part (partless s e i);
+  version-one = λ e i j b. b .of-a-part (no-parts s e i);
   as-written =
       λ none. ap (λ (l : List ℕ). writtenOn s ++ l) (no-rules s (contoursOf s) none) ∙ append-nil (writtenOn s);
 }

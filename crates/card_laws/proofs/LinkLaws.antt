@@ -51,15 +51,17 @@ Lists i j l = someOf (isPair i j) (paired l) ≡ true
 
 module _ (i j : ℕ) where
   -- of two lists the one or the other does
+  either-lists : (l r : List ℕ) (k : ℕ) → length l ≡ 2 * k
+      → someOf (isPair i j) (paired (l ++ r)) ≡ (someOf (isPair i j) (paired l) || someOf (isPair i j) (paired r))
+  either-lists l r k whole =
+      ap (someOf (isPair i j)) (paired-append l r k whole) ∙ some-append (isPair i j) (paired l) (paired r)
+
   in-either : (l r : List ℕ) (k : ℕ) → length l ≡ 2 * k → Lists i j (l ++ r) → Lists i j l ⊎ Lists i j r
   in-either l r k whole e =
-      or-cases (someOf (isPair i j) (paired l)) (someOf (isPair i j) (paired r))
-      (sym (some-append (isPair i j) (paired l) (paired r)) ∙ ap (someOf (isPair i j)) (sym (paired-append l r k whole))
-      ∙ e)
+      or-cases (someOf (isPair i j) (paired l)) (someOf (isPair i j) (paired r)) (sym (either-lists l r k whole) ∙ e)
 
   from-either : (l r : List ℕ) (k : ℕ) → length l ≡ 2 * k → Lists i j l ⊎ Lists i j r → Lists i j (l ++ r)
-  from-either l r k whole e =
-      ap (someOf (isPair i j)) (paired-append l r k whole) ∙ some-append (isPair i j) (paired l) (paired r) ∙ go e
+  from-either l r k whole e = either-lists l r k whole ∙ go e
     where
       go : Lists i j l ⊎ Lists i j r → (someOf (isPair i j) (paired l) || someOf (isPair i j) (paired r)) ≡ true
       go (inl t) = or-inl (someOf (isPair i j) (paired l)) _ t

@@ -33,7 +33,7 @@ use Rattle.card.specs.Stages.{nameFault, seat, tagFault}
 use Rattle.card.specs.Names.{seatsOf, pairsOn}
 use Rattle.card.specs.Verdict.{cycleFault, checkOf}
 use Rattle.card.proofs.SpareLaws.{end-within, end-contour, end-pairs, some-spare}
-use Rattle.card_laws.proofs.JoinedLaws.{partless, unruled}
+use Rattle.card_laws.proofs.JoinedLaws.{no-parts, unruled}
 use Rattle.parts.specs.Twins.{ChecksDue, Twins}
 use Rattle.parts.proofs.ReadLaws.{Run, byte, half, word, far, same-length, same-blocks, run}
 use Rattle.parts.proofs.ReadLaws.{same-contours, same-pairs, same-per-contour, same-passes, at-home}
@@ -251,7 +251,7 @@ module _ (s t : List ℕ) (w : Twins s t) where
   same-pairs-on =
       unruled s .as-written (w .no-part)
       ∙ (λ i. same-seats (same-pairs s t w i) i)
-      ∙ sym (unruled t .as-written (λ k h. partless t is-one k))
+      ∙ sym (unruled t .as-written (λ k h. no-parts t is-one k))
 
   same-cycle-fault : cycleFault s ≡ cycleFault t
   unfolding cycleFault
