@@ -5,3 +5,4 @@ pub mod FillLaws
 pub mod RoomLaws
 pub mod DistanceLaws
 pub mod NearLaws
+pub mod BackLaws

@@ -13,7 +13,7 @@ row-small a t h k = mul-le-mul {n₁ = a} {m₁ = t} {n₂ = 255} {m₂ = 255} (
 pub square-small : (t : ℕ) → t ≤ candidateLimit → t * t ≤ entryLimit
 square-small t h = mul-le-mul {n₁ = t} {m₁ = t} {n₂ = candidateLimit} {m₂ = candidateLimit} h h
 
--- a row ends where the next begins, and the last one where all end
-pub row-fits : (a t : ℕ) → a < t → a * t + t ≤ t * t
-row-fits a t h = let e : suc a * t ≤ t * t =
-    mul-le-mul {n₁ = suc a} {m₁ = t} {n₂ = t} {m₂ = t} h (omega arith) in rw suc-mul at e
+-- a row ends where the next begins, and so before row n, or the table's end
+pub row-fits : (a n t : ℕ) → a < n → a * t + t ≤ n * t
+row-fits a n t h = let e : suc a * t ≤ n * t =
+    mul-le-mul {n₁ = suc a} {m₁ = t} {n₂ = n} {m₂ = t} h (omega arith) in rw suc-mul at e

@@ -4,13 +4,15 @@ use candidates::Candidate;
 use fields::CANDIDATES;
 use points::HUGE;
 ghost use mathlib.Core.Path.{_≡_};
+ghost use mathlib.Core.Bool.{true};
 ghost use mathlib.Core.List.{_++_};
-ghost use Prim.Native.Nat.{_≤_, _<_};
+ghost use Prim.Native.Nat.{ℕ, _*_, _≤_, _<_};
 ghost use lib.ListN.{getD, take, drop};
 ghost use lib.Ieee.{nan};
+ghost use Rattle.answer.specs.Room.{placed};
 ghost use Rattle.fields.specs.Limits.{candidateLimit};
 ghost use Rattle.table.specs.Evaluate.{homeAt, distanceAt, lengthOf};
-ghost use Rattle.table.specs.Distances.{legOf, rowOf, homed, tabled};
+ghost use Rattle.table.specs.Distances.{absent, pierced, leaving, legOf, legAt, listed, rowOf, homed, tabled};
 
 // The most entries that the distances of a card take.
 pub const ENTRIES: usize = CANDIDATES * CANDIDATES;
@@ -85,15 +87,84 @@ fn leg(from: Candidate, k: u8, to: Candidate, m: u8) -> f64
     )
 }
 
-// The row of candidate a: the way from it to each of the t candidates.
-fn fill_row(room: &mut [f64], items: [Candidate; CANDIDATES], t: usize, owner: &[u8], a: usize)
+// Whether two numbers have the same bits. What is no number has those of none: its bits are the processor's affair.
+fn same_bits(x: f64, y: f64) -> bool
+    ensures { λ r. ⌜ (r ≡ true → x ≡ y) ⌝ }
+{
+    if x == y {
+        return f64::to_bits(x) == f64::to_bits(y);
+    }
+    false
+}
+
+// Whether a candidate's cut ends where it begins.
+fn is_closed(c: Candidate) -> bool
+    ensures { λ r. ⌜ (r ≡ true → leaving c ≡ pierced c) ⌝ }
+{
+    if same_bits(c.end_x, c.x) {
+        return same_bits(c.end_y, c.y);
+    }
+    false
+}
+
+// How many of the first t candidates come before one whose cut ends elsewhere. Of a card's all do.
+fn closed_front(items: [Candidate; CANDIDATES], t: usize) -> usize
+    requires { ⌜ t ≤ candidateLimit ⌝ }
+    ensures { λ r. ⌜ ((i : ℕ) → i < r → leaving (getD items i absent) ≡ pierced (getD items i absent)) ⌝ }
+{
+    let mut i = 0;
+    while i < t {
+        let c = items[i];
+        if !is_closed(c) {
+            return i;
+        }
+        i += 1;
+    }
+    i
+}
+
+// How many entries of row a are known from the rows above: where the cuts up to a are closed, so that it is as far back as
+// there, those before the diagonal.
+fn known_in(a: usize, closed: usize) -> usize
+    ensures { λ r. ⌜ (r ≤ a) × (0 < r → a < closed) ⌝ }
+{
+    if a < closed {
+        return a;
+    }
+    0
+}
+
+// The entries of row a that are known, from column a.
+fn copy_known(room: &mut [f64], t: usize, a: usize, known: usize)
+    requires { ⌜ (t ≤ candidateLimit) × ((a < t) × (known ≤ a)) ⌝ }
+    requires { do ⌜ t * t ≤ (← ⟦room.len()⟧) ⌝ }
+    ensures { λ r. ⌜ now (room .exit) ≡ take (a * t) (now (room .entry)) ++ placed (listed (λ b. distanceAt (now (room .entry)) t b a) known 0) (drop (a * t) (now (room .entry))) ⌝ }
+{
+    let at = a * t;
+    let mut b = 0;
+    while b < known {
+        room[at + b] = room[b * t + a];
+        b += 1;
+    }
+}
+
+// The row of candidate a: the way from it to each of the t candidates, worked out where it is not known.
+fn fill_row(
+    room: &mut [f64],
+    items: [Candidate; CANDIDATES],
+    t: usize,
+    owner: &[u8],
+    a: usize,
+    known: usize,
+)
     requires { ⌜ (t ≤ candidateLimit) × (a < t) ⌝ }
     requires { do ⌜ t ≤ (← ⟦room.len()⟧) ⌝ }
+    requires { ⌜ (known ≤ t) × (take known (now room) ≡ listed (legAt (take t items) (now owner) a) known 0) ⌝ }
     ensures { λ r. ⌜ now (room .exit) ≡ rowOf (take t items) (now (owner .entry)) t a ++ drop t (now (room .entry)) ⌝ }
 {
     let from = items[a];
     let k = byte_at(owner, a);
-    let mut b = 0;
+    let mut b = known;
     while b < t {
         let to = items[b];
         room[b] = leg(from, k, to, byte_at(owner, b));
@@ -111,10 +182,13 @@ pub fn fill_table(room: &mut [f64], items: [Candidate; CANDIDATES], t: usize, ow
     if room.len() < t * t {
         return;
     }
+    let closed = closed_front(items, t);
     let mut a = 0;
     while a < t {
+        let known = known_in(a, closed);
+        copy_known(room, t, a, known);
         let at = a * t;
-        fill_row(&mut room[at..], items, t, owner, a);
+        fill_row(&mut room[at..], items, t, owner, a, known);
         a += 1;
     }
 }

@@ -9,16 +9,17 @@ use lib.ListN.{length, take, drop, length-take, length-drop}
 use denote.Ref.{now}
 use Rattle.table.specs.Distances.{chained, rowOf}
 use Rattle.table.proofs.PlaceLaws.{square-small, row-fits}
-use Rattle.table.proofs.RoomLaws.{table-many, table-short, table-more, table-all}
+use Rattle.table.proofs.RoomLaws.{table-many, table-short, table-all}
+use Rattle.table.proofs.BackLaws.{row-begun, row-done}
 use Rattle.table.proofs.fill_table.Statement.{statement}
 use Rattle.table.proofs.fill_table.Tie as tie
 
 abbrev Inv-loop : tie.InvT-loop
-Inv-loop room₀ items t owner a₀ room a =
+Inv-loop room₀ items t owner closed a₀ room a =
     (a ≤ t) × (length room ≡ length room₀) × (room ≡ chained (rowOf (take t items) owner t) a 0 ++ drop (a * t) room₀)
 
 abbrev μ-loop : tie.MeasureT-loop
-μ-loop room₀ items t owner a₀ room a = t - a
+μ-loop room₀ items t owner closed a₀ room a = t - a
 
 returns : tie.Need-returns Inv-loop μ-loop
 returns c = table-many _ _ _ _ (c .if1 .taken)
@@ -34,45 +35,67 @@ loop-holds : tie.Need-loop-holds Inv-loop μ-loop
 unfolding chained
 loop-holds c = (omega arith, refl, rw (zero-mul))
 
+copy-known-requires : tie.Need-copy-known-requires Inv-loop μ-loop
+copy-known-requires c κs = ((omega arith, (omega arith, c .before .known-in .ensures .0)), omega arith)
+
 mul-at : tie.Need-mul-at Inv-loop μ-loop
-mul-at c = let s =
-    c .before .before .before .before .before .before in omega
-    (arith, square-small (s .args .t) (omega arith), row-fits (c .before .loop .a) (s .args .t) (omega arith))
+mul-at c =
+    let l = c .before .before .before .before .before .before in
+    let s = l .before .before .before .before .before .before .args in
+    omega (arith, square-small (s .t) (omega arith), row-fits (l .loop .a) (s .t) (s .t) (omega arith))
 
 mul-fill-row : tie.Need-mul-fill-row Inv-loop μ-loop
-mul-fill-row c = let s =
-    c .before .before .before .before .before .before in omega
-    (arith, square-small (s .args .t) (omega arith), row-fits (c .before .loop .a) (s .args .t) (omega arith))
+mul-fill-row c =
+    let l = c .before .before .before .before .before .before in
+    let s = l .before .before .before .before .before .before .args in
+    omega (arith, square-small (s .t) (omega arith), row-fits (l .loop .a) (s .t) (s .t) (omega arith))
 
 sub-fill-row : tie.Need-sub-fill-row Inv-loop μ-loop
-sub-fill-row c = let s =
-    c .before .before .before .before .before .before in omega
-    (arith, row-fits (c .before .loop .a) (s .args .t) (omega arith))
+sub-fill-row c =
+    let l = c .before .before .before .before .before .before in
+    let s = l .before .before .before .before .before .before .args in
+    omega (arith, row-fits (l .loop .a) (s .t) (s .t) (omega arith))
 
 part-fill-row-start : tie.Need-part-fill-row-start Inv-loop μ-loop
-part-fill-row-start c = let s =
-    c .before .before .before .before .before .before in omega
-    (arith, row-fits (c .before .loop .a) (s .args .t) (omega arith))
+part-fill-row-start c =
+    let l = c .before .before .before .before .before .before in
+    let s = l .before .before .before .before .before .before .args in
+    omega (arith, row-fits (l .loop .a) (s .t) (s .t) (omega arith))
 
 fill-row-requires : tie.Need-fill-row-requires Inv-loop μ-loop
 fill-row-requires c κs =
-    let s = c .before .before .before .before .before .before .before in
-    let h = c .before .before .loop in (
+    let l = c .before .before .before .before .before .before .before in
+    let s = l .before .before .before .before .before .before .args in
+    let h = l .loop in
+    let closed = l .before .closed-front in
+    let known = c .before .before .before .before .before .known-in in
+    let copy = c .before .before .before .copy-known in (
       (omega arith, omega arith),
-      simp (length-take, length-drop)
-          (omega (arith, row-fits (h .a) (s .args .t) (omega arith))),
+      (
+        simp (length-take, length-drop) (omega (arith, row-fits (h .a) (s .t) (s .t) (omega arith))),
+        (
+          omega (arith, known .ensures .0),
+          row-begun (s .items) (s .t) (now (s .owner)) (h .a) (known .result) (closed .result) (now (s .room)) (h .room)
+              (copy .last .0) (h .inv .2) (omega arith) (known .ensures .0) (known .ensures .1) (closed .ensures)
+              (omega arith) (copy .ensures),
+        ),
+      ),
     )
 
 loop-again : tie.Need-loop-again Inv-loop μ-loop
 loop-again c =
-    let h = c .before .before .before .before .before .loop in
-    let r = c .before .before .fill-row in
-    let s = c .before .before .before .before .before .before .before .before .before .before .args in (
+    let l = c .before .before .before .before .before .before .before .before .before .before in
+    let s = l .before .before .before .before .before .before .args in
+    let h = l .loop in
+    let closed = l .before .closed-front in
+    let known = c .before .before .before .before .before .before .before .before .known-in in
+    let copy = c .before .before .before .before .before .before .copy-known in
+    let row = c .before .before .fill-row in (
       omega arith,
-      c .before .room .given .1
-          ∙ h .inv .1,
-      table-more (s .items) (s .t) (now (s .owner)) (now (s .room)) (h .a) (h .room) (h .inv .2)
-          (r .last .0) (r .ensures),
+      c .before .room2 .given .1 ∙ c .before .before .before .before .before .room .given ∙ h .inv .1,
+      row-done (s .items) (s .t) (now (s .owner)) (h .a) (known .result) (closed .result) (now (s .room)) (h .room)
+          (copy .last .0) (h .inv .2) (omega arith) (known .ensures .0) (known .ensures .1) (closed .ensures)
+          (omega arith) (copy .ensures) (row .last .0) (row .ensures),
     )
 
 same-length : tie.Need-same-length Inv-loop μ-loop
@@ -80,7 +103,7 @@ same-length c = c .before .loop .inv .1
 
 returns-3 : tie.Need-returns-3 Inv-loop μ-loop
 returns-3 c =
-    let s = c .before .before .before .before .before .before in
+    let s = c .before .before .before .before .before .before .before in
     let e : c .before .loop .a ≡ s .args .t = omega arith in
     table-all _ _ _ _ _ _ (c .before .loop .inv .2) (omega arith) (omega arith) (s .good .1 .0 .1 .0 .1) e
 
@@ -93,7 +116,10 @@ fill-table-spec =
     returns
     mul-if2
     returns-2
+    (λ c κs. omega arith)
     loop-holds
+    (λ c κs. tt)
+    copy-known-requires
     mul-at
     mul-fill-row
     sub-fill-row
