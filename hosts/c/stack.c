@@ -1,18 +1,14 @@
-/* What the header says of a call's surroundings: how much stack it takes, over cards that each stand behind their length in four
- * bytes on standard input, each asked about in a thread whose stack was painted; and that no card needs no address. */
-#include "jambolive.h"
+/* What the header says of a call's surroundings: how much stack it takes, over the fixed list of cards, each asked about in a
+ * thread whose stack was painted; and that no card needs no address. */
+#include "cards.h"
 
 #include <pthread.h>
-#include <stdio.h>
-#include <stdlib.h>
 #include <string.h>
 
 #define CALLS 3
 #define SPACE (1 << 20)
 #define PAINT 0xa5
 
-static uint8_t card[JL_CARD_BYTES + 1];
-static size_t bytes;
 static int call;
 static uintptr_t top;
 
@@ -52,12 +48,9 @@ int main(void)
 {
     static const char *const calls[CALLS] = {"jl_check", "jl_tour", "jl_place"};
     size_t most[CALLS] = {0};
-    uint8_t length[4], *space = aligned_alloc(1 << 16, SPACE);
+    uint8_t *space = aligned_alloc(1 << 16, SPACE);
     int cards = 0;
-    for (; space && fread(length, 1, 4, stdin) == 4; cards++) {
-        bytes = length[0] | (size_t)length[1] << 8 | (size_t)length[2] << 16 | (size_t)length[3] << 24;
-        if (bytes > sizeof card || fread(card, 1, bytes, stdin) != bytes)
-            return 2;
+    for (; space && next_card(); cards++) {
         for (call = 0; call < CALLS; call++) {
             size_t now = taken(space);
             most[call] = now > most[call] ? now : most[call];

@@ -1,7 +1,7 @@
 #!/bin/sh
 # Builds list.c over the archive. What it prints, and what the program cutlist prints where it is built, is held against the
-# list of each example card, and against the refusal of no bytes and of more than any card has. Then stack.c, over the cards
-# of the fixed list.
+# list of each example card, and against the refusal of no bytes and of more than any card has. Then stack.c and roots.c, over
+# the cards of the fixed list, roots.c over an archive that counts.
 set -eu
 
 cd "$(dirname "$0")/../.."
@@ -11,6 +11,9 @@ list=target/staticlib/list
 cc -std=c11 -O2 -Wall -Wextra -Werror -pedantic -o "$list" hosts/c/list.c target/staticlib/libhost.a -lm
 stack=target/staticlib/stack
 cc -std=gnu11 -O2 -Wall -Wextra -Werror -pedantic -pthread -o "$stack" hosts/c/stack.c target/staticlib/libhost.a -lm
+hosts/native/archive.sh --counted host
+roots=target/counted/roots
+cc -std=gnu11 -O2 -Wall -Wextra -Werror -pedantic -o "$roots" hosts/c/roots.c target/counted/libhost.a -lm
 
 prints() { # WORDS..: the program, run on every input
     cards=0
@@ -29,6 +32,7 @@ over=$(($(echo 'JL_CARD_BYTES + 1' | cc -E -P -xc -include hosts/c/jambolive.h -
 prints "$list"
 echo "C host: $cards cards print their lists, no bytes and a million are refused"
 "$stack" <crates/replay/data/cards
+"$roots" <crates/replay/data/cards
 if [ -x target/bin/cutlist ]; then
     prints hosts/native/run.sh cutlist
     echo "cutlist: $cards cards print their lists, no bytes and a million are refused"

@@ -3,8 +3,8 @@
 # rattle hands over module.bc, the proved program as LLVM code for x86-64. What in it speaks of x86-64 is
 # the layout line, the triple and the processor's name; all other code is the same for every 64-bit
 # little-endian machine. Those three are dropped and the rest is compiled for this machine with the
-# flags given. No multiplication and addition may melt into one rounding. `counting` is empty, or asks the
-# compiler for a counter at each edge.
+# flags given. No multiplication and addition may melt into one rounding. `counting` is empty, or has the words
+# that ask the compiler for counters; they come last, where they win.
 set -eu
 
 wanted=
@@ -21,6 +21,7 @@ done
 if [ -n "$wanted" ]; then
     "$real" --target=x86_64-unknown-linux-gnu -x ir module.bc -S -emit-llvm -O0 -Xclang -disable-llvm-passes -o - |
         sed -e '/^target datalayout/d' -e '/^target triple/d' -e 's/"target-cpu"="[^"]*"//' >module-native.ll
-    set -- -ffp-contract=off ${counting:+"$counting"} "$@"
+    # shellcheck disable=SC2086
+    set -- -ffp-contract=off "$@" $counting
 fi
 exec "$real" "$@"

@@ -1,8 +1,8 @@
 #!/bin/sh
-# kit.sh [--covered]: prints the folder of a Rattle kit whose `rt staticlib` writes archives for this machine.
+# kit.sh [--covered|--counted]: prints the folder of a Rattle kit whose `rt staticlib` writes archives for this machine.
 #
 # On x86-64 that is the kit itself. Elsewhere, and where the archives are to count which of their code is
-# reached, it is a folder of links to the kit, made under target/kit, in which only the compiler is
+# reached or how many roots they take, it is a folder of links to the kit, made under target/kit, in which only the compiler is
 # another: hosts/native/clang.sh, which turns the proved program's LLVM code to this machine before it
 # compiles it. The kit itself is not touched.
 set -eu
@@ -14,7 +14,12 @@ machine=$(uname -m)
 rt=$(command -v rt) || { echo "kit.sh: rt is not on the PATH" >&2; exit 2; }
 kit=${RATTLE_HOME:-$(dirname "$(dirname "$(readlink -f "$rt")")")}
 if [ "$machine" = x86_64 ] && [ $# -eq 0 ]; then echo "$kit"; exit 0; fi
-counting=${1:+-fsanitize-coverage=inline-8bit-counters}
+counting=
+case ${1:-} in
+--covered) counting=-fsanitize-coverage=inline-8bit-counters ;;
+# at -O0 no root is merged into its caller
+--counted) counting="-O0 -fsanitize-coverage=func,trace-pc-guard -fsanitize-coverage-allowlist=$here/roots.txt" ;;
+esac
 
 native=$top/target/kit
 tools=on/$machine/toolchain
@@ -30,7 +35,7 @@ links "on/$machine/" toolchain
 links "$tools/" bin
 links "$tools/bin/" clang
 {
-    printf '#!/bin/sh\nreal=%s machine=%s counting=%s\n' "$kit/$tools/bin/clang" "$machine" "$counting"
+    printf '#!/bin/sh\nreal=%s machine=%s counting="%s"\n' "$kit/$tools/bin/clang" "$machine" "$counting"
     cat "$here/clang.sh"
 } >"$native/$tools/bin/clang"
 chmod +x "$native/$tools/bin/clang"

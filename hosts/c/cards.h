@@ -1,0 +1,20 @@
+/* The cards of the fixed list, on standard input: each stands behind its length in four bytes. */
+#include "jambolive.h"
+
+#include <stdio.h>
+#include <stdlib.h>
+
+static uint8_t card[JL_CARD_BYTES + 1];
+static size_t bytes;
+
+/* Reads the next card; 0 where the list is over. What is cut short is no list, and ends the program. */
+static int next_card(void)
+{
+    uint8_t length[4];
+    if (fread(length, 1, 4, stdin) != 4)
+        return 0;
+    bytes = length[0] | (size_t)length[1] << 8 | (size_t)length[2] << 16 | (size_t)length[3] << 24;
+    if (bytes > sizeof card || fread(card, 1, bytes, stdin) != bytes)
+        exit(2);
+    return 1;
+}
