@@ -107,7 +107,8 @@ fn is_closed(c: Candidate) -> bool
     false
 }
 
-// How many of the first t candidates come before one whose cut ends elsewhere. Of a card's all do.
+// How many of the first t candidates come before one whose cut ends elsewhere than it begins. A card has no such candidate, so
+// for a card it is all of them.
 fn closed_front(items: [Candidate; CANDIDATES], t: usize) -> usize
     requires { ⌜ t ≤ candidateLimit ⌝ }
     ensures { λ r. ⌜ ((i : ℕ) → i < r → leaving (getD items i absent) ≡ pierced (getD items i absent)) ⌝ }
@@ -123,8 +124,8 @@ fn closed_front(items: [Candidate; CANDIDATES], t: usize) -> usize
     i
 }
 
-// How many entries of row a are known from the rows above: where the cuts up to a are closed, so that it is as far back as
-// there, those before the diagonal.
+// How many entries of row a are known from the rows above. Where the cuts up to a are closed it is as far back as there, so all
+// before the diagonal are.
 fn known_in(a: usize, closed: usize) -> usize
     ensures { λ r. ⌜ (r ≤ a) × (0 < r → a < closed) ⌝ }
 {
@@ -138,7 +139,8 @@ fn known_in(a: usize, closed: usize) -> usize
 fn copy_known(room: &mut [f64], t: usize, a: usize, known: usize)
     requires { ⌜ (t ≤ candidateLimit) × ((a < t) × (known ≤ a)) ⌝ }
     requires { do ⌜ t * t ≤ (← ⟦room.len()⟧) ⌝ }
-    ensures { λ r. ⌜ now (room .exit) ≡ take (a * t) (now (room .entry)) ++ placed (listed (λ b. distanceAt (now (room .entry)) t b a) known 0) (drop (a * t) (now (room .entry))) ⌝ }
+    ensures { λ r. let before = now (room .entry) in
+        ⌜ now (room .exit) ≡ take (a * t) before ++ placed (listed (λ b. distanceAt before t b a) known 0) (drop (a * t) before) ⌝ }
 {
     let at = a * t;
     let mut b = 0;
@@ -172,7 +174,8 @@ fn fill_row(
     }
 }
 
-// The distances of the first t candidates, row by row, with the contour of each. Nothing is written where the room is too small.
+// The distances of the first t candidates, row by row, with the contour of each: each is worked out once and stands in both its
+// entries, where the cuts are closed. Nothing is written where the room is too small.
 pub fn fill_table(room: &mut [f64], items: [Candidate; CANDIDATES], t: usize, owner: &[u8])
     ensures { λ r. ⌜ now (room .exit) ≡ tabled items t (now (owner .entry)) (now (room .entry)) ⌝ }
 {

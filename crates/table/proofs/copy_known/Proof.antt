@@ -1,10 +1,10 @@
--- `table::copy_known` meets its contract. The invariant: the first b entries of row a are filled, all else is kept.
+-- `table::copy_known` meets its contract. The invariant: the first b entries of row a are copied, all else is kept.
 -- Assumes nothing.
-use mathlib.Core.Path.{_≡_, refl, sym, subst}
-use Prim.Native.Nat.{ℕ, _+_, _-_, _*_, _≤_, _<_}
+use mathlib.Core.Path.{_≡_, refl, sym}
+use Prim.Native.Nat.{_-_, _*_, _≤_}
 use native.Mathlib.Omega.{arith}
 use denote.Ref.{now}
-use lib.ListN.{length, take, drop, length-set, take-append-drop}
+use lib.ListN.{length, length-set, take-append-drop}
 use Rattle.table.specs.Distances.{listed}
 use Rattle.table.proofs.PlaceLaws.{square-small, row-fits}
 use Rattle.table.proofs.BackLaws.{copied, copied-more, copied-all}

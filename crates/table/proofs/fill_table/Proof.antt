@@ -1,6 +1,6 @@
 -- `table::fill_table` meets its contract. The invariant: the first a rows are filled, the rest of the room kept.
 -- Assumes nothing.
-use mathlib.Core.Path.{_≡_, refl, _∙_}
+use mathlib.Core.Path.{_≡_, refl}
 use mathlib.Core.List.{_++_}
 use Prim.Native.Nat.{_≤_, _-_, _*_}
 use native.Mathlib.Nat.{zero-mul}
@@ -92,7 +92,7 @@ loop-again c =
     let copy = c .before .before .before .before .before .before .copy-known in
     let row = c .before .before .fill-row in (
       omega arith,
-      c .before .room2 .given .1 ∙ c .before .before .before .before .before .room .given ∙ h .inv .1,
+      omega (arith, c .before .room2 .given .1, c .before .before .before .before .before .room .given, h .inv .1),
       row-done (s .items) (s .t) (now (s .owner)) (h .a) (known .result) (closed .result) (now (s .room)) (h .room)
           (copy .last .0) (h .inv .2) (omega arith) (known .ensures .0) (known .ensures .1) (closed .ensures)
           (omega arith) (copy .ensures) (row .last .0) (row .ensures),
