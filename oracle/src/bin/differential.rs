@@ -13,7 +13,7 @@ const PARTS: [Part; 10] = [
     ("cost", cost::compare, true),
     ("hierarchy", hierarchy::compare, true),
     ("candidates", candidates::compare, true),
-    ("table", table::compare, false),
+    ("table", table::compare, true),
     ("rules", rules::compare, false),
     ("start", start::compare, false),
     ("search", search::compare, false),
