@@ -2,7 +2,7 @@
 -- stands in a column of the rows above it. Assumes nothing.
 use mathlib.Core.Bool.{Bool, true, false, cond}
 use mathlib.Core.List.{List, _++_}
-use mathlib.Core.Path.{_≡_, refl, sym, ap, ap₂, subst, _∙_}
+use mathlib.Core.Path.{_≡_, refl, sym, ap, ap₂, _∙_}
 use Prim.Native.Nat.{ℕ, _+_, _-_, _*_, _≤_, _<_}
 use native.Mathlib.Nat.{zero-add, suc-mul}
 use native.Mathlib.Numerals.{add-one}
@@ -11,9 +11,8 @@ use borrow.Author.Tests.{eq-eqb, ne-eqb, eqb-true, eqb-false}
 use lib.Dec.{eqb}
 use lib.Ieee.{Float, nan}
 use lib.ListN.{length, getD, set, take, drop, length-drop, List·getD-append}
-use lib.Seq.{getD-take, take-all, take-at, drop-at, drop-drop}
+use lib.Seq.{getD-take, take-all, take-at, drop-at, drop-drop, length-take-le, ext-getD, paste, paste-suc}
 use Rattle.answer.specs.declared.Point.{Point}
-use Rattle.answer.specs.Room.{placed}
 use Rattle.candidates.specs.declared.Candidate.{Candidate}
 use Rattle.points.specs.Distance.{distanceOf}
 use Rattle.points.specs.Numbers.{huge}
@@ -21,8 +20,8 @@ use Rattle.points.proofs.DistanceLaws.{distance-sym}
 use Rattle.table.specs.Evaluate.{distanceAt}
 use Rattle.table.specs.Distances.{absent, pierced, leaving, legOf, legAt, listed, chained, rowOf}
 use Rattle.table.proofs.PlaceLaws.{row-fits}
-use Rattle.table.proofs.FillLaws.{listed-length, listed-at, listed-same, chained-at, chained-length}
-use Rattle.table.proofs.FillLaws.{begun-with, part-before, part-front, part-behind, part-read, part-more}
+use Rattle.table.proofs.FillLaws.{listed-length, listed-at, chained-at, chained-length, begun-with}
+use Rattle.table.proofs.FillLaws.{paste-before, paste-there, paste-behind, paste-read}
 use Rattle.table.proofs.DistanceLaws.{row-length}
 use Rattle.table.proofs.RoomLaws.{table-more}
 
@@ -45,29 +44,36 @@ leg-back c d k m ends-c ends-d =
 
 -- ---- what is copied
 
--- a room with the first b entries of row a copied from column a
-abbrev pub copied : List Float → ℕ → ℕ → ℕ → List Float
-copied room t a b =
-    take (a * t) room ++ placed (listed (λ (i : ℕ). distanceAt room t i a) b 0) (drop (a * t) room)
+-- column a of a room with t entries a row
+abbrev pub columnOf : List Float → ℕ → ℕ → List Float
+columnOf room t a = listed (λ (b : ℕ). distanceAt room t b a) t 0
 
-module _ (t a b : ℕ) (room now : List Float) (so-far : now ≡ copied room t a b) where
-  pub copied-more : a < t → b < a → t * t ≤ length room
-      → set now (a * t + b) (getD now (b * t + a) nan) ≡ copied room t a (b + 1)
-  copied-more here h enough =
+module _ (room : List Float) (t a : ℕ) where
+  column-size : length (columnOf room t a) ≡ t
+  column-size = listed-length (λ (b : ℕ). distanceAt room t b a) t 0
+
+  column-at : (b : ℕ) → b < t → getD (columnOf room t a) b nan ≡ distanceAt room t b a
+  column-at b h = listed-at (λ (i : ℕ). distanceAt room t i a) t 0 b nan h ∙ rw zero-add
+
+  -- one entry more of row a, copied from the column
+  pub copied-more : (b : ℕ) (now : List Float) → now ≡ paste room (a * t) (columnOf room t a) b → a < t → b < a
+      → t * t ≤ length room
+      → set now (a * t + b) (getD now (b * t + a) nan) ≡ paste room (a * t) (columnOf room t a) (b + 1)
+  copied-more b now so-far here h enough =
+      let column = columnOf room t a in
       let fits = row-fits a t t here in
+      let size = column-size in
       let above : b * t + a < a * t = omega (arith, row-fits b a t h) in
-      part-more (λ (i : ℕ). distanceAt room t i a) (a * t) b room now (getD now (b * t + a) nan) (omega arith) so-far
-      (part-read (a * t) (listed (λ (i : ℕ). distanceAt room t i a) b 0) room now (omega arith) so-far (b * t + a) nan
-      above)
-
-  pub copied-all : (known : ℕ) → b ≡ known → now ≡ copied room t a known
-  copied-all known e = subst (λ (k : ℕ). now ≡ copied room t a k) e so-far
+      let kept : getD now (b * t + a) nan ≡ distanceAt room t b a =
+      rw so-far (paste-read room (a * t) column b (omega arith) (omega arith) (b * t + a) nan above) in
+      let read : getD now (b * t + a) nan ≡ getD column b nan = kept ∙ sym (column-at b (omega arith)) in
+      rw (read, so-far, add-one b) (paste-suc room (a * t) column b nan (omega arith) (omega arith))
 
 module _ (items : List Candidate) (t : ℕ) (owner : List ℕ) (a known closed : ℕ) (room now after : List Float)
     (so-far : now ≡ chained (rowOf (take t items) owner t) a 0 ++ drop (a * t) room) (here : a < t) (few : known ≤ a)
-    (enough : 0 < known → a < closed)
+    (reached : 0 < known → a < closed)
     (ends : (i : ℕ) → i < closed → leaving (getD items i absent) ≡ pierced (getD items i absent))
-    (fits : t * t ≤ length now) (copy : after ≡ copied now t a known) where
+    (enough : t * t ≤ length now) (copy : after ≡ paste now (a * t) (columnOf now t a) known) where
   rows : List Float
   rows = chained (rowOf (take t items) owner t) a 0
 
@@ -92,40 +98,50 @@ module _ (items : List Candidate) (t : ℕ) (owner : List ℕ) (a known closed :
       entry-above b (omega arith)
       ∙ rw (getD-take t items a absent here, getD-take t items b absent (omega arith))
       (leg-back (getD items b absent) (getD items a absent) (getD owner b 0) (getD owner a 0)
-      (ends b (omega (arith, enough (omega arith)))) (ends a (enough (omega arith))))
-
-  column : List Float
-  column = listed (λ (b : ℕ). distanceAt now t b a) known 0
+      (ends b (omega (arith, reached (omega arith)))) (ends a (reached (omega arith))))
 
   inside : a * t ≤ length now
   inside = omega (arith, row-fits a t t here)
 
-  -- so what was copied to the row is the front of it
+  long : known ≤ length (columnOf now t a)
+  long = omega (arith, column-size now t a)
+
+  -- so the front of the column is the front of the row
+  column-known : take known (columnOf now t a) ≡ listed (legAt (take t items) owner a) known 0
+  column-known =
+      let same = length-take-le known (columnOf now t a) long in
+      ext-getD nan (take known (columnOf now t a)) (listed (legAt (take t items) owner a) known 0)
+      (same ∙ sym (listed-length (legAt (take t items) owner a) known 0))
+      (λ i h. getD-take known (columnOf now t a) i nan (omega (arith, same))
+      ∙ column-at now t a i (omega (arith, same))
+      ∙ entry-known i (omega (arith, same))
+      ∙ sym (listed-at (legAt (take t items) owner a) known 0 i nan (omega (arith, same)) ∙ rw zero-add))
+
+  -- and stands there, once it is copied
   pub row-begun : take known (take (length after - a * t) (drop (a * t) after))
       ≡ listed (legAt (take t items) owner a) known 0
-  unfolding column
   row-begun =
       let most : length (drop (a * t) after) ≤ length after - a * t = rw length-drop (omega arith) in
-      rw (take-all (length after - a * t) (drop (a * t) after) most)
-      (ap (λ (k : ℕ). take k (drop (a * t) after)) (sym (listed-length (λ (b : ℕ). distanceAt now t b a) known 0))
-      ∙ part-front (a * t) column now after inside copy
-      ∙ listed-same (λ (b : ℕ). distanceAt now t b a) (legAt (take t items) owner a) known 0
-      (λ i l. entry-known i (omega arith)))
+      rw (take-all (length after - a * t) (drop (a * t) after) most, copy)
+      (paste-there now (a * t) (columnOf now t a) known inside long ∙ column-known)
 
-  -- and with the rest of the row there is one row more, and all behind it is kept
+  -- with the rest of the row there is one row more, and all behind it is kept
   pub row-done : (part : List Float)
       → part ≡ rowOf (take t items) owner t a ++ drop t (take (length after - a * t) (drop (a * t) after)) →
       take (a * t) after ++ (part ++ drop (length after - a * t) (drop (a * t) after))
       ≡ chained (rowOf (take t items) owner t) (a + 1) 0 ++ drop ((a + 1) * t) room
-  unfolding rows column
+  unfolding rows
   row-done part e =
+      let front : take (a * t) after ≡ take (a * t) now =
+      rw copy (paste-before now (a * t) (columnOf now t a) known inside long) in
+      let behind : drop (a * t + t) after ≡ drop (a * t + t) now =
+      rw copy (paste-behind now (a * t) (columnOf now t a) known inside long t (omega arith)) in
       let above : take (a * t) after ≡ rows =
-      part-before (a * t) column now after inside copy ∙ rw so-far (take-at rows (drop (a * t) room) (a * t) size) in
-      let short : length column ≤ t = omega (arith, listed-length (λ (b : ℕ). distanceAt now t b a) known 0) in
+      front ∙ rw so-far (take-at rows (drop (a * t) room) (a * t) size) in
       let next : (a + 1) * t ≡ a * t + t = rw (add-one a, suc-mul) in
       let kept : drop ((a + 1) * t) after ≡ drop ((a + 1) * t) room =
       rw next
-      (part-behind (a * t) column now after inside copy t short
+      (behind
       ∙ sym (drop-drop t (a * t) now)
       ∙ ap (drop t) (rw so-far (drop-at rows (drop (a * t) room) (a * t) size))
       ∙ drop-drop t (a * t) room) in

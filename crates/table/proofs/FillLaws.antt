@@ -1,6 +1,6 @@
 -- Lists told number by number, and a room that is filled with one from its front on. Assumes nothing.
 use mathlib.Core.List.{List, [], _∷_, _++_, append-assoc, append-nil}
-use mathlib.Core.Path.{_≡_, refl, sym, ap, ap₂, _∙_}
+use mathlib.Core.Path.{_≡_, refl, sym, ap, _∙_}
 use Prim.Native.Nat.{ℕ, zero, suc, _+_, _-_, _*_, _≤_, _<_}
 use native.Mathlib.Nat.{add-zero, zero-add, add-suc, suc-add, suc-mul, zero-mul, add-comm}
 use native.Mathlib.Numerals.{add-one}
@@ -8,9 +8,7 @@ use native.Mathlib.Omega.{arith}
 use lib.ListN.{length, getD, set, take, drop, length-append, length-drop, take-append-drop, drop-of-length-le}
 use lib.ListN.{List·getD-append}
 use lib.Seq.{drop-cons, drop-drop, take-all, set-at, take-at, drop-at, getD-append-add, getD-take, length-take-le}
-use lib.Seq.{take-set-le, drop-set-add}
-use Rattle.answer.specs.Room.{placed}
-use Rattle.answer.proofs.RoomLaws.{placed-front, placed-rest}
+use lib.Seq.{paste, drop-paste}
 use Rattle.table.specs.Distances.{listed, chained}
 
 module _ {A : Type 0} where
@@ -25,13 +23,6 @@ module _ {A : Type 0} where
   listed-at f zero a i d h = absurd (omega arith)
   listed-at f (suc k) a zero d h = rw add-zero
   listed-at f (suc k) a (suc i) d h = rw (add-suc, ← suc-add) (listed-at f k (suc a) i d (omega arith))
-
-  -- what two functions say alike of each number is one list
-  pub listed-same : (f g : ℕ → A) (k a : ℕ) → ((i : ℕ) → i < a + k → f i ≡ g i) → listed f k a ≡ listed g k a
-  unfolding listed
-  listed-same f g zero a h = refl
-  listed-same f g (suc k) a h =
-      ap₂ _∷_ (h a (omega arith)) (listed-same f g k (suc a) (λ i l. h i (omega arith)))
 
   listed-last : (f : ℕ → A) (k a : ℕ) → listed f (suc k) a ≡ listed f k a ++ (f (a + k) ∷ [])
   unfolding listed
@@ -53,58 +44,39 @@ module _ {A : Type 0} where
   pub begun-with : (k : ℕ) (l room : List A) → take k room ≡ l → room ≡ l ++ drop k room
   begun-with k l room e = sym (take-append-drop k room) ∙ ap (λ (front : List A). front ++ drop k room) e
 
-  -- ---- a part of a room, from `at` on, whose front is filled
+  -- a room into which the first n of a list were copied, from `at` on
+  module _ (room : List A) (at : ℕ) (l : List A) (n : ℕ) (inside : at ≤ length room) (enough : n ≤ length l) where
+    rest : List A
+    rest = take n l ++ drop (at + n) room
 
-  set-behind : (at i : ℕ) (l : List A) (v : A) → set l (at + i) v ≡ take at l ++ set (drop at l) i v
-  set-behind at i l v =
-      sym (take-append-drop at (set l (at + i) v))
-      ∙ ap₂ _++_ (take-set-le at l (at + i) v (omega arith)) (drop-set-add at l i v)
+    split : paste room at l n ≡ take at room ++ rest
+    unfolding rest
+    split = append-assoc (take at room) (take n l) (drop (at + n) room)
 
-  module _ (at : ℕ) (l room now : List A) (inside : at ≤ length room)
-      (so-far : now ≡ take at room ++ placed l (drop at room)) where
-    -- what stands before the part is as it was
-    pub part-before : take at now ≡ take at room
-    part-before = rw so-far (take-at (take at room) (placed l (drop at room)) at (length-take-le at room inside))
+    -- what stands before them is as it was
+    pub paste-before : take at (paste room at l n) ≡ take at room
+    paste-before = rw split (take-at (take at room) rest at (length-take-le at room inside))
 
-    part-from : drop at now ≡ placed l (drop at room)
-    part-from = rw so-far (drop-at (take at room) (placed l (drop at room)) at (length-take-le at room inside))
+    -- from there on they stand
+    pub paste-there : take n (drop at (paste room at l n)) ≡ take n l
+    unfolding rest
+    paste-there =
+        rw (split, drop-at (take at room) rest at (length-take-le at room inside))
+        (take-at (take n l) (drop (at + n) room) n (length-take-le n l enough))
 
-    -- its front is the list
-    pub part-front : take (length l) (drop at now) ≡ l
-    part-front = rw part-from (placed-front l (drop at room))
+    -- and behind them all is as it was
+    pub paste-behind : (k : ℕ) → n ≤ k → drop (at + k) (paste room at l n) ≡ drop (at + k) room
+    paste-behind k few =
+        let e : at + k ≡ at + n + (k - n) = omega arith in
+        rw e
+        (sym (drop-drop (k - n) (at + n) (paste room at l n))
+        ∙ ap (drop (k - n)) (drop-paste room at l n inside enough)
+        ∙ drop-drop (k - n) (at + n) room)
 
-    -- and behind so many entries as the list has, or more, all is as it was
-    pub part-behind : (t : ℕ) → length l ≤ t → drop (at + t) now ≡ drop (at + t) room
-    part-behind t few =
-        let rest = drop at room in
-        let n = length l in
-        let d = t - n in
-        let e : t ≡ n + d = omega arith in
-        sym (drop-drop t at now) ∙ ap (drop t) part-from
-        ∙ ap (λ (k : ℕ). drop k (placed l rest)) e ∙ sym (drop-drop d n (placed l rest))
-        ∙ ap (drop d) (placed-rest l rest)
-        ∙ drop-drop d n rest ∙ ap (λ (k : ℕ). drop k rest) (sym e)
-        ∙ drop-drop t at room
-
-    -- read before the part
-    pub part-read : (i : ℕ) (d : A) → i < at → getD now i d ≡ getD room i d
-    part-read i d h =
-        sym (getD-take at now i d h) ∙ ap (λ (l : List A). getD l i d) part-before ∙ getD-take at room i d h
-
-  -- one entry more
-  pub part-more : (f : ℕ → A) (at k : ℕ) (room now : List A) (v : A) → at + k < length room
-      → now ≡ take at room ++ placed (listed f k 0) (drop at room) → v ≡ f k →
-      set now (at + k) v ≡ take at room ++ placed (listed f (k + 1) 0) (drop at room)
-  part-more f at k room now v h so-far e =
-      let rest = drop at room in
-      let size : (n : ℕ) → placed (listed f n 0) rest ≡ listed f n 0 ++ drop n rest =
-      λ n. ap (λ (m : ℕ). listed f n 0 ++ drop m rest) (listed-length f n 0) in
-      let inside : at ≤ length room = omega arith in
-      let short : k < length rest = rw length-drop (omega arith) in
-      set-behind at k now v
-      ∙ ap₂ _++_ (part-before at (listed f k 0) room now inside so-far)
-      (entry-more f k rest (drop at now) v short (part-from at (listed f k 0) room now inside so-far ∙ size k) e
-      ∙ sym (size (k + 1)))
+    pub paste-read : (i : ℕ) (d : A) → i < at → getD (paste room at l n) i d ≡ getD room i d
+    paste-read i d h =
+        sym (getD-take at (paste room at l n) i d h) ∙ ap (λ (m : List A). getD m i d) paste-before
+        ∙ getD-take at room i d h
 
   -- lists of t each, one after the other
   pub chained-length : (f : ℕ → List A) (t : ℕ) → ((i : ℕ) → length (f i) ≡ t) → (k a : ℕ)

@@ -8,8 +8,8 @@ ghost use mathlib.Core.Bool.{true};
 ghost use mathlib.Core.List.{_++_};
 ghost use Prim.Native.Nat.{ℕ, _*_, _≤_, _<_};
 ghost use lib.ListN.{getD, take, drop};
+ghost use lib.Seq.{paste};
 ghost use lib.Ieee.{nan};
-ghost use Rattle.answer.specs.Room.{placed};
 ghost use Rattle.fields.specs.Limits.{candidateLimit};
 ghost use Rattle.table.specs.Evaluate.{homeAt, distanceAt, lengthOf};
 ghost use Rattle.table.specs.Distances.{absent, pierced, leaving, legOf, legAt, listed, rowOf, homed, tabled};
@@ -87,7 +87,7 @@ fn leg(from: Candidate, k: u8, to: Candidate, m: u8) -> f64
     )
 }
 
-// Whether two numbers have the same bits. What is no number has those of none: its bits are the processor's affair.
+// Whether two numbers have the same bits. What is not a number has no other's: its bits are the processor's affair.
 fn same_bits(x: f64, y: f64) -> bool
     ensures { λ r. ⌜ (r ≡ true → x ≡ y) ⌝ }
 {
@@ -139,8 +139,7 @@ fn known_in(a: usize, closed: usize) -> usize
 fn copy_known(room: &mut [f64], t: usize, a: usize, known: usize)
     requires { ⌜ (t ≤ candidateLimit) × ((a < t) × (known ≤ a)) ⌝ }
     requires { do ⌜ t * t ≤ (← ⟦room.len()⟧) ⌝ }
-    ensures { λ r. let before = now (room .entry) in
-        ⌜ now (room .exit) ≡ take (a * t) before ++ placed (listed (λ b. distanceAt before t b a) known 0) (drop (a * t) before) ⌝ }
+    ensures { λ r. let before = now (room .entry) in ⌜ now (room .exit) ≡ paste before (a * t) (listed (λ b. distanceAt before t b a) t 0) known ⌝ }
 {
     let at = a * t;
     let mut b = 0;
@@ -175,7 +174,7 @@ fn fill_row(
 }
 
 // The distances of the first t candidates, row by row, with the contour of each: each is worked out once and stands in both its
-// entries, where the cuts are closed. Nothing is written where the room is too small.
+// entries, up to the first candidate whose cut ends elsewhere than it begins. Nothing is written where the room is too small.
 pub fn fill_table(room: &mut [f64], items: [Candidate; CANDIDATES], t: usize, owner: &[u8])
     ensures { λ r. ⌜ now (room .exit) ≡ tabled items t (now (owner .entry)) (now (room .entry)) ⌝ }
 {

@@ -1,19 +1,19 @@
 -- `table::copy_known` meets its contract. The invariant: the first b entries of row a are copied, all else is kept.
 -- Assumes nothing.
-use mathlib.Core.Path.{_≡_, refl, sym}
+use mathlib.Core.Path.{_≡_, refl}
 use Prim.Native.Nat.{_-_, _*_, _≤_}
 use native.Mathlib.Omega.{arith}
 use denote.Ref.{now}
-use lib.ListN.{length, length-set, take-append-drop}
-use Rattle.table.specs.Distances.{listed}
+use lib.ListN.{length, length-set}
+use lib.Seq.{paste, paste-zero}
 use Rattle.table.proofs.PlaceLaws.{square-small, row-fits}
-use Rattle.table.proofs.BackLaws.{copied, copied-more, copied-all}
+use Rattle.table.proofs.BackLaws.{columnOf, copied-more}
 use Rattle.table.proofs.copy_known.Statement.{statement}
 use Rattle.table.proofs.copy_known.Tie as tie
 
 abbrev Inv-loop : tie.InvT-loop
 Inv-loop room₀ t a known at b₀ room b =
-    (b ≤ known) × (length room ≡ length room₀) × (room ≡ copied room₀ t a b)
+    (b ≤ known) × (length room ≡ length room₀) × (room ≡ paste room₀ at (columnOf room₀ t a) b)
 
 abbrev μ-loop : tie.MeasureT-loop
 μ-loop room₀ t a known at b₀ room b = known - b
@@ -23,10 +23,8 @@ mul-at c = let s = c .args in
     omega (arith, square-small (s .t) (omega arith), row-fits (s .a) (s .t) (s .t) (omega arith))
 
 loop-holds : tie.Need-loop-holds Inv-loop μ-loop
-unfolding listed
-loop-holds c =
-    let s = c .args in
-    (omega arith, refl, sym (take-append-drop (s .a * s .t) (now (s .room))))
+loop-holds c = let s = c .args in
+    (omega arith, refl, paste-zero (now (s .room)) (s .a * s .t) (columnOf (now (s .room)) (s .t) (s .a)))
 
 mul-room : tie.Need-mul-room Inv-loop μ-loop
 mul-room c = let s = c .before .before .args in
@@ -73,7 +71,7 @@ returns c =
     let s = c .before .before .args in
     let h = c .before .loop in
     let e : h .b ≡ s .known = omega arith in
-    copied-all (s .t) (s .a) (h .b) (now (s .room)) (h .room) (h .inv .2) (s .known) e
+    rw e at (h .inv .2)
 
 pub copy-known-spec : {M : Type 1} → statement M
 copy-known-spec =
