@@ -1,12 +1,13 @@
 -- Between candidates whose cuts end where they begin it is as far back as there, to the bit. So what is known of a row
 -- stands in a column of the rows above it. Assumes nothing.
-use mathlib.Core.Bool.{Bool, true, false, cond}
+use mathlib.Core.Bool.{Bool, true, false, cond, _&&_, true≢false}
 use mathlib.Core.List.{List, _++_}
 use mathlib.Core.Path.{_≡_, refl, sym, ap, ap₂, _∙_}
 use Prim.Native.Nat.{ℕ, _+_, _-_, _*_, _≤_, _<_}
 use native.Mathlib.Nat.{zero-add, suc-mul}
 use native.Mathlib.Numerals.{add-one}
 use native.Mathlib.Omega.{arith}
+use borrow.Author.Count.{below-more}
 use borrow.Author.Tests.{eq-eqb, ne-eqb, eqb-true, eqb-false}
 use lib.Dec.{eqb}
 use lib.Ieee.{Float, nan}
@@ -42,6 +43,24 @@ leg-back c d k m ends-c ends-d =
     ∙ distance-sym (pierced c) (pierced d)
     ∙ ap (λ (p : Point). distanceOf p (pierced c)) (sym ends-d))
 
+-- ---- what is known
+
+-- candidate i's cut ends where it begins
+abbrev pub Closed : List Candidate → ℕ → Type 0
+Closed items i = leaving (getD items i absent) ≡ pierced (getD items i absent)
+
+-- one candidate more of which it was asked
+pub closed-more : (items : List Candidate) (so-far more : Bool) (a : ℕ)
+    → (so-far ≡ true → (i : ℕ) → i < a → Closed items i) → (more ≡ true → Closed items a) → (so-far && more) ≡ true
+    → (i : ℕ) → i < a + 1 → Closed items i
+closed-more items true true a before here e = below-more (Closed items) a (before refl) (here refl)
+closed-more items true false a before here e = absurd (true≢false (sym e))
+closed-more items false more a before here e = absurd (true≢false (sym e))
+
+pub known-some : (closed : Bool) (a known : ℕ) → known ≡ cond closed a 0 → (known ≤ a) × (0 < known → closed ≡ true)
+known-some true a known e = (omega arith, λ h. refl)
+known-some false a known e = (omega arith, λ h. absurd (omega arith))
+
 -- ---- what is copied
 
 -- column a of a room with t entries a row
@@ -69,10 +88,9 @@ module _ (room : List Float) (t a : ℕ) where
       let read : getD now (b * t + a) nan ≡ getD column b nan = kept ∙ sym (column-at b (omega arith)) in
       rw (read, so-far, add-one b) (paste-suc room (a * t) column b nan (omega arith) (omega arith))
 
-module _ (items : List Candidate) (t : ℕ) (owner : List ℕ) (a known closed : ℕ) (room now after : List Float)
+module _ (items : List Candidate) (t : ℕ) (owner : List ℕ) (a known : ℕ) (room now after : List Float)
     (so-far : now ≡ chained (rowOf (take t items) owner t) a 0 ++ drop (a * t) room) (here : a < t) (few : known ≤ a)
-    (reached : 0 < known → a < closed)
-    (ends : (i : ℕ) → i < closed → leaving (getD items i absent) ≡ pierced (getD items i absent))
+    (ends : 0 < known → (i : ℕ) → i < a + 1 → Closed items i)
     (enough : t * t ≤ length now) (copy : after ≡ paste now (a * t) (columnOf now t a) known) where
   rows : List Float
   rows = chained (rowOf (take t items) owner t) a 0
@@ -98,7 +116,7 @@ module _ (items : List Candidate) (t : ℕ) (owner : List ℕ) (a known closed :
       entry-above b (omega arith)
       ∙ rw (getD-take t items a absent here, getD-take t items b absent (omega arith))
       (leg-back (getD items b absent) (getD items a absent) (getD owner b 0) (getD owner a 0)
-      (ends b (omega (arith, reached (omega arith)))) (ends a (reached (omega arith))))
+      (ends (omega arith) b (omega arith)) (ends (omega arith) a (omega arith)))
 
   inside : a * t ≤ length now
   inside = omega (arith, row-fits a t t here)

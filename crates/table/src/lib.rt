@@ -4,15 +4,15 @@ use candidates::Candidate;
 use fields::CANDIDATES;
 use points::HUGE;
 ghost use mathlib.Core.Path.{_≡_};
-ghost use mathlib.Core.Bool.{true};
+ghost use mathlib.Core.Bool.{true, cond};
 ghost use mathlib.Core.List.{_++_};
-ghost use Prim.Native.Nat.{ℕ, _*_, _≤_, _<_};
+ghost use Prim.Native.Nat.{_*_, _≤_, _<_};
 ghost use lib.ListN.{getD, take, drop};
 ghost use lib.Seq.{paste};
 ghost use lib.Ieee.{nan};
 ghost use Rattle.fields.specs.Limits.{candidateLimit};
 ghost use Rattle.table.specs.Evaluate.{homeAt, distanceAt, lengthOf};
-ghost use Rattle.table.specs.Distances.{absent, pierced, leaving, legOf, legAt, listed, rowOf, homed, tabled};
+ghost use Rattle.table.specs.Distances.{pierced, leaving, legOf, legAt, listed, rowOf, homed, tabled};
 
 // The most entries that the distances of a card take.
 pub const ENTRIES: usize = CANDIDATES * CANDIDATES;
@@ -107,29 +107,12 @@ fn is_closed(c: Candidate) -> bool
     false
 }
 
-// How many of the first t candidates come before one whose cut ends elsewhere than it begins. A card has no such candidate, so
-// for a card it is all of them.
-fn closed_front(items: [Candidate; CANDIDATES], t: usize) -> usize
-    requires { ⌜ t ≤ candidateLimit ⌝ }
-    ensures { λ r. ⌜ ((i : ℕ) → i < r → leaving (getD items i absent) ≡ pierced (getD items i absent)) ⌝ }
-{
-    let mut i = 0;
-    while i < t {
-        let c = items[i];
-        if !is_closed(c) {
-            return i;
-        }
-        i += 1;
-    }
-    i
-}
-
-// How many entries of row a are known from the rows above. Where the cuts up to a are closed it is as far back as there, so all
+// How many entries of row a are known from the rows above. Where all cuts up to a are closed it is as far back as there, so all
 // before the diagonal are.
-fn known_in(a: usize, closed: usize) -> usize
-    ensures { λ r. ⌜ (r ≤ a) × (0 < r → a < closed) ⌝ }
+fn known_in(a: usize, closed: bool) -> usize
+    ensures { λ r. ⌜ r ≡ cond closed a 0 ⌝ }
 {
-    if a < closed {
+    if closed {
         return a;
     }
     0
@@ -184,9 +167,11 @@ pub fn fill_table(room: &mut [f64], items: [Candidate; CANDIDATES], t: usize, ow
     if room.len() < t * t {
         return;
     }
-    let closed = closed_front(items, t);
+    let mut closed = true;
     let mut a = 0;
     while a < t {
+        let c = items[a];
+        closed = closed & is_closed(c);
         let known = known_in(a, closed);
         copy_known(room, t, a, known);
         let at = a * t;
