@@ -12,10 +12,10 @@ use Rattle.answer.specs.declared.Found.the-variants.{At, Absent}
 use Rattle.block.specs.Block.{blockBytes}
 use Rattle.fields.specs.Limits.{cardBytes}
 use Rattle.fields.specs.Layout.{blocksOf, contoursOf}
-use Rattle.card.specs.Stages.{lengthFault, kindDue, headFaults, blocksDue, countFault}
+use Rattle.card.specs.Stages.{lengthFault, lengthFaultWithin, kindDue, headFaults, blocksDue, countFault}
 
 pub too-long : (s : List ℕ) → cardBytes < length s → At (cardBytes + 1) ≡ lengthFault s
-unfolding lengthFault
+unfolding lengthFaultWithin
 too-long s h =
     let a = eqb (length s) 0 in
     let b = not (eqb (length s % blockBytes) 0) in
@@ -24,7 +24,7 @@ too-long s h =
 
 module _ (s : List ℕ) (short : length s ≤ cardBytes) where
   pub no-blocks : (eqb (length s) 0 || not (eqb (length s % blockBytes) 0)) ≡ true → At (length s) ≡ lengthFault s
-  unfolding lengthFault
+  unfolding lengthFaultWithin
   no-blocks t =
       let a = eqb (length s) 0 in
       let b = not (eqb (length s % blockBytes) 0) in
@@ -32,7 +32,7 @@ module _ (s : List ℕ) (short : length s ≤ cardBytes) where
       rw (le-ltb cardBytes (length s) short, ← (or-assoc a b false), t, e)
 
   pub whole-blocks : (eqb (length s) 0 || not (eqb (length s % blockBytes) 0)) ≡ false → Absent ≡ lengthFault s
-  unfolding lengthFault
+  unfolding lengthFaultWithin
   whole-blocks t =
       let a = eqb (length s) 0 in
       let b = not (eqb (length s % blockBytes) 0) in

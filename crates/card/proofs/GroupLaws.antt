@@ -21,9 +21,9 @@ use Rattle.answer.proofs.StageLaws.{refused-is, fine-is, is-fine}
 use Rattle.closure.specs.Limits.{contourLimit, pairLimit}
 use Rattle.closure.specs.Cycle.{firstOnCycle}
 use Rattle.fields.specs.Layout.{contoursOf, pairsOf}
-use Rattle.card.specs.Stages.{headFaults, headFault}
+use Rattle.card.specs.Stages.{headFaults, headFault, headFaultWithin}
 use Rattle.card.specs.Names.{pairsOn}
-use Rattle.card.specs.Verdict.{cycleFault, cardStages, pairStages, checkOf}
+use Rattle.card.specs.Verdict.{cycleFault, cycleFaultWithin, cardStages, pairStages, checkOf, checkWithin}
 
 module _ (x a : Check) (more : List Check) (is : a ≡ x) where
   stopped : (r : Refusal) → a ≡ Refused r → a ≡ firstRefusal (x ∷ more)
@@ -78,13 +78,13 @@ fine-absent number Absent e = refl
 -- ---- the counts that the first stages let pass
 
 pub few-contours : (s : List ℕ) → firstRefusal (cardStages s) ≡ Fine → contoursOf s ≤ contourLimit
-unfolding headFault
+unfolding headFaultWithin
 few-contours s e =
     ltb-false _ _ (is-absent (λ f. getD (headFaults s) f false) 8
     (fine-absent 4 (headFault s) (is-fine (cardStages s) e 3 (lit< tt))) 1 (lit< tt))
 
 pub few-pairs : (s : List ℕ) → firstRefusal (cardStages s) ≡ Fine → pairsOf s ≤ pairLimit
-unfolding headFault
+unfolding headFaultWithin
 few-pairs s e =
     ltb-false _ _ (is-absent (λ f. getD (headFaults s) f false) 8
     (fine-absent 4 (headFault s) (is-fine (cardStages s) e 3 (lit< tt))) 2 (lit< tt))
@@ -92,7 +92,7 @@ few-pairs s e =
 -- the cycle's stage, from the positions handed in
 pub cycle-is : (s p : List ℕ) (n : ℕ) (f : Found) → n ≡ contoursOf s → p ≡ pairsOn s → f ≡ firstOnCycle n p
     → f ≡ cycleFault s
-unfolding cycleFault
+unfolding cycleFaultWithin
 cycle-is s p n f e h g = g ∙ ap (λ (x : ℕ). firstOnCycle x p) e ∙ ap (firstOnCycle (contoursOf s)) h
 
 -- ---- the stages before the pairs', one rank after the other
@@ -138,9 +138,9 @@ module _ (stages : List Check) where
 
 module _ (s : List ℕ) (a : Check) (first : a ≡ firstRefusal (cardStages s)) where
   pub stages-stop : (r : Refusal) → a ≡ Refused r → a ≡ checkOf s
-  unfolding checkOf
+  unfolding checkWithin
   stages-stop r f = group-stopped (cardStages s) (pairStages s) a first r f
 
   pub pairs-say : (b : Check) → a ≡ Fine → b ≡ firstRefusal (pairStages s) → b ≡ checkOf s
-  unfolding checkOf
+  unfolding checkWithin
   pairs-say b e f = group-passed (cardStages s) (pairStages s) a first b e f

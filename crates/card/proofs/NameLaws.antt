@@ -21,7 +21,7 @@ use Rattle.card.specs.declared.Named.{Named}
 use Rattle.closure.specs.Limits.{contourLimit, pairLimit}
 use Rattle.fields.specs.Layout.{tagOf, contoursOf, pairsOf, beforeIdOf, beforeTagOf, afterIdOf, afterTagOf}
 use Rattle.card.specs.Stages.{isAt, seekOf, positionOf, unnamed, nameFault, beforeOf, afterOf, otherTag}
-use Rattle.card.specs.Names.{seatsOf, pairsOn, seatLimit, namedAs, namedPairs, AllNamed, namedOf}
+use Rattle.card.specs.Names.{seatsOf, pairsOn, seatLimit, namedAs, namedPairs, AllNamed, namedOf, namedWithin}
 use Rattle.card.proofs.LoopLaws.{found-here, none-found}
 
 -- ---- the two contours of a pair
@@ -174,7 +174,7 @@ module _ (s : List ℕ) (n m : ℕ) (count : n ≡ contoursOf s) (pairs : m ≡ 
 
   pub too-many : (ltb contourLimit n || ltb pairLimit m) ≡ true
       → _≡_ {A = Named} (record { stopped = At 0; positions = replicate seatLimit 0; count = 0 }) (namedOf s)
-  unfolding namedOf seatsOf
+  unfolding namedWithin seatsOf
   too-many h = rw (asked, h)
 
   module _ (few : (ltb contourLimit n || ltb pairLimit m) ≡ false) where
@@ -185,14 +185,14 @@ module _ (s : List ℕ) (n m : ℕ) (count : n ≡ contoursOf s) (pairs : m ≡ 
 
     -- with an id unknown, the pairs before its pair; else those by rule join the written ones
     pub stopped-named : (r : Named) (q : ℕ) → r ≡ namedPairs s → r .stopped ≡ At q → r ≡ namedOf s
-    unfolding namedOf namedPairs
+    unfolding namedWithin namedPairs
     stopped-named r q e stop =
         let known : nameFault s ≡ At q = sym (named-stopped s r e) ∙ stop in
         e ∙ rw (asked, few, known)
 
     pub joined-named : (r joined : Named) → r ≡ namedPairs s → r .stopped ≡ Absent → joined ≡ namedAs Absent (pairsOn s)
         → joined ≡ namedOf s
-    unfolding namedOf
+    unfolding namedWithin
     joined-named r joined e stop is =
         let known : nameFault s ≡ Absent = sym (named-stopped s r e) ∙ stop in
         is ∙ rw (asked, few, known)

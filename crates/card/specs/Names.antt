@@ -12,6 +12,7 @@ use Rattle.answer.specs.Room.{padded}
 use Rattle.card.specs.declared.Named.{Named}
 use Rattle.closure.specs.Limits.{contourLimit, pairLimit}
 use Rattle.fields.specs.Layout.{contoursOf, pairsOf}
+use Rattle.card.specs.Limits.{Limits, today}
 use Rattle.card.specs.Stages.{nameFault, beforeOf, afterOf}
 use Rattle.card.specs.Rules.{rulesOf}
 
@@ -29,12 +30,19 @@ abbrev pub pairsOn : List ℕ → List ℕ
 pairsOn s = writtenOn s ++ rulesOf s (contoursOf s)
 
 -- the room for them: two positions a pair, and no contour goes before two by rule
+abbrev pub seatsWithin : Limits → ℕ
+seatsWithin l = 2 * (l .pairs + l .contours)
+
 abbrev pub seatLimit : ℕ
-seatLimit = 2 * (pairLimit + contourLimit)
+seatLimit = seatsWithin today
 
 -- these pairs, and where the work stopped; positions without a pair are zero
+abbrev pub namedAsWithin : Limits → Found → List ℕ → Named
+namedAsWithin l stop known =
+    record { stopped = stop; positions = padded (seatsWithin l) 0 known; count = length known }
+
 abbrev pub namedAs : Found → List ℕ → Named
-namedAs stop known = record { stopped = stop; positions = padded seatLimit 0 known; count = length known }
+namedAs stop known = namedAsWithin today stop known
 
 -- the place found, or the count if none was
 abbrev pub upTo : ℕ → Found → ℕ
@@ -58,8 +66,11 @@ knownBefore s (At q) = seatsOf s q
 knownBefore s Absent = pairsOn s
 
 -- where there are more contours or pairs than a card takes, the work stops before the first
-unfoldable pub namedOf : List ℕ → Named
+unfoldable pub namedWithin : Limits → List ℕ → Named
 unfolding seatsOf rulesOf nameFault
-namedOf s =
-    let stop = cond (ltb contourLimit (contoursOf s) || ltb pairLimit (pairsOf s)) (At 0) (nameFault s) in
-    namedAs stop (knownBefore s stop)
+namedWithin l s =
+    let stop = cond (ltb (l .contours) (contoursOf s) || ltb (l .pairs) (pairsOf s)) (At 0) (nameFault s) in
+    namedAsWithin l stop (knownBefore s stop)
+
+abbrev pub namedOf : List ℕ → Named
+namedOf s = namedWithin today s

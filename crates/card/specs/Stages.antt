@@ -35,11 +35,14 @@ outside least most x = ltb x least || ltb most x
 
 -- ---- 1: the length
 
-abbrev pub badLength : List ℕ → Bool
-badLength s = eqb (length s) 0 || (not (eqb (length s % blockBytes) 0) || ltb cardBytes (length s))
+abbrev pub badLengthWithin : ℕ → List ℕ → Bool
+badLengthWithin most s = eqb (length s) 0 || (not (eqb (length s % blockBytes) 0) || ltb most (length s))
 
-unfoldable pub lengthFault : List ℕ → Found
-lengthFault s = foundIf (badLength s) (min (length s) (cardBytes + 1))
+unfoldable pub lengthFaultWithin : ℕ → List ℕ → Found
+lengthFaultWithin most s = foundIf (badLengthWithin most s) (min (length s) (most + 1))
+
+abbrev pub lengthFault : List ℕ → Found
+lengthFault s = lengthFaultWithin cardBytes s
 
 -- ---- 2: the checks
 
@@ -70,11 +73,11 @@ startFault s count = lowest (badStart s) count
 
 -- ---- 4: the head's fields, by the number that the table gives each; there is no field 0
 
-abbrev pub headFaults : List ℕ → List Bool
-headFaults s =
+abbrev pub headFaultsWithin : ℕ → ℕ → List ℕ → List Bool
+headFaultsWithin contours pairs s =
     false
-    ∷ ltb contourLimit (contoursOf s)
-    ∷ ltb pairLimit (pairsOf s)
+    ∷ ltb contours (contoursOf s)
+    ∷ ltb pairs (pairsOf s)
     ∷ outside 1 perContourLimit (perContourOf s)
     ∷ ltb passLimit (passesOf s)
     ∷ ltb 2 (exteriorOf s)
@@ -82,9 +85,15 @@ headFaults s =
     ∷ ltb candidateLimit (contoursOf s * perContourOf s)
     ∷ []
 
-unfoldable pub headFault : List ℕ → Found
+unfoldable pub headFaultWithin : ℕ → ℕ → List ℕ → Found
 unfolding lowest
-headFault s = lowest (λ f. getD (headFaults s) f false) 8
+headFaultWithin contours pairs s = lowest (λ f. getD (headFaultsWithin contours pairs s) f false) 8
+
+abbrev pub headFaults : List ℕ → List Bool
+headFaults s = headFaultsWithin contourLimit pairLimit s
+
+abbrev pub headFault : List ℕ → Found
+headFault s = headFaultWithin contourLimit pairLimit s
 
 -- ---- 5: the count of blocks
 

@@ -11,7 +11,7 @@ use Rattle.closure.specs.Cycle.{linked, onCycle, Reaches, step, onward}
 use Rattle.closure.proofs.PathLaws.{cycle-exactly}
 use Rattle.fields.specs.Layout.{contoursOf}
 use Rattle.card.specs.Names.{pairsOn}
-use Rattle.card.specs.Verdict.{cycleFault}
+use Rattle.card.specs.Verdict.{cycleFault, cycleFaultWithin}
 use Rattle.card_laws.specs.Table.{Row9, Row10, Leads, at-once, OnCycle, Row12, No}
 use Rattle.card_laws.proofs.LinkLaws.{link-precedes, precedes-link}
 use Rattle.card_laws.proofs.ExactLaws.{Exact, lowest-exact, nowhere}
@@ -32,7 +32,7 @@ module _ (s : List ℕ) (unique : No (Row9 s)) (named : No (Row10 s)) where
   row-cycle k h l = cycle-exactly (contoursOf s) (pairsOn s) k .1 (leads-reach l)
 
   pub exact12 : contoursOf s ≤ contourLimit → Exact (cycleFault s) (Row12 s)
-  unfolding cycleFault
+  unfolding cycleFaultWithin
   exact12 few =
       let e : min (contoursOf s) contourLimit ≡ contoursOf s = omega arith in
       rw e (lowest-exact (onCycle (contoursOf s) (pairsOn s)) (contoursOf s) (OnCycle s) cycle-row row-cycle)

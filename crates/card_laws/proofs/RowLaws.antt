@@ -20,8 +20,10 @@ use Rattle.closure.proofs.PairLaws.{lt-or}
 use Rattle.fields.specs.Limits.{cardBytes, perContourLimit, vertexLimit, pairsABlock}
 use Rattle.fields.specs.Layout.{blocksOf, versionOf, contoursOf, pairsOf, perContourOf, idOf, vertexCountOf, typeOf}
 use Rattle.fields.specs.Layout.{fillerOf}
-use Rattle.card.specs.Stages.{outside, badLength, lengthFault, checkFault, kindDue, isVersion, startFault, headFaults}
-use Rattle.card.specs.Stages.{headFault, blocksDue, countFault, badContour, contourFault, seekOf, repeats, repeatFault}
+use Rattle.card.specs.Stages.{outside, badLengthWithin, lengthFault, lengthFaultWithin, checkFault, kindDue, isVersion}
+use Rattle.card.specs.Stages.{startFault, headFaults}
+use Rattle.card.specs.Stages.{headFault, headFaultWithin, blocksDue, countFault, badContour, contourFault, seekOf}
+use Rattle.card.specs.Stages.{repeats, repeatFault}
 use Rattle.card.specs.Stages.{isAt}
 use Rattle.card.proofs.FaultLaws.{kind-head, kind-contour, kind-pairs}
 use Rattle.card_laws.specs.Table.{Row1, CheckDiffers, Row2, Kind, of-head, of-contour, of-pairs, Version}
@@ -49,7 +51,8 @@ is-outside least most x (inr h) = or-inr (ltb x least) (ltb most x) (lt-ltb _ _ 
 module _ (s : List ℕ) where
   -- ---- 1
 
-  length-cause : badLength s ≡ true → (length s ≡ 0) ⊎ ((length s % blockBytes ≡ 0 → ⊥) ⊎ (cardBytes < length s))
+  length-cause : badLengthWithin cardBytes s ≡ true
+      → (length s ≡ 0) ⊎ ((length s % blockBytes ≡ 0 → ⊥) ⊎ (cardBytes < length s))
   length-cause e = go (or-cases (eqb (length s) 0) (not (eqb (length s % blockBytes) 0) || ltb cardBytes (length s)) e)
     where
       rest : (not (eqb (length s % blockBytes) 0) ≡ true) ⊎ (ltb cardBytes (length s) ≡ true)
@@ -62,7 +65,8 @@ module _ (s : List ℕ) where
       go (inl t) = inl (eqb-true _ _ t)
       go (inr t) = rest (or-cases (not (eqb (length s % blockBytes) 0)) (ltb cardBytes (length s)) t)
 
-  cause-length : (length s ≡ 0) ⊎ ((length s % blockBytes ≡ 0 → ⊥) ⊎ (cardBytes < length s)) → badLength s ≡ true
+  cause-length : (length s ≡ 0) ⊎ ((length s % blockBytes ≡ 0 → ⊥) ⊎ (cardBytes < length s))
+      → badLengthWithin cardBytes s ≡ true
   cause-length (inl e) = or-inl (eqb (length s) 0) _ (eq-eqb _ _ e)
   cause-length (inr (inl h)) =
       or-inr (eqb (length s) 0) _ (or-inl (not (eqb (length s % blockBytes) 0)) _
@@ -71,9 +75,9 @@ module _ (s : List ℕ) where
       or-inr (eqb (length s) 0) _ (or-inr (not (eqb (length s % blockBytes) 0)) _ (lt-ltb _ _ h))
 
   pub exact1 : Exact (lengthFault s) (Row1 s)
-  unfolding lengthFault
+  unfolding lengthFaultWithin
   exact1 =
-      if-exact (badLength s) (min (length s) (cardBytes + 1)) (Row1 s)
+      if-exact (badLengthWithin cardBytes s) (min (length s) (cardBytes + 1)) (Row1 s)
       (λ t. record { cause = length-cause t; told = refl })
       (λ p r. (cause-length (r .cause), r .told))
 
@@ -178,7 +182,7 @@ module _ (s : List ℕ) where
   field-bad f (all-candidates h) = lt-ltb _ _ h
 
   pub exact4 : Exact (headFault s) (Row4 s)
-  unfolding headFault
+  unfolding headFaultWithin
   exact4 = lowest-exact (λ f. getD (headFaults s) f false) 8 (BadField s) (λ f h. bad-field f) (λ f h. field-bad f)
 
   -- ---- 5

@@ -8,11 +8,12 @@ use Rattle.block.specs.Field.{u16At, u32At, u64At, f64At}
 use Rattle.block.specs.Block.{weigh, checkAt, checked, starts, allZero, zerosAt}
 use Rattle.closure.specs.Pairs.{paired, someOf}
 use Rattle.closure.specs.Cycle.{linked, leads}
-use Rattle.card.specs.Stages.{lengthFault, checkFault, startFault, headFault, countFault, contourFault, spareFault}
+use Rattle.card.specs.Stages.{lengthFaultWithin, checkFault, startFault, headFaultWithin, countFault, contourFault}
+use Rattle.card.specs.Stages.{spareFault}
 use Rattle.card.specs.Stages.{farVertex, farFault, seekOf, repeatFault, nameFault, tagFault}
 use Rattle.card.specs.Rules.{enclosingOf, rulesOf}
 use Rattle.card.specs.Names.{seatsOf}
-use Rattle.card.specs.Verdict.{cycleFault, checkOf}
+use Rattle.card.specs.Verdict.{cycleFaultWithin, checkWithin}
 use Rattle.block.specs.Write.{bytes, blockOf}
 use Rattle.card_laws.specs.Write.{numberBytes, pointBytes, headBytes, pointsBytes, frontBytes, contourBytes}
 use Rattle.card_laws.specs.Write.{contourBlocks, pairBytes, pairBlocks, written}
@@ -21,8 +22,8 @@ use Rattle.card_laws.specs.Examples.{Examples}
 -- what a card written out and its verdict are computed through: to unfold this name, here or in a crate above, is to
 -- unfold all of these. A definition that the verdict comes to need is added here only
 unfoldable pub verdict-computes : Unit {0}
-unfolding checkOf firstRefusal lengthFault checkFault startFault headFault countFault contourFault spareFault
-    farVertex farFault seekOf repeatFault nameFault tagFault cycleFault
+unfolding checkWithin firstRefusal lengthFaultWithin checkFault startFault headFaultWithin countFault contourFault
+    spareFault farVertex farFault seekOf repeatFault nameFault tagFault cycleFaultWithin
     seatsOf enclosingOf rulesOf lowest lowestFrom u16At u32At u64At f64At weigh checkAt checked starts allZero zerosAt
     paired someOf linked leads
     bytes blockOf numberBytes pointBytes headBytes pointsBytes frontBytes contourBytes contourBlocks pairBytes

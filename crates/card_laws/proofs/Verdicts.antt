@@ -16,7 +16,7 @@ use Rattle.closure.specs.Limits.{contourLimit}
 use Rattle.fields.specs.Layout.{blocksOf, contoursOf}
 use Rattle.card.specs.Stages.{lengthFault, checkFault, startFault, headFault, countFault, contourFault, spareFault}
 use Rattle.card.specs.Stages.{farFault, repeatFault, nameFault, tagFault}
-use Rattle.card.specs.Verdict.{cycleFault, checkOf}
+use Rattle.card.specs.Verdict.{cycleFault, checkOf, checkWithin}
 use Rattle.card_laws.specs.Table.{Row1, Row2, Row3, Row4, Row5, Row6, Row7, Row8, Row9, Row10, Row11, Row12}
 use Rattle.card_laws.specs.Table.{contours, Past1, Past2, PastStart, Past4, Past5, PastStarts, Past6, Past7}
 use Rattle.card_laws.specs.Table.{Past8, Past9, Past10, Past11, Sound, Given, one, two, three, four, five}
@@ -84,7 +84,7 @@ module _ (s : List ℕ) where
   -- ---- past the rows up to one, the verdict is what the stages behind it say
 
   past1 : Past1 s → checkOf s ≡ firstRefusal from2
-  unfolding checkOf
+  unfolding checkWithin
   past1 past = on 1 (lengthFault s) (Row1 s) (exact1 s) from2 past
 
   past2 : Past2 s → checkOf s ≡ firstRefusal from3
@@ -128,7 +128,7 @@ module _ (s : List ℕ) where
   -- ---- what is given is what the verdict tells
 
   given-is : (number place : ℕ) → Given s number place → checkOf s ≡ Refused (record { number = number; place = place })
-  unfolding checkOf
+  unfolding checkWithin
   given-is number place (one row) = stop 1 (lengthFault s) (Row1 s) (exact1 s) from2 place row
   given-is number place (two past row) = past1 past ∙ stop 2 (checkFault s) (Row2 s) (exact2 s) from3 place row
   given-is number place (three past row) = past2 past ∙ stop 3 (startFault s 1) (Row3 s 1) (exact3 s 1) from4 place row
@@ -205,13 +205,13 @@ module _ (s : List ℕ) where
       in-turn 2 (checkFault s) (Row2 s) (exact2 s) from3 (Given s) (λ p row. two past row) (λ none. told-3 (past, none))
 
   told-1 : (r : Refusal) → checkOf s ≡ Refused r → Given s (r .number) (r .place)
-  unfolding checkOf
+  unfolding checkWithin
   told-1 = in-turn 1 (lengthFault s) (Row1 s) (exact1 s) from2 (Given s) (λ p row. one row) told-2
 
   -- ---- a fine card is past every row
 
   fine1 : checkOf s ≡ Fine → Past1 s
-  unfolding checkOf
+  unfolding checkWithin
   fine1 e = none-here 1 (lengthFault s) (Row1 s) (exact1 s) from2 e
 
   fine2 : checkOf s ≡ Fine → Past2 s

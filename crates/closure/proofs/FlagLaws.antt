@@ -62,26 +62,22 @@ row-none n k i f w =
       rest = λ r c h g ne. refl;
     }
 
-module _ (n k i j : ℕ) (f g : List (List Bool)) (small : n ≤ contourLimit) (hk : k < n) (hi : i < n) (hj : j < n)
+-- one entry more, from row k as it was
+module _ (n k i j : ℕ) (f g : List (List Bool)) (small : n ≤ contourLimit) (hi : i < n) (hj : j < n)
     (part : RowPart n k i j f g) where
-  row-source : flag g k j ≡ flag f k j
-  row-source =
-      ⊎-elim (λ (e : k ≡ i). rw e (part .ahead j (omega arith) hj)) (λ (ne : k ≡ i → ⊥). part .rest k j hk hj ne)
-      (same-or k i)
-
-  pub row-more : RowPart n k i (j + 1) f (put g i j (flag g i j || flag g k j))
+  pub row-more : RowPart n k i (j + 1) f (put g i j (flag g i j || flag f k j))
   row-more = record {
     whole = put-whole g i j _ (part .whole) (omega arith);
     within = omega arith;
     done = λ c h. ⊎-elim
         (λ (e : c ≡ j). rw e (put-here g i j _ (part .whole) (omega arith) (omega arith)
-        ∙ rw (part .ahead j (omega arith) hj, row-source)))
+        ∙ rw (part .ahead j (omega arith) hj)))
         (λ (ne : c ≡ j → ⊥). stays i c (λ _ e. ne e) ∙ part .done c (omega arith)) (same-or c j);
     ahead = λ c h l. stays i c (λ _ e. omega arith) ∙ part .ahead c (omega arith) l;
     rest = λ r c h l ne. stays r c (λ e _. ne e) ∙ part .rest r c h l ne;
   }
     where
-      stays : (r c : ℕ) → (r ≡ i → c ≡ j → ⊥) → flag (put g i j (flag g i j || flag g k j)) r c ≡ flag g r c
+      stays : (r c : ℕ) → (r ≡ i → c ≡ j → ⊥) → flag (put g i j (flag g i j || flag f k j)) r c ≡ flag g r c
       stays = put-other g i j _ (part .whole) (omega arith)
 
 pub row-joined : (n k i j : ℕ) (f g : List (List Bool)) → flag f i k ≡ true → n ≤ j → RowPart n k i j f g

@@ -32,6 +32,9 @@ leads link (suc k) i j = leads link k i j || (leads link k i k && leads link k k
 abbrev pub onCycle : ℕ → List ℕ → ℕ → Bool
 onCycle n pairs i = leads (linked n pairs) n i i
 
--- the lowest position on a cycle among the first so many contours; above the limit only that many are looked at
+-- the lowest position on a cycle among the first so many contours; no more of them than `most` are looked at
+abbrev pub firstOnCycleWithin : ℕ → ℕ → List ℕ → Found
+firstOnCycleWithin most contours pairs = lowest (onCycle (min contours most) pairs) (min contours most)
+
 abbrev pub firstOnCycle : ℕ → List ℕ → Found
-firstOnCycle contours pairs = lowest (onCycle (min contours contourLimit) pairs) (min contours contourLimit)
+firstOnCycle contours pairs = firstOnCycleWithin contourLimit contours pairs

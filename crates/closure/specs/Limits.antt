@@ -3,8 +3,8 @@ use Prim.Native.Nat.{ℕ}
 
 -- contours
 abbrev pub contourLimit : ℕ
-contourLimit = 40
+contourLimit = 80
 
 -- pairs
 abbrev pub pairLimit : ℕ
-pairLimit = 124
+pairLimit = 248

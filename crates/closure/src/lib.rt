@@ -12,20 +12,22 @@ ghost use Rattle.closure.specs.Cycle.{leads, firstOnCycle};
 ghost use Rattle.closure.specs.Flags.{flag, Whole, RowJoined, RowsJoined, Noted, Says};
 
 // The most contours that a question on pairs takes.
-pub const CONTOURS: usize = 40;
+pub const CONTOURS: usize = 80;
 
 // The most pairs that it takes.
-pub const PAIRS: usize = 124;
+pub const PAIRS: usize = 248;
 
-// Where i leads to k, all that k leads to is added to what i leads to.
+// Where i leads to k, all that k leads to is added to what i leads to: from a copy of that row, which the compiler can tell
+// from the one that is written, so that it adds many flags at once.
 fn join_row(flags: &mut [[bool; CONTOURS]; CONTOURS], n: usize, k: usize, i: usize)
     requires { ⌜ (n ≤ contourLimit) × (k < n) × (i < n) × Whole (now flags) ⌝ }
     ensures { λ r. ⌜ RowJoined n k i (now (flags .entry)) (now (flags .exit)) ⌝ }
 {
     if flags[i][k] {
+        let row = flags[k];
         let mut j = 0;
         while j < n {
-            flags[i][j] = flags[i][j] | flags[k][j];
+            flags[i][j] = flags[i][j] | row[j];
             j += 1;
         }
     }

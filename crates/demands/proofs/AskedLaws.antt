@@ -20,7 +20,7 @@ use Rattle.solve.specs.declared.Outcome.{Outcome}
 use Rattle.tour.specs.declared.Toured.the-variants as answer
 use Rattle.instance.specs.Search.{countOn}
 use Rattle.tour.specs.Search.{outcomeOn}
-use Rattle.tour.specs.Tour.{Left, roomCheck, tourCheck, toured, touredUnless, tourOf}
+use Rattle.tour.specs.Tour.{Left, roomCheck, tourCheck, tourCheckWithin, toured, touredUnless, tourOf, tourWithin}
 use Rattle.demands.specs.Demand1.{small-room, small-table, GivenWith, by-card, thirteen, Nothing, Asked}
 
 module _ (s room : List ℕ) (table : List Float) where
@@ -39,7 +39,7 @@ module _ (s room : List ℕ) (table : List Float) where
   told = tourCheck s (length room) (length table)
 
   by-parts : told ≡ parts (checkOf s) small short
-  unfolding parts tourCheck roomCheck firstRefusal
+  unfolding parts tourCheckWithin roomCheck firstRefusal
   by-parts = refl
 
   refused-by : (c : Check) (a b : Bool) → checkOf s ≡ c → small ≡ a → short ≡ b → (r : Refusal)
@@ -101,7 +101,7 @@ module _ (s room : List ℕ) (table : List Float) where
   whole c = touredUnless c (toured s room table) room table
 
   is-whole : tourOf s room table ≡ whole told
-  unfolding tourOf
+  unfolding tourWithin
   is-whole = refl
 
   answer-refused : (c : Check) (r : Refusal) → whole c .answer ≡ answer.Refused r → c ≡ check.Refused r

@@ -38,7 +38,7 @@ use Rattle.table.specs.Evaluate.{lengthOf}
 use Rattle.table.specs.Walk.{legs, walk}
 use Rattle.table.proofs.DistanceLaws.{distances-length, same-contour, other-contour, homes-length, homes-at}
 use Rattle.improve.specs.Search.{Chart, State, lengthIn, shorter, judged, atLimit, tried, swap, reversed, flip}
-use Rattle.improve.specs.Search.{contours, worthwhile, searched}
+use Rattle.improve.specs.Search.{contours, worthwhile, searchedWithin}
 use Rattle.improve.specs.Kept.{acceptedOf}
 use Rattle.improve.specs.Trials.{other, allMade, others, turnTrials, turnsTrials, rowTrials, passTrials, passesTrials}
 use Rattle.improve.specs.Trials.{trialsOf, Proper, Level}
@@ -53,7 +53,7 @@ use Rattle.instance.proofs.OwnerLaws.{first-at, gathered-grows, owner-at}
 use Rattle.solve.specs.declared.Outcome.{Outcome}
 use Rattle.tour.specs.declared.Toured.the-variants.{Done}
 use Rattle.instance.specs.Search.{homeOn, candidatesOn, countOn, ownersOn, chartOn}
-use Rattle.tour.specs.Search.{startOn, endOn, tourOn, outcomeOn}
+use Rattle.tour.specs.Search.{startOn, endWithin, tourOn, outcomeOn}
 use Rattle.tour.specs.Tour.{Left, tourOf}
 use Rattle.demands.specs.Demand2.{ownOn, Numbered, Sized, Rooted, Apart, Paired, longOn, Measured, Terms}
 use Rattle.demands.specs.Demand2.{Leaves, Trials, begunOn, searchOn, Between, othersOn, passesOn, allOn, Making}
@@ -353,7 +353,7 @@ begins M trial v = record {
 }
 
 stays : (s : List ℕ) (M : ℕ) → worthwhile (passesOf s) (length (startOn s)) ≡ false → searchOn s M ≡ begunOn s
-unfolding searched
+unfolding searchedWithin
 stays s M e = rw e
 
 limit : (s : List ℕ) → checkOf s ≡ Fine → Cut s
@@ -380,7 +380,7 @@ limit s fine =
 -- ---- the answer
 
 pub claim : Claim
-unfolding endOn chartOn
+unfolding endWithin chartOn
 claim s room table told h =
     let clear = toured-if s room table told h in
     let fine = exactly s .fine-if (fine-nothing s room table clear .sound) in

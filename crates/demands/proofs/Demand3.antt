@@ -1,10 +1,12 @@
 -- Demand 3 holds. Assumes nothing.
 use mathlib.Core.Path.{_≡_, refl, sym, ap, _∙_, subst}
+use mathlib.Core.Bool.{Bool, true, false, cond}
 use mathlib.Core.List.{List}
 use Prim.Native.Nat.{ℕ, suc, _+_, _*_, _^_, _≤_, _<_}
 use native.Mathlib.Nat.{mul-assoc, mul-le-mul-right}
 use native.Mathlib.Omega.{arith}
-use lib.Dec.{T, lit≤}
+use borrow.Author.Tests.{le-leb, lt-leb, leb-true}
+use lib.Dec.{T, leb, lit≤}
 use lib.Ieee.{Float, le}
 use lib.ListN.{length, getD, take, drop}
 use lib.Seq.{take-at}
@@ -17,28 +19,56 @@ use Rattle.card_laws.proofs.Verdicts.{exactly}
 use Rattle.root.proofs.WholeLaws.{whole-le, whole-lt}
 use Rattle.exact.specs.Length.{legRoot, lowerEnd, upperEnd, step40}
 use Rattle.exact.specs.Bound.{Enough}
-use Rattle.exact.proofs.SumLaws.{enough-fewer, forty}
+use Rattle.exact.proofs.SumLaws.{enough-fewer, forty, eighty}
 use Rattle.improve.specs.Search.{contours, lengthIn}
 use Rattle.improve.proofs.LengthLaws.{never-longer}
 use Rattle.solve.specs.declared.Outcome.{Outcome}
 use Rattle.tour.specs.declared.Toured.the-variants.{Done}
 use Rattle.instance.specs.Search.{countOn, ownersOn, chartOn}
 use Rattle.instance.proofs.OwnerLaws.{first-at, owner-at, seat-of}
-use Rattle.tour.specs.Search.{startOn, endOn, tourOn, outcomeOn}
+use Rattle.tour.specs.Search.{startOn, endWithin, tourOn, outcomeOn}
 use Rattle.tour.specs.Tour.{Left, tourOf}
 use Rattle.tour_laws.specs.Visits.{Visits}
 use Rattle.tour_laws.proofs.BelowLaws.{below-at}
 use Rattle.tour_laws.proofs.TourLaws.{contour-at, start-visits, tour-long, tour-legal, tour-visits}
-use Rattle.demands.specs.Demand3.{OnGrid, legsOn, Interval, nearness, excess, OneOf, Good, Claim}
+use Rattle.demands.specs.Demand3.{OnGrid, legsOn, Interval, edge, nearness, excess, Bounds, OneOf, Good, Claim}
 use Rattle.demands.proofs.AskedLaws.{toured-if, done-fine, fine-nothing}
 use Rattle.demands.proofs.NearLaws.{home-fits, near-of, number-of, excess-of}
 
 -- the bound is enough for as many legs as a card can have contours
 enough : (n : ℕ) → n ≤ contourLimit → (a : ℕ) × Enough n a (nearness n)
-enough n few = (6, enough-fewer n contourLimit 6 (nearness n) few forty)
+enough n most = go (leb n edge) refl
+  where
+    go : (b : Bool) → leb n edge ≡ b → (a : ℕ) × Enough n a (cond b (2 ^ 12) (2 ^ 14))
+    go true e = (6, enough-fewer n 40 6 (2 ^ 12) (let few = leb-true n edge e in omega arith) forty)
+    go false e = (7, enough-fewer n 80 7 (2 ^ 14) most eighty)
 
 twice : (n : ℕ) → 2 * nearness n ≤ excess n
-twice n = lit≤ tt
+twice n = go (leb n edge)
+  where
+    go : (b : Bool) → 2 * cond b (2 ^ 12) (2 ^ 14) ≤ cond b (2 ^ 13) (2 ^ 15)
+    go true = lit≤ tt
+    go false = lit≤ tt
+
+near-to-40 : (n : ℕ) → n ≤ 40 → nearness n ≡ 2 ^ 12
+near-to-40 n h = rw (le-leb n edge (omega arith))
+
+near-from-41 : (n : ℕ) → 41 ≤ n → nearness n ≡ 2 ^ 14
+near-from-41 n h = rw (lt-leb n edge (omega arith))
+
+excess-to-40 : (n : ℕ) → n ≤ 40 → excess n ≡ 2 ^ 13
+excess-to-40 n h = rw (le-leb n edge (omega arith))
+
+excess-from-41 : (n : ℕ) → 41 ≤ n → excess n ≡ 2 ^ 15
+excess-from-41 n h = rw (lt-leb n edge (omega arith))
+
+bounds : Bounds
+bounds = record {
+  near-to-40 = near-to-40;
+  near-from-41 = near-from-41;
+  excess-to-40 = excess-to-40;
+  excess-from-41 = excess-from-41;
+}
 
 -- twice the one bound is within the other, whatever the step
 more : (u w b e g : ℕ) → 2 * b ≤ e → u ≤ w + 2 * (b * g) → u ≤ w + e * g
@@ -75,7 +105,7 @@ module _ (s : List ℕ) (fine : checkOf s ≡ Fine) (grid : OnGrid s) where
   bound = enough (contoursOf s) (accepted s fine .few-contours)
 
   no-longer : T (le (lengthIn (chartOn s) (tourOn s)) (lengthIn (chartOn s) (startOn s)))
-  unfolding endOn
+  unfolding endWithin
   no-longer =
       never-longer (chartOn s) (passesOf s) (moveLimitOf s) (startOn s) (home-fits s grid)
       (number-of s grid (bound .0) (nearness (contoursOf s)) (bound .1) (startOn s) (start-visits s fine))
@@ -122,4 +152,4 @@ holds s room table told grid h =
     (subst (λ (tour : List ℕ). Good s tour (outcomeOn s)) (sym front) (good s fine grid))
 
 pub claim : Claim
-claim = (interval, holds)
+claim = (interval, bounds, holds)

@@ -27,7 +27,7 @@ use Rattle.card_laws.proofs.Verdicts.{exactly}
 use Rattle.improve.specs.Search.{lengthIn}
 use Rattle.instance.specs.Search.{candidatesOn, countOn, ownersOn, firstsOn, chartOn}
 use Rattle.tour.specs.declared.Toured.the-variants as answer
-use Rattle.tour.specs.Tour.{roomCheck, tourCheck, toured, touredUnless, tourOf}
+use Rattle.tour.specs.Tour.{roomCheck, tourCheck, tourCheckWithin, toured, touredUnless, tourOf, tourWithin}
 use Rattle.tour.proofs.DoorLaws.{tour-refused}
 use Rattle.questions.specs.declared.Located.{Located}
 use Rattle.questions.specs.declared.Located.the-variants as located
@@ -108,7 +108,7 @@ module _ (s : List ℕ) (fine : checkOf s ≡ Fine) where
   -- ---- each door's check
 
   of-tour : (entries distances : ℕ) → Only 13 (tourCheck s entries distances)
-  unfolding tourCheck roomCheck
+  unfolding tourCheckWithin roomCheck
   of-tour entries distances =
       only-both 13 (checkOf s) _ (only-fine 13 (checkOf s) fine)
       (only-both 13 _ _ (only-if 13 (ltb entries (contoursOf s)) (contoursOf s))
@@ -142,7 +142,7 @@ module _ (s : List ℕ) (fine : checkOf s ≡ Fine) where
 
   tour-own : (room : List ℕ) (table : List Float) (r : Refusal) → tourOf s room table .answer ≡ answer.Refused r
       → r .number ≡ 13
-  unfolding tourOf
+  unfolding tourWithin
   tour-own room table r h = go (tourCheck s (length room) (length table)) (of-tour (length room) (length table)) h
     where
       go : (c : Check) → Only 13 c → touredUnless c (toured s room table) room table .answer ≡ answer.Refused r

@@ -30,7 +30,7 @@ use Rattle.table.specs.Each.{each}
 use Rattle.table.proofs.DistanceLaws.{same-contour, homes-at}
 use Rattle.table.proofs.EachLaws.{each-keeps}
 use Rattle.start.specs.Nearest.{Ground, Way, lastOf, isIn, reachOf, clears, isOpen, chosen, visit, step, setOut, walked}
-use Rattle.start.specs.Nearest.{nearest}
+use Rattle.start.specs.Nearest.{nearestWithin}
 use Rattle.start.proofs.ChoiceLaws.{chosen-fair}
 use Rattle.start.proofs.StepLaws.{last-at}
 use Rattle.instance.proofs.OwnerLaws.{gathered-grows, first-at}
@@ -183,7 +183,7 @@ module _ (s : List ℕ) (fine : checkOf s ≡ Fine) where
       each-last (step g (contoursOf s)) p 0 setOut ∙ ap (λ (i : ℕ). step g (contoursOf s) i (wayOn s p)) (zero-add p)
 
   whole : startOn s ≡ wayOn s (contoursOf s) .tour
-  unfolding nearest walked
+  unfolding nearestWithin walked
   whole = rw (le-leb (contoursOf s) _ (accepted s fine .few-contours))
 
   -- ---- after p steps the tour has p candidates

@@ -1,11 +1,13 @@
 -- Demand 3: where home and all candidates of a card lie on a grid, the tour that is handed out cuts each contour once,
 -- at one of the contour's own candidates, and of each pair, written or by rule, the first before the second; the length
--- reported is within 2^-28 mm of the exact one; and the tour is at most 2^-27 mm longer than the start, exactly. tourOf
--- is what `tour::tour` promises, so it speaks of demand 2's tour, and no fixed legal order will do. Assumes nothing.
+-- reported is within 2^-28 mm of the exact one; and the tour is at most 2^-27 mm longer than the start, exactly. Above
+-- 40 contours the two bounds are 2^-26 and 2^-25 mm. tourOf is what `tour::tour` promises, so it speaks of demand 2's
+-- tour, and no fixed legal order will do. Assumes nothing.
 use mathlib.Core.Path.{_≡_}
+use mathlib.Core.Bool.{cond}
 use mathlib.Core.List.{List, [], _∷_, map}
 use Prim.Native.Nat.{ℕ, suc, _+_, _*_, _^_, _≤_, _<_}
-use lib.Dec.{T}
+use lib.Dec.{T, leb}
 use lib.Ieee.{Float}
 use lib.ListN.{length, getD, take}
 use Rattle.answer.specs.declared.Point.{Point}
@@ -16,6 +18,7 @@ use Rattle.exact.specs.Bound.{NearEnds}
 use Rattle.improve.specs.Search.{contours}
 use Rattle.solve.specs.declared.Outcome.{Outcome}
 use Rattle.fields.specs.Layout.{contoursOf}
+use Rattle.card.specs.Limits.{before}
 use Rattle.card_laws.specs.Orders.{LegalOrder}
 use Rattle.tour.specs.declared.Toured.the-variants.{Done}
 use Rattle.instance.specs.Search.{homeOn, candidatesOn, countOn, ownersOn, firstsOn}
@@ -44,13 +47,24 @@ pub record Interval : Type 0 where
   pub one-more : (S : ℕ) (legs : List ℕ) → lowerEnd (S ∷ legs) ≡ legRoot S + lowerEnd legs
   pub upper : (legs : List ℕ) → upperEnd legs ≡ lowerEnd legs + length legs
 
--- the bounds on a card of n contours, in steps of 2^-40 mm: 2^-28 mm for the length told, 2^-27 mm for what the tour is
--- longer than the start
+-- the most contours for which the closer bounds hold: as many as a card had before request 2026-04
+abbrev pub edge : ℕ
+edge = before .contours
+
+-- the bounds on a card of n contours, in steps of 2^-40 mm: for the length told, and for what the tour is longer than
+-- the start
 abbrev pub nearness : ℕ → ℕ
-nearness n = 2 ^ 12
+nearness n = cond (leb n edge) (2 ^ 12) (2 ^ 14)
 
 abbrev pub excess : ℕ → ℕ
-excess n = 2 ^ 13
+excess n = cond (leb n edge) (2 ^ 13) (2 ^ 15)
+
+-- they are 2^-28 and 2^-27 mm at 40 contours and below, 2^-26 and 2^-25 mm at 41 and above
+pub record Bounds : Type 0 where
+  pub near-to-40 : (n : ℕ) → n ≤ 40 → nearness n ≡ 2 ^ 12
+  pub near-from-41 : (n : ℕ) → 41 ≤ n → nearness n ≡ 2 ^ 14
+  pub excess-to-40 : (n : ℕ) → n ≤ 40 → excess n ≡ 2 ^ 13
+  pub excess-from-41 : (n : ℕ) → 41 ≤ n → excess n ≡ 2 ^ 15
 
 -- number a is that of one of the card's candidates, and of one of contour k's; they are numbered contour after contour,
 -- as Demand2 says in Numbered
@@ -75,5 +89,5 @@ pub record Good (s tour : List ℕ) (told : Outcome) : Type 0 where
 -- of every card that lies on the grid, with whatever rooms and whatever move limit, if the answer is a tour
 abbrev pub Claim : Type 0
 Claim =
-    Interval × ((s room : List ℕ) (table : List Float) (told : Outcome) → OnGrid s
+    Interval × Bounds × ((s room : List ℕ) (table : List Float) (told : Outcome) → OnGrid s
     → tourOf s room table .answer ≡ Done told → Good s (take (contoursOf s) (tourOf s room table .room)) told)

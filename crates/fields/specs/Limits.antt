@@ -1,9 +1,9 @@
 -- The limits of a card, next to those on contours and pairs, which stand in the crate `closure`. Assumes nothing.
 use Prim.Native.Nat.{ℕ}
 
--- bytes of the longest card: 45 blocks
+-- bytes of the longest card: 89 blocks
 abbrev pub cardBytes : ℕ
-cardBytes = 23040
+cardBytes = 45568
 
 -- candidates for one contour, and for all of them
 abbrev pub perContourLimit : ℕ

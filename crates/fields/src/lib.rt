@@ -12,7 +12,7 @@ use answer::Point;
 use block::BLOCK;
 
 // The most bytes that a card has.
-pub const CARD_BYTES: usize = 23040;
+pub const CARD_BYTES: usize = 45568;
 
 // The most candidates of one contour, and of all of them.
 pub const PER_CONTOUR: usize = 8;

@@ -1,5 +1,5 @@
--- How large the place of a refusal can be: the card's own and 13's are the length at most, which is told as 23,041 if
--- larger. Assumes nothing.
+-- How large the place of a refusal can be: the card's own and 13's are the length at most, of which one more than the
+-- longest card's is told if it is larger. Assumes nothing.
 use mathlib.Core.Path.{_≡_, refl, sym, ap, _∙_}
 use mathlib.Core.Logic.{inr}
 use mathlib.Core.Bool.{Bool, true, false}
@@ -15,6 +15,7 @@ use Rattle.answer.specs.declared.Check.the-variants.{Fine, Refused}
 use Rattle.answer.specs.declared.Refusal.{Refusal}
 use Rattle.answer.specs.Stage.{firstRefusal}
 use Rattle.answer.specs.Lowest.{refuseIf}
+use Rattle.closure.specs.Limits.{contourLimit, pairLimit}
 use Rattle.fields.specs.Limits.{cardBytes}
 use Rattle.fields.specs.Layout.{contoursOf, pairsOf}
 use Rattle.card.specs.Verdict.{checkOf}
@@ -27,7 +28,7 @@ use Rattle.table.proofs.PlaceLaws.{square-small}
 use Rattle.instance.proofs.FineLaws.{few-candidates}
 use Rattle.instance.specs.Search.{countOn}
 use Rattle.tour.specs.declared.Toured.the-variants as answer
-use Rattle.tour.specs.Tour.{Left, roomCheck, tourCheck, toured, touredUnless, tourOf}
+use Rattle.tour.specs.Tour.{Left, roomCheck, tourCheckWithin, toured, touredUnless, tourOf, tourWithin}
 
 not-above : (most n : ℕ) → (most < n → ⊥) → n ≤ most
 not-above most n h = go (ltb most n) refl
@@ -41,11 +42,11 @@ module _ (s : List ℕ) where
   few-bytes : Past1 s → length s ≤ cardBytes
   few-bytes past = not-above cardBytes (length s) (λ h. past _ (record { cause = inr (inr h); told = refl }))
 
-  few-contours : No (Row4 s) → contoursOf s ≤ 40
-  few-contours past = not-above 40 (contoursOf s) (λ h. no-bad-field s past 1 (lit< tt) (contours h))
+  few-contours : No (Row4 s) → contoursOf s ≤ contourLimit
+  few-contours past = not-above contourLimit (contoursOf s) (λ h. no-bad-field s past 1 (lit< tt) (contours h))
 
-  few-pairs : No (Row4 s) → pairsOf s ≤ 124
-  few-pairs past = not-above 124 (pairsOf s) (λ h. no-bad-field s past 2 (lit< tt) (pairs h))
+  few-pairs : No (Row4 s) → pairsOf s ≤ pairLimit
+  few-pairs past = not-above pairLimit (pairsOf s) (λ h. no-bad-field s past 2 (lit< tt) (pairs h))
 
   -- the card's own refusals
   pub given-near : {number place : ℕ} → Given s number place → place ≤ cardBytes + 1
@@ -76,7 +77,7 @@ module _ (s : List ℕ) where
 
     pub is-whole : tourOf s room table ≡ whole (checkOf s) (ltb (length room) (contoursOf s))
         (ltb (length table) (countOn s * countOn s))
-    unfolding whole tourOf tourCheck roomCheck
+    unfolding whole tourWithin tourCheckWithin roomCheck
     is-whole = refl
 
     -- and 13

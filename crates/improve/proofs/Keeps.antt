@@ -10,6 +10,7 @@ use lib.ListN.{length, getD}
 use Rattle.table.proofs.EachLaws.{each-keeps}
 use Rattle.improve.specs.Search.{Chart, State, ownerOf, atLimit, stopped, tried, swap, alternative}
 use Rattle.improve.specs.Search.{turn, flip, reversal, row, fresh, pass, repeated, begun, worthwhile, searched}
+use Rattle.improve.specs.Search.{searchedWithin}
 use Rattle.improve.specs.Trials.{Offers}
 
 -- ---- what is asked of a property
@@ -98,7 +99,7 @@ module _ (chart : Chart) (limit n : ℕ) (P : State → Type 0) (Turn : ℕ → 
 pub search-carries : (chart : Chart) (most limit : ℕ) (tour : List ℕ)
     (P : State → Type 0) (Turn : ℕ → ℕ → State → Type 0)
     → Carries chart limit (length tour) P Turn → P (begun chart tour) → P (searched chart most limit tour)
-unfolding searched
+unfolding searchedWithin
 search-carries chart most limit tour P Turn carries q = go (worthwhile most (length tour))
   where
     go : (b : Bool) → P (cond b (repeated chart limit (length tour) most (begun chart tour)) (begun chart tour))

@@ -14,7 +14,7 @@ use Rattle.table.proofs.EachLaws.{onwards, arrive}
 use Rattle.table.specs.Each.{each}
 use Rattle.improve.specs.Code.{unpaired, going, stateOf, Reached}
 use Rattle.improve.specs.Search.{Chart, State, lengthIn, turn, reversal, row, pass, repeated, begun, worthwhile}
-use Rattle.improve.specs.Search.{searched}
+use Rattle.improve.specs.Search.{searched, searchedWithin}
 use Rattle.improve.specs.declared.Progress.{Progress}
 use Rattle.improve.proofs.IdleLaws.{each-idle, halt}
 use Rattle.improve.proofs.TrialLaws.{ended, row-idle, reversal-idle, turns-read, goes-on}
@@ -139,7 +139,7 @@ moves-fit done passes before turned i rows j cells n a b c d e f g h k = omega a
 
 unworthy : (chart : Chart) (most limit : ℕ) (tour : List ℕ) → worthwhile most (length tour) ≡ false
     → Reached 0 tour (searched chart most limit tour)
-unfolding searched
+unfolding searchedWithin
 unworthy chart most limit tour e = rw e (record { counted = refl; held = refl })
 
 module _ (chart : Chart) (most limit : ℕ) (tour : List ℕ) where
@@ -165,7 +165,7 @@ module _ (chart : Chart) (most limit : ℕ) (tour : List ℕ) where
   pub worthy : (moves : ℕ) (after : List ℕ) → (most ≡ 0 → ⊥) → 3 ≤ length tour → length tour ≤ contourLimit
       → Reached moves after (repeated chart limit (length tour) most (begun chart tour))
       → Reached moves after (searched chart most limit tour)
-  unfolding searched
+  unfolding searchedWithin
   worthy moves after p h g w =
       let one : ltb 0 most ≡ true = lt-ltb 0 most (omega arith) in
       let two : leb 3 (length tour) ≡ true = le-leb 3 (length tour) h in

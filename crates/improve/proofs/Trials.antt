@@ -14,6 +14,7 @@ use Rattle.table.specs.Distances.{listed, chained}
 use Rattle.table.specs.Each.{each}
 use Rattle.improve.specs.Search.{Chart, State, ownerOf, judged, atLimit, stopped, tried, swap, alternative, turn}
 use Rattle.improve.specs.Search.{flip, reversal, row, fresh, pass, repeated, begun, worthwhile, searched}
+use Rattle.improve.specs.Search.{searchedWithin}
 use Rattle.improve.specs.Trials.{Trial, other, stretch, made, allMade, others, turnTrials, turnsTrials, rowTrials}
 use Rattle.improve.specs.Trials.{passTrials, passesTrials, trialsOf, Another, Proper, no-more, one-turn}
 use Rattle.improve.specs.Trials.{one-reversal, Level, Claim}
@@ -221,7 +222,7 @@ module _ (chart : Chart) where
   search-tried : (most limit : ℕ) (tour : List ℕ)
       → fresh (searched chart most limit tour)
       ≡ fresh (triedAll chart limit (trialsOf chart most tour) (begun chart tour))
-  unfolding searched trialsOf triedAll
+  unfolding searchedWithin trialsOf triedAll
   search-tried most limit tour = go (worthwhile most (length tour))
     where
       go : (b : Bool)
@@ -308,7 +309,7 @@ module _ (chart : Chart) where
 
   search-same : (most M : ℕ) (tour : List ℕ)
       → (searched chart most M tour .cut ≡ true) ⊎ (searched chart most M tour ≡ searched chart most 0 tour)
-  unfolding searched
+  unfolding searchedWithin
   search-same most M tour = go (worthwhile most (length tour))
     where
       go : (b : Bool)

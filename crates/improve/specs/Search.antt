@@ -150,13 +150,20 @@ repeated chart limit n (suc k) s =
 abbrev pub begun : Chart → List ℕ → State
 begun chart tour = record { tour = tour; cost = lengthIn chart tour; better = true; moves = 0; cut = false }
 
--- there is something to improve: a pass is allowed, and the tour has three contours or more (and no more than a card
--- has)
-abbrev pub worthwhile : ℕ → ℕ → Bool
-worthwhile most n = ltb 0 most && (leb 3 n && leb n contourLimit)
+-- there is something to improve: a pass is allowed, and the tour has three contours or more (and no more than there is
+-- room for)
+abbrev pub worthwhileWithin : ℕ → ℕ → ℕ → Bool
+worthwhileWithin contours most n = ltb 0 most && (leb 3 n && leb n contours)
 
 -- at most so many passes and so many trials from a tour on
-unfoldable pub searched : Chart → ℕ → ℕ → List ℕ → State
-searched chart most limit tour =
+unfoldable pub searchedWithin : ℕ → Chart → ℕ → ℕ → List ℕ → State
+searchedWithin contours chart most limit tour =
     let after = repeated chart limit (length tour) most (begun chart tour) in
-    cond (worthwhile most (length tour)) after (begun chart tour)
+    cond (worthwhileWithin contours most (length tour)) after (begun chart tour)
+
+-- with room for the contours of any card
+abbrev pub worthwhile : ℕ → ℕ → Bool
+worthwhile most n = worthwhileWithin contourLimit most n
+
+abbrev pub searched : Chart → ℕ → ℕ → List ℕ → State
+searched chart most limit tour = searchedWithin contourLimit chart most limit tour

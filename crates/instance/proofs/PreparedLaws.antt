@@ -17,13 +17,14 @@ use Rattle.closure.specs.Limits.{contourLimit, pairLimit}
 use Rattle.fields.specs.Limits.{candidateLimit}
 use Rattle.fields.specs.Layout.{contoursOf, pairsOf}
 use Rattle.card.specs.declared.Named.{Named}
-use Rattle.card.specs.Names.{pairsOn, namedAs, namedOf}
+use Rattle.card.specs.Names.{pairsOn, namedAs, namedOf, namedWithin}
 use Rattle.card.specs.Stages.{nameFault}
 use Rattle.answer.specs.Lowest.{refuseAt}
 use Rattle.answer.proofs.StageLaws.{is-fine}
 use Rattle.card.proofs.GroupLaws.{fine-absent}
 use Rattle.card.proofs.NameLaws.{named-front, named-whole, named-within}
-use Rattle.card.specs.Verdict.{stagesOf, checkOf}
+use Rattle.card.specs.Limits.{today}
+use Rattle.card.specs.Verdict.{stagesWithin, checkOf, checkWithin}
 use Rattle.card_laws.proofs.Facts.{accepted}
 use Rattle.table.specs.Distances.{homed, tabled, homesOf, distancesOf}
 use Rattle.table.proofs.DistanceLaws.{homes-length, distances-length}
@@ -110,10 +111,10 @@ prepared-is s a h d n = rw (n, d, h, a)
 
 -- the pairs' positions stand at the front of theirs
 pairs-on : (s : List ℕ) → checkOf s ≡ Fine → Front (namedOf s .count) (namedOf s .positions) (pairsOn s)
-unfolding namedOf checkOf
+unfolding namedWithin checkWithin
 pairs-on s fine =
     let a = accepted s fine in
-    let ten : refuseAt 10 (nameFault s) ≡ Fine = is-fine (stagesOf s) fine 10 (lit< tt) in
+    let ten : refuseAt 10 (nameFault s) ≡ Fine = is-fine (stagesWithin today s) fine 10 (lit< tt) in
     let known : nameFault s ≡ Absent = fine-absent 10 (nameFault s) ten in
     let all : namedOf s ≡ namedAs Absent (pairsOn s) =
     rw (le-ltb contourLimit (contoursOf s) (a .few-contours), le-ltb pairLimit (pairsOf s) (a .few-pairs), known) in

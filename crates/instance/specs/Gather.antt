@@ -51,14 +51,16 @@ unfolding gathered
 firsts s zero = 0 ∷ []
 firsts s (suc k) = firsts s k ++ (length (gathered s (suc k)) ∷ [])
 
--- n contours with c candidates each can be held
+-- n contours with c candidates each can be held where there is room for so many contours
+abbrev pub roomForWithin : ℕ → ℕ → ℕ → Bool
+roomForWithin contours n c = leb n contours && (ltb 0 c && (leb c perContourLimit && leb (n * c) candidateLimit))
+
+-- how many contours are gathered: all, or none where the head asks for more than can be held; no accepted card's does
+abbrev pub heldWithin : ℕ → List ℕ → ℕ
+heldWithin contours s = cond (roomForWithin contours (contoursOf s) (perContourOf s)) (contoursOf s) 0
+
 abbrev pub roomFor : ℕ → ℕ → Bool
-roomFor n c = leb n contourLimit && (ltb 0 c && (leb c perContourLimit && leb (n * c) candidateLimit))
+roomFor n c = roomForWithin contourLimit n c
 
--- the head asks for no more than can be held; every accepted card's does
-abbrev pub holds : List ℕ → Bool
-holds s = roomFor (contoursOf s) (perContourOf s)
-
--- how many contours are gathered: all, or none where the head asks for too much
 abbrev pub heldOf : List ℕ → ℕ
-heldOf s = cond (holds s) (contoursOf s) 0
+heldOf s = heldWithin contourLimit s

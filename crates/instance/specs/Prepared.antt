@@ -8,7 +8,7 @@ use Rattle.points.specs.Numbers.{zero64}
 use Rattle.closure.specs.Limits.{contourLimit, pairLimit}
 use Rattle.fields.specs.Limits.{candidateLimit}
 use Rattle.fields.specs.Layout.{contoursOf, pairsOf}
-use Rattle.card.specs.Names.{namedOf, pairsOn}
+use Rattle.card.specs.Names.{namedOf, namedWithin, pairsOn}
 use Rattle.table.specs.Distances.{entryLimit, homed, distancesOf}
 use Rattle.improve.specs.Search.{Chart}
 use Rattle.improve.specs.Code.{chartOf}
@@ -23,7 +23,7 @@ noDistances = replicate candidateLimit zero64
 
 -- the candidates, their distances from home, and the pairs as positions
 unfoldable pub preparedOf : List ℕ → Prepared
-unfolding instanceOf namedOf
+unfolding instanceOf namedWithin
 preparedOf s = record {
   all = instanceOf s;
   homes = homed (instanceOf s .items) (instanceOf s .count) (homeOn s) noDistances;

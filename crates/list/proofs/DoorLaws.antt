@@ -25,14 +25,14 @@ use Rattle.tour.specs.declared.Toured.{Toured}
 use Rattle.tour.specs.declared.Toured.the-variants as answer
 use Rattle.instance.specs.Search.{countOn}
 use Rattle.tour.specs.Search.{tourOn, outcomeOn}
-use Rattle.tour.specs.Tour.{Left, left, roomCheck, tourCheck, toured, touredUnless, tourOf}
+use Rattle.tour.specs.Tour.{Left, left, roomCheck, tourCheck, tourCheckWithin, toured, touredUnless, tourOf, tourWithin}
 use Rattle.tour.proofs.DoorLaws.{rooms-fine}
 use Rattle.tour_laws.proofs.TourLaws.{tour-long}
 use Rattle.list.specs.Lines.{tourLines, refusalLine, listOf}
 
 -- rooms of the largest size suffice for every accepted card
 same-check : (s : List ℕ) → tourCheck s contourLimit entryLimit ≡ checkOf s
-unfolding tourCheck firstRefusal
+unfolding tourCheckWithin firstRefusal
 same-check s = go (checkOf s) refl
   where
     go : (a : Check) → checkOf s ≡ a → orElse a (orElse (roomCheck s contourLimit entryLimit) Fine) ≡ a
@@ -68,7 +68,7 @@ module _ (s room : List ℕ) (table : List Float) where
   module _ (seats : length room ≡ contourLimit) (entries : length table ≡ entryLimit) (told : Toured) (after : List ℕ)
       (rest : List Float) (is : left told after rest ≡ tourOf s room table) where
     as-checked : tourOf s room table ≡ touredUnless (checkOf s) (toured s room table) room table
-    unfolding tourOf
+    unfolding tourWithin
     as-checked = rw (seats, entries, same-check s)
 
     pub refused-listed : (r : Refusal) → told ≡ answer.Refused r → refusalLine r ≡ listOf s

@@ -20,7 +20,7 @@ use Rattle.closure.specs.Limits.{contourLimit, pairLimit}
 use Rattle.fields.specs.Limits.{candidateLimit, vertexLimit}
 use Rattle.fields.specs.Layout.{contoursOf, vertexCountOf, homeOffset, vertexOffset}
 use Rattle.fields.specs.Values.{asType, asPreference}
-use Rattle.card.specs.Names.{namedAs, knownBefore, namedOf}
+use Rattle.card.specs.Names.{namedAs, knownBefore, namedOf, namedWithin}
 use Rattle.table.specs.Distances.{homed, homesOf, distancesOf}
 use Rattle.improve.specs.Code.{chartOf}
 use Rattle.instance.specs.Gather.{verticesOf, outlineOf, wayOf, offersOf, gathered, owners, firsts, roomFor}
@@ -29,8 +29,8 @@ use Rattle.instance.specs.Search.{homeOn, candidatesOn, ownersOn, firstsOn, tab
 use Rattle.instance.specs.Prepared.{noDistances, preparedOf}
 use Rattle.solve.specs.Solve.{endIn, outcomeIn}
 use Rattle.tour.specs.declared.Toured.the-variants as answer
-use Rattle.tour.specs.Search.{endOn, outcomeOn}
-use Rattle.tour.specs.Tour.{left, roomCheck, tourCheck, touredUnless, tourOf}
+use Rattle.tour.specs.Search.{endOn, endWithin, outcomeOn}
+use Rattle.tour.specs.Tour.{left, roomCheck, tourCheck, tourCheckWithin, touredUnless, tourOf, tourWithin}
 use Rattle.text.specs.Text.{bytes, decimalOf}
 use Rattle.list.specs.Lines.{headLine, wayWord, nameWords, placeLine, stopLine, stopLines, outcomeLines, tourLines}
 use Rattle.list.specs.Lines.{listUnless, listOf}
@@ -103,7 +103,7 @@ module _ (s t : List ℕ) (w : Twins s t) where
   same-known Absent = same-pairs-on s t w
 
   same-named : namedOf s ≡ namedOf t
-  unfolding namedOf
+  unfolding namedWithin
   same-named = λ i.
       let many = ltb contourLimit (n-same i) || ltb pairLimit (same-pairs s t w i) in
       let stop = cond many (At 0) (same-name-fault s t w i) in
@@ -138,21 +138,21 @@ module _ (s t : List ℕ) (w : Twins s t) where
       (same-owners-on i) (same-firsts-on i) (same-pairs-on s t w i)
 
   pub same-end : endOn s ≡ endOn t
-  unfolding endOn
+  unfolding endWithin
   same-end = λ i. endIn (same-chart i) (n-same i) (same-passes s t w i) (same-limit s t w i)
 
   pub same-outcome : outcomeOn s ≡ outcomeOn t
   same-outcome = λ i. outcomeIn (same-chart i) (same-end i)
 
   same-check : (entries distances : ℕ) → tourCheck s entries distances ≡ tourCheck t entries distances
-  unfolding tourCheck roomCheck
+  unfolding tourCheckWithin roomCheck
   same-check entries distances = λ i.
       let c = length (same-candidates i) in
       firstRefusal (same-verdict s t w i ∷ firstRefusal (refuseIf (ltb entries (n-same i)) 13 (n-same i)
       ∷ refuseIf (ltb distances (c * c)) 13 (c * c) ∷ []) ∷ [])
 
   pub same-tour : (room : List ℕ) (table : List Float) → tourOf s room table ≡ tourOf t room table
-  unfolding tourOf
+  unfolding tourWithin
   same-tour room table = λ i.
       let c = length (same-candidates i) in
       touredUnless (same-check (length room) (length table) i)

@@ -26,12 +26,14 @@ use Rattle.fields.specs.Limits.{cardBytes, perContourLimit, candidateLimit, pas
 use Rattle.fields.specs.Layout.{blocksOf, payload, versionOf, contoursOf, vertexCountOf}
 use Rattle.fields.specs.Layout.{homeOffset, vertexOffset, pairOffset, beforeIdOf, afterIdOf}
 use Rattle.fields.specs.Layout.{headSize, contourSize, vertexSize, pairSize, partOffset}
-use Rattle.card.specs.Stages.{foundIf, isAt, outside, lengthFault, checkFault, kindDue, isVersion, badStart}
-use Rattle.card.specs.Stages.{startFault, headFault, countFault, badContour, contourFault, usedIn, spareEnd, badSpare}
+use Rattle.card.specs.Stages.{foundIf, isAt, outside, lengthFault, lengthFaultWithin, checkFault, kindDue, isVersion}
+use Rattle.card.specs.Stages.{badStart}
+use Rattle.card.specs.Stages.{startFault, headFault, headFaultWithin, countFault, badContour, contourFault, usedIn}
+use Rattle.card.specs.Stages.{spareEnd, badSpare}
 use Rattle.card.specs.Stages.{spareFault, farPoint, farVertex, farPlace, farFault, seekOf, repeatFault, positionOf}
 use Rattle.card.specs.Stages.{nameFault, seat, tagFault}
 use Rattle.card.specs.Names.{seatsOf, pairsOn}
-use Rattle.card.specs.Verdict.{cycleFault, checkOf}
+use Rattle.card.specs.Verdict.{cycleFault, cycleFaultWithin, checkOf, checkWithin}
 use Rattle.card.proofs.SpareLaws.{end-within, end-contour, end-pairs, some-spare}
 use Rattle.card_laws.proofs.JoinedLaws.{no-parts, unruled}
 use Rattle.parts.specs.Twins.{ChecksDue, Twins}
@@ -80,7 +82,7 @@ module _ (s t : List ℕ) (w : Twins s t) where
   -- ---- 1, 2
 
   same-length-fault : lengthFault s ≡ lengthFault t
-  unfolding lengthFault
+  unfolding lengthFaultWithin
   same-length-fault = ap
       (λ (l : ℕ). foundIf (eqb l 0 || (not (eqb (l % blockBytes) 0) || ltb cardBytes l)) (min l (cardBytes + 1)))
       (same-length s t w)
@@ -121,7 +123,7 @@ module _ (s t : List ℕ) (w : Twins s t) where
   -- ---- 4, 5, 6
 
   same-head-fault : headFault s ≡ headFault t
-  unfolding headFault
+  unfolding headFaultWithin
   same-head-fault = λ i. lowest (λ f. getD (
       false
       ∷ ltb contourLimit (n-same i)
@@ -254,7 +256,7 @@ module _ (s t : List ℕ) (w : Twins s t) where
       ∙ sym (unruled t .as-written (λ k h. no-parts t is-one k))
 
   same-cycle-fault : cycleFault s ≡ cycleFault t
-  unfolding cycleFault
+  unfolding cycleFaultWithin
   same-cycle-fault = λ i. firstOnCycle (n-same i) (same-pairs-on i)
 
   -- ---- all
@@ -266,7 +268,7 @@ module _ (s t : List ℕ) (w : Twins s t) where
   after-six Absent g x y e h = λ i. orElse (refuseAt 6 (e i)) (h refl i)
 
   pub same-verdict : checkOf s ≡ checkOf t
-  unfolding checkOf firstRefusal
+  unfolding checkWithin firstRefusal
   same-verdict = λ i.
       orElse (refuseAt 1 (same-length-fault i))
       (orElse (refuseAt 2 (same-check-fault i))

@@ -26,6 +26,7 @@ use Rattle.table.specs.Evaluate.{homeAt, distanceAt}
 use Rattle.points.specs.Numbers.{huge}
 use Rattle.start.specs.Code.{flagCount, Flags}
 use Rattle.start.specs.Nearest.{Ground, Way, reachOf, isOpen, chosen, visit, step, setOut, walked, nearest}
+use Rattle.start.specs.Nearest.{nearestWithin}
 use Rattle.start.specs.declared.Choice.{Choice}
 use Rattle.start.proofs.ChoiceLaws.{InContour, Fair, chosen-fair, chosen-found}
 use Rattle.start.proofs.FlagLaws.{none-marked, flags-none, flags-more, open-is}
@@ -255,7 +256,7 @@ module _ (g : Ground) (n : ℕ) (near : Within g n) (free : Acyclic n (g .pairs)
       subst (λ (x : ℕ). Come g n x (each (step g n) n 0 setOut)) (zero-add n) all
 
   nearest-is : nearest g n ≡ walked g n .tour
-  unfolding nearest
+  unfolding nearestWithin
   nearest-is = rw (le-leb n contourLimit most)
 
   -- over pairs without a cycle the start has a stop for every contour

@@ -15,7 +15,7 @@ use Rattle.table.specs.Each.{each}
 use Rattle.table.specs.Evaluate.{homeAt, distanceAt}
 use Rattle.start.specs.Code.{groundOf, Tells, Flags, Written}
 use Rattle.start.specs.Nearest.{reachOf, closer, offer, offered, isOpen, considered, chosen, nothingYet, Ground}
-use Rattle.start.specs.Nearest.{Way, lastOf, visit, step, setOut, walked, nearest}
+use Rattle.start.specs.Nearest.{Way, lastOf, visit, step, setOut, walked, nearest, nearestWithin}
 use Rattle.start.specs.declared.Choice.{Choice}
 use Rattle.start.proofs.FlagLaws.{open-is}
 
@@ -155,7 +155,7 @@ pub written : (g : Ground) (n : ℕ) (tour room visited : List ℕ) (made : ℕ)
     → made ≤ length tour
     → wayOf tour visited made ≡ each (step g n) n 0 setOut → drop made tour ≡ drop made room
     → Written (nearest g n) room made tour
-unfolding nearest walked
+unfolding nearestWithin walked
 written g n tour room visited made m h k w e =
     let q : nearest g n ≡ take made tour = rw (le-leb n contourLimit h) (sym (ap (λ (x : Way). x .tour) w)) in
     let l : length (take made tour) ≡ made = length-take-le made tour k in
@@ -163,5 +163,5 @@ written g n tour room visited made m h k w e =
 
 -- too many contours: nothing is written
 pub unwritten : (g : Ground) (n : ℕ) (room : List ℕ) → contourLimit < n → Written (nearest g n) room 0 room
-unfolding nearest
+unfolding nearestWithin
 unwritten g n room h = rw (lt-leb n contourLimit h) (record { counted = refl; held = refl })

@@ -99,6 +99,10 @@ setOut = record { tour = []; visited = [] }
 unfoldable pub walked : Ground → ℕ → Way
 walked g n = each (step g n) n 0 setOut
 
--- the start: a tour of n contours, or of those that can be reached; none where there are more contours than a card has
-unfoldable pub nearest : Ground → ℕ → List ℕ
-nearest g n = let w = walked g n in cond (leb n contourLimit) (w .tour) []
+-- the start: a tour of n contours, or of those that can be reached; none where there are more contours than `most`
+unfoldable pub nearestWithin : ℕ → Ground → ℕ → List ℕ
+nearestWithin most g n = let w = walked g n in cond (leb n most) (w .tour) []
+
+-- no more than a card has
+abbrev pub nearest : Ground → ℕ → List ℕ
+nearest g n = nearestWithin contourLimit g n

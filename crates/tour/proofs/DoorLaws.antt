@@ -20,7 +20,8 @@ use Rattle.answer.proofs.RoomLaws.{room-back}
 use Rattle.tour.specs.declared.Toured.the-variants as answer
 use Rattle.instance.specs.Search.{countOn, tableOn, chartOn}
 use Rattle.tour.specs.Search.{endOn, tourOn}
-use Rattle.tour.specs.Tour.{Left, left, roomCheck, tourCheck, toured, touredUnless, tourOf}
+use Rattle.tour.specs.Tour.{Left, left, roomCheck, tourCheck, tourCheckWithin, toured, touredUnless, tourOf}
+use Rattle.tour.specs.Tour.{tourWithin}
 
 -- ---- the rooms' sizes
 
@@ -51,13 +52,13 @@ toured-is s room part table after o n d w k e f =
 
 module _ (s room : List ℕ) (table : List Float) (a : Check) (is : a ≡ checkOf s) where
   pub tour-refused : (r : Refusal) → a ≡ Refused r → left (answer.Refused r) room table ≡ tourOf s room table
-  unfolding tourOf tourCheck firstRefusal
+  unfolding tourWithin tourCheckWithin firstRefusal
   tour-refused r e = rw (← is, e)
 
   pub tour-fine : (l : Left) → a ≡ Fine
       → l ≡ touredUnless (roomCheck s (length room) (length table)) (toured s room table) room table
       → l ≡ tourOf s room table
-  unfolding tourOf tourCheck firstRefusal
+  unfolding tourWithin tourCheckWithin firstRefusal
   tour-fine l e f =
       let rooms = roomCheck s (length room) (length table) in
       let same : rooms ≡ tourCheck s (length room) (length table) = rw (← is, e) (last-stage rooms rooms refl) in

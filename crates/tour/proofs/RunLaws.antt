@@ -15,7 +15,7 @@ use Rattle.instance.specs.Prepared.{PreparedOn, chartIn}
 use Rattle.instance.proofs.PreparedLaws.{table-fills, chart-on}
 use Rattle.solve.specs.declared.Outcome.{Outcome}
 use Rattle.solve.specs.Solve.{endIn, Solved}
-use Rattle.tour.specs.Search.{endOn}
+use Rattle.tour.specs.Search.{endOn, endWithin}
 
 module _ (s : List ℕ) (p : Prepared) (h : PreparedOn s p) (room table : List Float)
     (size : length room ≡ countOn s * countOn s)
@@ -43,7 +43,7 @@ module _ (s : List ℕ) (p : Prepared) (h : PreparedOn s p) (room table : List F
   pub solved-on : (n most limit : ℕ) (tour after : List ℕ) (r : Outcome) → n ≡ contoursOf s → most ≡ passesOf s
       → limit ≡ moveLimitOf s
       → Solved lent (endIn lent n most limit) tour r after → Solved (chartOn s) (endOn s) tour r after
-  unfolding endOn
+  unfolding endWithin
   solved-on n most limit tour after r en em el w =
       subst (λ (chart : Chart). Solved chart (endIn chart (contoursOf s) (passesOf s) (moveLimitOf s)) tour r after)
       lent-is (rw (en, em, el) at w)

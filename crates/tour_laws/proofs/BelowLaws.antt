@@ -12,7 +12,7 @@ use Rattle.bytes.specs.Bytes.{rev}
 use Rattle.closure.specs.Limits.{contourLimit}
 use Rattle.table.specs.Each.{each}
 use Rattle.table.proofs.EachLaws.{each-keeps}
-use Rattle.start.specs.Nearest.{Ground, Way, chosen, visit, step, setOut, walked, nearest}
+use Rattle.start.specs.Nearest.{Ground, Way, chosen, visit, step, setOut, walked, nearest, nearestWithin}
 use Rattle.start.proofs.ChoiceLaws.{chosen-fair}
 use Rattle.improve.specs.Search.{Chart, ownerOf, turned, searched}
 use Rattle.improve.proofs.ReversalLaws.{Parts, parts, turned-parts, length-turned}
@@ -116,7 +116,7 @@ step-below g n t i w bound h =
 
 -- so the start has no others
 pub start-below : (g : Ground) (n t : ℕ) → ((k : ℕ) → getD (g .first) k 0 ≤ t) → AllBelow t (nearest g n)
-unfolding nearest walked AllBelow
+unfolding nearestWithin walked AllBelow
 start-below g n t bound = go (leb n contourLimit)
   where
     all : AllBelow t (each (step g n) n 0 setOut .tour)

@@ -17,23 +17,23 @@ use Rattle.table.specs.Each.{each}
 use Rattle.table.specs.Evaluate.{lengthOf}
 use Rattle.table.specs.Distances.{legOf, legAt, listed, chained, rowOf, distancesOf, homeLeg, homesOf}
 use Rattle.start.specs.Nearest.{lastOf, reachOf, closer, offer, offered, isIn, isOpen, considered, chosen, visit, step}
-use Rattle.start.specs.Nearest.{walked, nearest}
+use Rattle.start.specs.Nearest.{walked, nearestWithin}
 use Rattle.improve.specs.Search.{contours, shorter, judged, atLimit, tried, swap, alternative, turn, turned, flip}
-use Rattle.improve.specs.Search.{reversal, row, pass, repeated, searched}
+use Rattle.improve.specs.Search.{reversal, row, pass, repeated, searchedWithin}
 use Rattle.instance.specs.Gather.{verticesOf, outlineOf, offersOf, gathered, owners, firsts}
 use Rattle.instance.specs.Search.{chartOn}
-use Rattle.tour.specs.Search.{endOn}
-use Rattle.tour.specs.Tour.{tourCheck, roomCheck, tourOf}
+use Rattle.tour.specs.Search.{endWithin}
+use Rattle.tour.specs.Tour.{tourCheckWithin, roomCheck, tourWithin}
 
 -- to unfold this name is to unfold all of these, and what the verdict is computed through. A definition that the tour
 -- comes to need is added here only
 unfoldable pub tour-computes : Unit {0}
-unfolding verdict-computes tourOf tourCheck roomCheck endOn chartOn
+unfolding verdict-computes tourWithin tourCheckWithin roomCheck endWithin chartOn
     gathered owners firsts verticesOf outlineOf offersOf asType asPreference pointAt
     candidatesOf candidatesFrom spaced target perimeterOf around reaches onEdge spotFrom lastSpot spotAt closing edges
     alongOf distanceOf distanceSqOf squares sqrtOf rootFinite halves wholeRoot digits
     homesOf homeLeg distancesOf rowOf legAt legOf listed chained each lengthOf walk legs
-    nearest walked step visit chosen considered isOpen isIn offered offer closer reachOf lastOf
-    searched repeated pass turn alternative swap judged shorter tried atLimit row reversal flip turned rev slice
+    nearestWithin walked step visit chosen considered isOpen isIn offered offer closer reachOf lastOf
+    searchedWithin repeated pass turn alternative swap judged shorter tried atLimit row reversal flip turned rev slice
     contours keepsPairs keptIn lastRank every add sub mul div rem neg lt le eq ofInt sum
 tour-computes = tt

@@ -29,7 +29,7 @@ use Rattle.instance.proofs.OwnerLaws.{first-at, grouped}
 use Rattle.solve.specs.Solve.{groundIn}
 use Rattle.card.specs.Names.{pairsOn}
 use Rattle.instance.specs.Search.{homeOn, candidatesOn, countOn, ownersOn, firstsOn, chartOn}
-use Rattle.tour.specs.Search.{startOn, endOn, tourOn}
+use Rattle.tour.specs.Search.{startOn, endWithin, tourOn}
 use Rattle.tour_laws.specs.Visits.{AllBelow, Visits}
 use Rattle.tour_laws.proofs.BelowLaws.{below-at, below-kept, start-below}
 use Rattle.tour_laws.proofs.GatherLaws.{firsts-below, ends-gathered, candidate-near}
@@ -117,11 +117,11 @@ module _ (s : List ℕ) (fine : checkOf s ≡ Fine) where
 
   -- as many entries as the card has contours
   pub tour-long : length (tourOn s) ≡ contoursOf s
-  unfolding endOn
+  unfolding endWithin
   tour-long = same-length (chartOn s) (passesOf s) (moveLimitOf s) (startOn s) ∙ start-long
 
   tour-each : EachOnce (contoursOf s) (contours (ownersOn s) (tourOn s))
-  unfolding endOn chartOn
+  unfolding endWithin chartOn
   tour-each =
       shuffled-once (contoursOf s) (contours (ownersOn s) (startOn s)) (contours (ownersOn s) (tourOn s))
       (start-order .each)
@@ -129,7 +129,7 @@ module _ (s : List ℕ) (fine : checkOf s ≡ Fine) where
       (contours-kept (chartOn s) (passesOf s) (moveLimitOf s) (startOn s) (grouped s (contoursOf s)))
 
   tour-keeps : legal (chartOn s) (tourOn s) ≡ true
-  unfolding endOn chartOn
+  unfolding endWithin chartOn
   tour-keeps =
       legal-kept (chartOn s) (passesOf s) (moveLimitOf s) (startOn s) (grouped s (contoursOf s))
       (legal-keeps (contoursOf s) (contours (ownersOn s) (startOn s)) (start-order .each) (pairsOn s) start-order)
@@ -144,7 +144,7 @@ module _ (s : List ℕ) (fine : checkOf s ≡ Fine) where
 
   -- all of them candidates of the card
   pub tour-among : AllBelow (countOn s) (tourOn s)
-  unfolding endOn chartOn
+  unfolding endWithin chartOn
   tour-among =
       below-kept (chartOn s) (passesOf s) (moveLimitOf s) (countOn s) (startOn s)
       (firsts-below s (contoursOf s)) start-among

@@ -20,7 +20,7 @@ use Rattle.instance.specs.Search.{candidatesOn, chartOn}
 use Rattle.solve.specs.declared.Outcome.{Outcome}
 use Rattle.solve.specs.Solve.{startIn}
 use Rattle.tour.specs.declared.Toured.the-variants.{Done}
-use Rattle.tour.specs.Search.{startOn, endOn, tourOn}
+use Rattle.tour.specs.Search.{startOn, endOn, endWithin, tourOn}
 use Rattle.tour.specs.Tour.{tourOf}
 use Rattle.tour_laws.proofs.Computes.{tour-computes}
 use Rattle.text.specs.Text.{bytes}
@@ -126,7 +126,7 @@ unfolding tour-computes line
 capped-computed = record { tour-is = refl; tour-long = refl; moves-are = refl }
 
 end-is : (s : List ℕ) → endIn (chartOn s) (passesOf s) (contoursOf s) (moveLimitOf s) ≡ endOn s
-unfolding endOn
+unfolding endWithin
 end-is s = refl
 
 pub ends : (s : List ℕ) (chart : Chart) (limit : ℕ) → Read s chart limit → (tour : List ℕ) (length moves : ℕ)

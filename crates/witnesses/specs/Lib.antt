@@ -2,3 +2,4 @@ pub mod Examples
 pub mod Taken
 pub mod Slit
 pub mod ReadBack
+pub mod Larger

@@ -7,7 +7,7 @@ use lib.ListN.{getD}
 use denote.Ref.{now}
 use Rattle.card.proofs.FaultLaws.{field-is}
 use Rattle.answer.proofs.LowestLaws.{Nowhere}
-use Rattle.card.specs.Stages.{headFaults, headFault}
+use Rattle.card.specs.Stages.{headFaults, headFaultWithin}
 use Rattle.card.proofs.LoopLaws.{none-yet, one-more, found-here, none-found}
 use Rattle.card.proofs.head_fault.Statement.{statement}
 use Rattle.card.proofs.head_fault.Tie as tie
@@ -27,7 +27,7 @@ loop-holds c = (
 )
 
 returns : tie.Need-returns Inv-loop μ-loop
-unfolding headFault
+unfolding headFaultWithin
 returns c = let s = now (c .before .before .before .before .before .args .card) in
     let i = c .before .before .loop .inv in
     found-here (λ i. getD (headFaults s) i false) 8 _ (c .before .loop-test .taken) (i .2)
@@ -39,7 +39,7 @@ loop-again c = let s = now (c .before .before .before .before .before .args .car
     (i .0, omega arith, one-more (λ i. getD (headFaults s) i false) _ (i .2) (field-is s _ _ _ (i .0) (c .if1 .left)))
 
 returns-2 : tie.Need-returns-2 Inv-loop μ-loop
-unfolding headFault
+unfolding headFaultWithin
 returns-2 c = let s = now (c .before .before .before .before .args .card) in
     none-found (λ i. getD (headFaults s) i false) 8 _ (c .loop-test .left) (c .before .loop .inv .2)
 

@@ -1,0 +1,103 @@
+-- What a reader from before says of every sound card. Assumes nothing.
+use mathlib.Core.Path.{_≡_, refl, _∙_}
+use mathlib.Core.Bool.{false, not, or-true}
+use mathlib.Core.List.{List}
+use Prim.Native.Nat.{ℕ, zero, suc, _+_, _%_, _≤_, _<_, min}
+use native.Mathlib.Omega.{arith}
+use borrow.Author.Tests.{lt-ltb, le-ltb}
+use lib.Dec.{eqb, lit<}
+use lib.ListN.{length, getD}
+use Rattle.answer.specs.declared.Found.the-variants.{At, Absent}
+use Rattle.answer.specs.declared.Check.the-variants.{Fine}
+use Rattle.answer.proofs.LowestLaws.{at-is}
+use Rattle.answer.proofs.StageLaws.{is-fine}
+use Rattle.block.specs.Block.{blockBytes}
+use Rattle.fields.specs.Layout.{contoursOf, pairsOf}
+use Rattle.card.specs.Limits.{today, before}
+use Rattle.card.specs.Stages.{lengthFaultWithin, checkFault, startFault, headFaultsWithin, headFaultWithin}
+use Rattle.card.specs.Verdict.{stagesWithin, checkWithin, checkOf}
+use Rattle.card.proofs.GroupLaws.{fine-absent}
+use Rattle.card_laws.proofs.Facts.{accepted}
+use Rattle.filed.specs.Reader.{Raised, Refuses, NotLarger, Longer, MoreContours, MorePairs, Reads, Claim}
+use Rattle.filed.proofs.LimitLaws.{Passes, Small, passes, small, one-verdict, one-head, one-cycle, length-again}
+
+module _ (s : List ℕ) (fine : checkOf s ≡ Fine) where
+  now : Passes today s
+  now = passes today s fine
+
+  short-fine : length s ≤ 23040 → lengthFaultWithin (before .bytes) s ≡ Absent
+  short-fine h = length-again (today .bytes) (before .bytes) s (now .length-fine) h
+
+  short : contoursOf s ≤ 40 → pairsOf s ≤ 124 → length s ≤ 23040
+  short n m = let whole = accepted s fine .whole in omega arith
+
+  not-larger : NotLarger s
+  not-larger n m =
+      let here : Small before s = record { contours = n; pairs = m } in
+      let there = small today s (now .head-fine) in
+      one-verdict before today s (record {
+        length-fine = short-fine (short n m);
+        head-fine = one-head before today s here there ∙ now .head-fine;
+        cycle-fine = one-cycle before today s here there ∙ now .cycle-fine;
+      }) now ∙ fine
+
+  too-long : 23040 < length s → lengthFaultWithin (before .bytes) s ≡ At 23041
+  unfolding lengthFaultWithin
+  too-long h =
+      let a = eqb (length s) 0 in
+      let b = not (eqb (length s % blockBytes) 0) in
+      let e : min (length s) (before .bytes + 1) ≡ 23041 = omega arith in
+      rw (lt-ltb (before .bytes) (length s) h, or-true b, or-true a, e)
+
+  longer : Longer s
+  unfolding checkWithin
+  longer h = rw (too-long h)
+
+  -- the stages between the length and the head name no limit
+  checks-fine : checkFault s ≡ Absent
+  unfolding checkWithin
+  checks-fine = fine-absent 2 (checkFault s) (is-fine (stagesWithin today s) fine 1 (lit< tt))
+
+  start-fine : startFault s 1 ≡ Absent
+  unfolding checkWithin
+  start-fine = fine-absent 3 (startFault s 1) (is-fine (stagesWithin today s) fine 2 (lit< tt))
+
+  at-field : (f : ℕ) → length s ≤ 23040 → headFaultWithin (before .contours) (before .pairs) s ≡ At f → Refuses s 4 f
+  unfolding checkWithin
+  at-field f h e = rw (short-fine h, checks-fine, start-fine, e)
+
+  first-field : 40 < contoursOf s → headFaultWithin (before .contours) (before .pairs) s ≡ At 1
+  unfolding headFaultWithin
+  first-field n =
+      at-is (λ f. getD (headFaultsWithin (before .contours) (before .pairs) s) f false) 8 1
+      (record { within = lit< tt; holds = lt-ltb 40 (contoursOf s) n; before = none })
+    where
+      none : (j : ℕ) → j < 1 → getD (headFaultsWithin (before .contours) (before .pairs) s) j false ≡ false
+      none zero h = refl
+      none (suc j) h = absurd (omega arith)
+
+  second-field : contoursOf s ≤ 40 → 124 < pairsOf s → headFaultWithin (before .contours) (before .pairs) s ≡ At 2
+  unfolding headFaultWithin
+  second-field n m =
+      at-is (λ f. getD (headFaultsWithin (before .contours) (before .pairs) s) f false) 8 2
+      (record { within = lit< tt; holds = lt-ltb 124 (pairsOf s) m; before = none })
+    where
+      none : (j : ℕ) → j < 2 → getD (headFaultsWithin (before .contours) (before .pairs) s) j false ≡ false
+      none zero h = refl
+      none (suc zero) h = le-ltb 40 (contoursOf s) n
+      none (suc (suc j)) h = absurd (omega arith)
+
+  more-contours : MoreContours s
+  more-contours h n = at-field 1 h (first-field n)
+
+  more-pairs : MorePairs s
+  more-pairs h n m = at-field 2 h (second-field n m)
+
+  reads : Reads s
+  reads = record { not-larger = not-larger; longer = longer; more-contours = more-contours; more-pairs = more-pairs }
+
+raised : Raised
+raised = record { bytes = (refl, refl); contours = (refl, refl); pairs = (refl, refl) }
+
+pub claim : Claim
+claim = record { raised = raised; longest-today = refl; longest-before = refl; reads = reads }

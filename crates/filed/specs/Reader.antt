@@ -1,0 +1,52 @@
+-- A reader from before request 2026-04 that knows the card's version: what its limits say of every sound card. Assumes
+-- nothing.
+use mathlib.Core.Path.{_≡_}
+use mathlib.Core.List.{List}
+use Prim.Native.Nat.{ℕ, _+_, _*_, _-_, _/_, _≤_, _<_}
+use lib.ListN.{length}
+use Rattle.answer.specs.declared.Check.the-variants.{Fine, Refused}
+use Rattle.block.specs.Block.{blockBytes}
+use Rattle.fields.specs.Limits.{pairsABlock}
+use Rattle.fields.specs.Layout.{contoursOf, pairsOf}
+use Rattle.card.specs.Limits.{Limits, today, before}
+use Rattle.card.specs.Verdict.{checkWithin, checkOf}
+
+-- what the request raised, in numbers
+pub record Raised : Type 0 where
+  pub bytes : (before .bytes ≡ 23040) × (today .bytes ≡ 45568)
+  pub contours : (before .contours ≡ 40) × (today .contours ≡ 80)
+  pub pairs : (before .pairs ≡ 124) × (today .pairs ≡ 248)
+
+-- the file of a card with the most contours and pairs is the longest: its head, a block each, and its pairs
+abbrev pub Longest : Limits → Type 0
+Longest l = l .bytes ≡ blockBytes * (1 + l .contours + (l .pairs + (pairsABlock - 1)) / pairsABlock)
+
+-- that reader sends the card back with this number and place
+abbrev pub Refuses : List ℕ → ℕ → ℕ → Type 0
+Refuses s number place = checkWithin before s ≡ Refused (record { number = number; place = place })
+
+-- a card that is not larger is fine with it too
+abbrev pub NotLarger : List ℕ → Type 0
+NotLarger s = contoursOf s ≤ 40 → pairsOf s ≤ 124 → checkWithin before s ≡ Fine
+
+-- a larger one goes back with 1 for its length, else with 4 for its contours, else with 4 for its pairs
+abbrev pub Longer : List ℕ → Type 0
+Longer s = 23040 < length s → Refuses s 1 23041
+
+abbrev pub MoreContours : List ℕ → Type 0
+MoreContours s = length s ≤ 23040 → 40 < contoursOf s → Refuses s 4 1
+
+abbrev pub MorePairs : List ℕ → Type 0
+MorePairs s = length s ≤ 23040 → contoursOf s ≤ 40 → 124 < pairsOf s → Refuses s 4 2
+
+pub record Reads (s : List ℕ) : Type 0 where
+  pub not-larger : NotLarger s
+  pub longer : Longer s
+  pub more-contours : MoreContours s
+  pub more-pairs : MorePairs s
+
+pub record Claim : Type 0 where
+  pub raised : Raised
+  pub longest-today : Longest today
+  pub longest-before : Longest before
+  pub reads : (s : List ℕ) → checkOf s ≡ Fine → Reads s
