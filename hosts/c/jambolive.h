@@ -5,7 +5,7 @@
  * and what a comment does not name stays as it was; after a refusal that is everything. The lent parts may not overlap.
  *
  * Calls may run side by side: the library has no memory of its own.
- * A call takes less than JL_STACK_BYTES of stack.
+ * A call takes at most JL_STACK_BYTES of stack.
  * It asks for memcpy, memset and fmod of the C library (-lm), and is right if they are.
  * No bytes and no room need no address: NULL with 0 behind it will do. */
 #ifndef JAMBOLIVE_H
@@ -19,11 +19,14 @@ extern "C" {
 #endif
 
 /* The most contours of a card, so the most entries of a tour; the most pairs that are written on it. */
-#define JL_CONTOURS 40
-#define JL_PAIRS 124
+#define JL_CONTOURS 80
+#define JL_PAIRS 248
 
-/* The stack that a call takes at most, in bytes (hosts/c/stack.c measures it). */
-#define JL_STACK_BYTES 98304
+/* The stack that each call takes at most, in bytes, and so any of them (hosts/c/stack.c measures it, up to the largest card). */
+#define JL_CHECK_STACK_BYTES 16384
+#define JL_PLACE_STACK_BYTES 32768
+#define JL_TOUR_STACK_BYTES 98304
+#define JL_STACK_BYTES JL_TOUR_STACK_BYTES
 
 /* The bytes of a block, and the pairs that one takes. */
 #define JL_BLOCK 512
@@ -51,7 +54,9 @@ uint64_t jl_check(const uint8_t *card, size_t bytes);
  * 2026-01 did not: with three candidates a contour or more the tour may be another than then, mostly shorter and now and
  * then longer; with fewer it is the same (docs/DIFFERENCES.md). On a card of version 2, which a library from before
  * request 2026-02 refuses, each hole of a part is cut before the first outline with its part and instance, besides what
- * the pairs say; pairs against that are refusal 12. */
+ * the pairs say; pairs against that are refusal 12. A library from before request 2026-04 takes up to 40 contours and 124
+ * pairs and refuses a larger card with 1 or 4; that request changed no tour of a card that it takes. JL_CONTOURS entries
+ * are room enough for any tour. */
 uint64_t jl_tour(const uint8_t *card, size_t bytes, uint8_t *tour, size_t room, uint64_t *moves, uint64_t *length);
 
 /* Writes the position of the contour that a candidate belongs to, and its number within that contour. A card that is not

@@ -11,7 +11,7 @@ fn example(name: &str) -> Vec<u8> {
 
 #[test]
 fn every_example_prints_its_list() {
-    for name in ["job-41", "sheet", "refused", "slit", "holes"] {
+    for name in ["job-41", "sheet", "refused", "slit", "holes", "panel"] {
         let due = String::from_utf8(example(&format!("{name}.list"))).unwrap();
         assert_eq!(list(&example(&format!("{name}.card"))), due, "{name}");
     }
@@ -45,6 +45,17 @@ fn holes() {
     let sum = u32::from_le_bytes(card[check_at..].try_into().unwrap()) - 2;
     card[check_at..].copy_from_slice(&sum.to_le_bytes());
     assert_eq!(check(&card), Err(Refusal::Start { block: 3 }));
+}
+
+/// As many contours as a card has: each is cut once, the outline last.
+#[test]
+fn panel() {
+    let card = example("panel.card");
+    let found = tour(&card).unwrap();
+    assert_eq!((found.candidates.len(), found.candidates[CONTOURS - 1]), (CONTOURS, 0));
+    let mut cut = found.candidates.clone();
+    cut.sort();
+    assert!((0..CONTOURS as u8).eq(cut));
 }
 
 #[test]
