@@ -222,7 +222,8 @@ fn no_part_no_difference() {
 fn the_rule_of_before_is_seen_from_three_candidates_on() {
     let mut elsewhere = 0;
     for case in 0..3000 {
-        let mut card = crate::generate::good(&crate::random::Random::of(1, "rule of before", case), 1);
+        let r = crate::random::Random::of(1, "rule of before", case);
+        let mut card = crate::generate::good_within(&r, 1, crate::limits::Limits::BEFORE);
         card.limit = 0;
         let same = solved(&card) == solved_before(&card);
         assert!(same || card.c > 2, "case {case}");

@@ -1,10 +1,12 @@
 //! The cards at the edges that the paper names ("Both sides of each edge") and at further limits of its table, with what
-//! it says of each; then those of request 2026-02.
+//! it says of each; then those of requests 2026-02 and 2026-04. The first stand where the paper's limits stood before
+//! request 2026-04.
 
 use crate::card::{Card, Contour, Pair, seal};
 use crate::generate::sheet;
 use crate::limits::{
-    BLOCK, CANDIDATES, CHECK_AT, CONTOURS, PAIRS, PER_CONTOUR, REACH, VERSION_AT, VERTICES, contour, head, shared,
+    BLOCK, CANDIDATES, CARD_BYTES, CHECK_AT, CONTOURS, Limits, PAIRS, PAIRS_A_BLOCK, PER_CONTOUR, REACH, VERSION_AT,
+    VERTICES, contour, head, shared,
 };
 use crate::random::Random;
 use crate::reading::Refusal;
@@ -51,10 +53,11 @@ pub type Edge = (Vec<u8>, Option<Refusal>);
 /// The edges that the paper names, and those of its further limits.
 pub fn edges() -> Vec<Edge> {
     let pair = Pair { before: (1, 1), after: (2, 2) };
+    let Limits { contours, pairs } = Limits::BEFORE;
     let mut all = vec![
-        (parts(CONTOURS, shared(CONTOURS), 0), None),
-        (parts(CONTOURS, shared(CONTOURS), PAIRS), None),
-        (parts(CONTOURS + 1, 1, 0), Some((4, 1))),
+        (parts(contours, shared(contours), 0), None),
+        (parts(contours, shared(contours), pairs), None),
+        (parts(contours + 1, 1, 0), None),
         (parts(CANDIDATES / 3, 3, 0), None),
         (parts(CANDIDATES / 3 + 1, 3, 0), Some((4, 7))),
         (parts(CANDIDATES / PER_CONTOUR, PER_CONTOUR, 0), None),
@@ -64,8 +67,8 @@ pub fn edges() -> Vec<Edge> {
         (saw(0), Some((6, 0))),
         (saw(VERTICES), None),
         (saw(VERTICES + 1), Some((6, 0))),
-        (parts(3, 2, PAIRS), None),
-        (parts(3, 2, PAIRS + 1), Some((4, 2))),
+        (parts(3, 2, pairs), None),
+        (parts(3, 2, pairs + 1), None),
         (empty(vec![]), None),
         (empty(vec![pair]), Some((10, 0))),
         (row(4, &[(3, 3)]), Some((12, 3))),
@@ -103,11 +106,13 @@ fn saw_of_a_part(v: usize) -> Card {
     card
 }
 
-/// As many written pairs as a card takes, and by rule one more for every contour but the last, whose holes they all are.
-fn all_by_rule() -> Card {
-    let mut card = Card { version: 2, ..parts(CONTOURS, shared(CONTOURS), PAIRS) };
+/// As many contours and written pairs as these limits allow, and by rule one pair more for every contour but the last, whose
+/// holes they all are.
+fn all_by_rule(limits: Limits) -> Card {
+    let Limits { contours, pairs } = limits;
+    let mut card = Card { version: 2, ..parts(contours, shared(contours), pairs) };
     for (k, contour) in card.contours.iter_mut().enumerate() {
-        (contour.part, contour.interior) = (1, k + 1 < CONTOURS);
+        (contour.part, contour.interior) = (1, k + 1 < contours);
     }
     card
 }
@@ -139,7 +144,7 @@ fn of_the_rule() -> Vec<(Card, Option<Refusal>)> {
         // a cycle by two rules
         (grouped(&two_parts, &[(0, 3), (2, 1)]), Some((12, 0))),
         (grouped(&two_parts, &[(0, 3)]), None),
-        (all_by_rule(), None),
+        (all_by_rule(Limits::BEFORE), None),
     ]
 }
 
@@ -148,7 +153,7 @@ fn of_the_version() -> Vec<Edge> {
     let mut all = written(vec![
         (saw_of_a_part(VERTICES), None),
         (saw_of_a_part(VERTICES + 1), Some((6, 0))),
-        (Card { version: 2, ..parts(3, 2, PAIRS + 1) }, Some((4, 2))),
+        (Card { version: 2, ..parts(3, 2, Limits::BEFORE.pairs + 1) }, None),
         (Card { version: 2, ..empty(vec![]) }, None),
         (Card { version: 0, ..row(2, &[]) }, Some((3, 0))),
         (Card { version: 3, ..row(2, &[]) }, Some((3, 0))),
@@ -183,11 +188,48 @@ pub fn edges_of_parts() -> Vec<Edge> {
     [written(of_the_rule()), of_the_version()].concat()
 }
 
+/// The edges of request 2026-04, in either version: the most contours, pairs and bytes, and more.
+pub fn edges_of_size() -> Vec<Edge> {
+    /// What is longer than any card.
+    const LONG: Option<Refusal> = Some((1, CARD_BYTES as u64 + 1));
+    // with a contour too many so many pairs still fit into the longest card
+    let fitting = PAIRS - PAIRS_A_BLOCK;
+    let sizes = [
+        (CONTOURS - 1, 1, 0, None),
+        (CONTOURS, 1, 0, None),
+        (CONTOURS, 1, PAIRS, None),
+        (CONTOURS, 2, 0, Some((4, 7))),
+        (CANDIDATES / 2 + 1, 2, 0, Some((4, 7))),
+        (CONTOURS + 1, 1, 0, Some((4, 1))),
+        (CONTOURS + 1, 1, fitting, Some((4, 1))),
+        (CONTOURS + 1, 1, fitting + 1, LONG),
+        (CONTOURS, 1, PAIRS + 1, LONG),
+        (CONTOURS - 1, 1, PAIRS, None),
+        (CONTOURS - 1, 1, PAIRS + 1, Some((4, 2))),
+        (2, 1, PAIRS, None),
+        (2, 1, PAIRS + 1, Some((4, 2))),
+    ];
+    let of = |version: u8| {
+        let mut all = written(sizes.map(|(n, c, m, due)| (Card { version, ..parts(n, c, m) }, due)).into());
+        let longest = Card { version, ..parts(CONTOURS, 1, PAIRS) }.bytes();
+        assert_eq!(longest.len(), CARD_BYTES);
+        let cut = |bytes: usize| {
+            let mut card = longest.clone();
+            card.resize(bytes, 0);
+            card
+        };
+        all.push((cut(CARD_BYTES - 1), Some((1, CARD_BYTES as u64 - 1))));
+        all.extend([1, BLOCK].map(|more| (cut(CARD_BYTES + more), LONG)));
+        all
+    };
+    [of(1), of(2), written(vec![(all_by_rule(Limits::TODAY), None)])].concat()
+}
+
 /// The second reading, the check and the export say what the paper says.
 #[test]
 fn each_edge_is_as_the_paper_says() {
     use crate::{check, doors::refused, exports, reading};
-    for (k, (bytes, due)) in edges().into_iter().chain(edges_of_parts()).enumerate() {
+    for (k, (bytes, due)) in [edges(), edges_of_parts(), edges_of_size()].concat().into_iter().enumerate() {
         let code = due.map_or(0, |(number, place)| refused(number, place));
         assert_eq!(reading::refusal(&bytes), due, "edge {k}");
         assert_eq!((check::check(&bytes), exports::check(&bytes)), (code, Ok(code)), "edge {k}");

@@ -2,8 +2,8 @@
 
 use crate::card::{Card, Contour, Pair, seal};
 use crate::limits::{
-    AUTO, BLOCK, CANDIDATES, CARD_BYTES, CHECK_AT, CONTOURS, PAIR, PAIRS, PAIRS_A_BLOCK, PASSES, PAYLOAD_AT,
-    PER_CONTOUR, REACH, VERSION_AT, VERTEX, VERTICES, contour, head, shared,
+    AUTO, BLOCK, CANDIDATES, CHECK_AT, Limits, PAIR, PAIRS_A_BLOCK, PASSES, PAYLOAD_AT, PER_CONTOUR, REACH, VERSION_AT,
+    VERTEX, VERTICES, contour, head, shared,
 };
 use crate::random::{KINDS, Kind, Random};
 use crate::reading::by_rule;
@@ -52,17 +52,33 @@ pub fn slit() -> Card {
 
 /// Good cards of every shape, of either version.
 pub fn good(r: &Random, version: u8) -> Card {
+    // now and then larger than before request 2026-04
+    if r.one_in(32) { large(r, version) } else { good_within(r, version, Limits::BEFORE) }
+}
+
+/// Good cards with more contours than before request 2026-04. Few have no limit: the original takes long over them.
+pub fn large(r: &Random, version: u8) -> Card {
+    let most = Limits::TODAY.contours;
+    let n = r.pick(&[r.from(Limits::BEFORE.contours + 1, most), r.from(Limits::BEFORE.contours + 1, most), most]);
+    let card = sized(r, version, n, Limits::TODAY);
+    let limit = r.pick(&[r.from(1, 3), r.from(3, 200), r.from(200, 2000)]);
+    Card { limit: if r.one_in(200) { 0 } else { limit as u32 }, ..card }
+}
+
+/// Good cards of every shape within these limits.
+pub fn good_within(r: &Random, version: u8, limits: Limits) -> Card {
+    let most = limits.contours;
     let n = match r.below(10) {
         0 => r.index(3),
         1..=4 => r.from(3, 8),
-        5..=7 => r.from(9, CONTOURS / 2),
-        _ => r.from(CONTOURS / 2 + 1, CONTOURS),
+        5..=7 => r.from(9, most / 2),
+        _ => r.from(most / 2 + 1, most),
     };
-    sized(r, version, n)
+    sized(r, version, n, limits)
 }
 
-/// Good cards with n contours.
-pub fn sized(r: &Random, version: u8, n: usize) -> Card {
+/// Good cards with n contours, and no more pairs than these limits allow.
+fn sized(r: &Random, version: u8, n: usize, limits: Limits) -> Card {
     let most = shared(n).min(PER_CONTOUR);
     let c = r.pick(&[1, most.min(2), r.from(1, most), most]) as u16;
     // plain sheets come most often: there a search has most to do
@@ -79,12 +95,14 @@ pub fn sized(r: &Random, version: u8, n: usize) -> Card {
         ..Card::default()
     };
     let named = r.below(4);
+    let apart = if n > 64 { 128 } else { 64 };
     for k in 0..n {
         let id = match named {
             0 => k as u32,
             1 => u32::MAX - k as u32,
             2 => (n - k) as u32 * 1000,
-            _ => (r.next() as u32) / 64 * 64 + k as u32,
+            // its last bits are k: no id comes twice
+            _ => (r.next() as u32) / apart * apart + k as u32,
         };
         let tag = if r.one_in(3) { 7 } else { r.next() as u32 };
         let interior = r.one_in(2);
@@ -93,7 +111,7 @@ pub fn sized(r: &Random, version: u8, n: usize) -> Card {
     if version == 2 {
         parts(r, &mut card);
     }
-    pairs(r, &mut card);
+    pairs(r, &mut card, limits.pairs);
     card
 }
 
@@ -114,7 +132,7 @@ fn parts(r: &Random, card: &mut Card) {
 /// Good cards with three contours or more and up to three candidates a contour or more, so that a turn may have two trials.
 pub fn turning(r: &Random, version: u8) -> Card {
     let n = r.from(3, CANDIDATES / 3);
-    let mut card = sized(r, version, n);
+    let mut card = sized(r, version, n, Limits::TODAY);
     card.c = r.from(3, shared(n).min(PER_CONTOUR)) as u16;
     card
 }
@@ -200,8 +218,8 @@ pub fn outline(r: &Random, kind: Kind) -> Vec<(f64, f64)> {
 }
 
 /// Pairs that a legal order exists for: each leads forward in some hidden order of the contours, and so do those by rule, of
-/// which some are written too.
-fn pairs(r: &Random, card: &mut Card) {
+/// which some are written too; no more than so many are written.
+fn pairs(r: &Random, card: &mut Card, limit: usize) {
     let n = card.contours.len();
     if n < 2 || r.one_in(4) {
         return;
@@ -216,7 +234,7 @@ fn pairs(r: &Random, card: &mut Card) {
         0 => (1..n).for_each(|j| add(card, j - 1, j)),
         1 => (1..n).for_each(|j| add(card, j / 2, j)),
         _ => {
-            let most = r.pick(&[1, 4, n, PAIRS_A_BLOCK, PAIRS_A_BLOCK + 1, 2 * PAIRS_A_BLOCK, PAIRS]);
+            let most = r.pick(&[1, 4, n, PAIRS_A_BLOCK, PAIRS_A_BLOCK + 1, 2 * PAIRS_A_BLOCK, limit]);
             for _ in 0..r.from(1, most) {
                 let j = r.from(1, n - 1);
                 let i = r.index(j);
@@ -227,7 +245,7 @@ fn pairs(r: &Random, card: &mut Card) {
     if !rules.is_empty() && r.one_in(4) {
         let written: Vec<Pair> = rules.iter().map(|&(hole, outline)| card.pair(hole, outline)).collect();
         card.pairs.extend(written);
-        card.pairs.truncate(PAIRS);
+        card.pairs.truncate(limit);
     }
     if r.one_in(2) {
         r.shuffle(&mut card.pairs);
@@ -249,48 +267,57 @@ fn hidden_order(r: &Random, n: usize, rules: &[(usize, usize)]) -> Vec<usize> {
     order
 }
 
-/// A damaged card, or one that stands just inside a limit.
+/// A damaged card, or one that stands just inside a limit: of those that hold or, now and then, of those from before.
 pub fn damaged(r: &Random, version: u8) -> Vec<u8> {
-    let card = good(r, version);
+    let limits = if r.one_in(4) { Limits::BEFORE } else { Limits::TODAY };
+    damaged_within(r, good(r, version), limits)
+}
+
+/// A good card with one or two faults, or just inside these limits.
+pub fn damaged_within(r: &Random, card: Card, limits: Limits) -> Vec<u8> {
     let faults = if r.one_in(3) { 2 } else { 1 };
     let kinds: Vec<usize> = (0..faults).map(|_| r.from(1, 13)).collect();
-    with_faults(r, card, &kinds)
+    with_faults(r, card, &kinds, limits)
 }
 
 /// A card with other versions, or other bytes where parts and instances stand, and now and then with a further fault.
 pub fn relabelled(r: &Random, version: u8) -> Vec<u8> {
-    let card = good(r, version);
+    relabelled_within(r, good(r, version), Limits::TODAY)
+}
+
+/// The same of a good card.
+pub fn relabelled_within(r: &Random, card: Card, limits: Limits) -> Vec<u8> {
     let mut kinds = vec![r.pick(&[14, 15])];
     if r.one_in(3) {
         kinds.push(r.from(1, 15));
     }
-    with_faults(r, card, &kinds)
+    with_faults(r, card, &kinds, limits)
 }
 
-fn with_faults(r: &Random, mut card: Card, kinds: &[usize]) -> Vec<u8> {
+fn with_faults(r: &Random, mut card: Card, kinds: &[usize], limits: Limits) -> Vec<u8> {
     for &kind in kinds {
-        in_fields(r, &mut card, kind);
+        in_fields(r, &mut card, kind, limits);
     }
     let mut bytes = card.bytes();
     for &kind in kinds {
-        in_bytes(r, &mut bytes, kind);
+        in_bytes(r, &mut bytes, kind, limits);
     }
     seal(&mut bytes);
     for &kind in kinds {
-        after_seal(r, &mut bytes, kind);
+        after_seal(r, &mut bytes, kind, limits);
     }
     bytes
 }
 
 /// Faults that a card's fields can have, on both sides of each limit.
-fn in_fields(r: &Random, card: &mut Card, kind: usize) {
+fn in_fields(r: &Random, card: &mut Card, kind: usize, limits: Limits) {
     let n = card.contours.len();
     match kind {
         4 => match r.below(4) {
             0 => card.c = r.pick(&[0, 1, PER_CONTOUR, PER_CONTOUR + 1, 65_535, shared(n), shared(n) + 1]) as u16,
             1 => card.passes = r.pick(&[PASSES, PASSES + 1, u16::MAX]),
             2 => (card.exterior, card.interior) = (r.pick(&[AUTO, AUTO + 1, 0]), r.pick(&[0, AUTO, AUTO + 1, 255])),
-            _ => count_edges(r, card),
+            _ => count_edges(r, card, limits),
         },
         6 if n > 0 => {
             let k = r.index(n);
@@ -320,47 +347,48 @@ fn in_fields(r: &Random, card: &mut Card, kind: usize) {
             let side = if r.one_in(2) { &mut pair.before } else { &mut pair.after };
             *(if kind == 10 { &mut side.0 } else { &mut side.1 }) ^= 1 << r.below(32);
         }
-        12 if n > 0 => cycle(r, card),
+        12 if n > 0 => cycle(r, card, limits),
         _ => {}
     }
 }
 
 /// More or fewer contours or pairs, at the limits.
-fn count_edges(r: &Random, card: &mut Card) {
+fn count_edges(r: &Random, card: &mut Card, limits: Limits) {
+    let Limits { contours, pairs } = limits;
     // a block of pairs less than the most: with one contour too many the card is not yet too long
-    const FEWER: usize = PAIRS - PAIRS_A_BLOCK;
+    let fewer = pairs - PAIRS_A_BLOCK;
     if r.one_in(2) {
         card.c = r.pick(&[1, 2]);
-        let n = r.pick(&[CONTOURS - 1, CONTOURS, CONTOURS + 1, CONTOURS + 2]);
+        let n = r.pick(&[contours - 1, contours, contours + 1, contours + 2]);
         while card.contours.len() < n {
             let id = card.contours.len() as u32 + 5_000_000;
             card.contours.push(Contour { id, vertices: vec![(3.0, 4.0)], ..Contour::default() });
         }
-        card.pairs.truncate(r.pick(&[0, PAIRS_A_BLOCK, FEWER]));
+        card.pairs.truncate(r.pick(&[0, PAIRS_A_BLOCK, fewer]));
     } else if let Some(&pair) = card.pairs.first() {
-        let m = r.pick(&[PAIRS_A_BLOCK, PAIRS_A_BLOCK + 1, FEWER, FEWER + 1, PAIRS, PAIRS + 1, PAIRS + 2]);
+        let m = r.pick(&[PAIRS_A_BLOCK, PAIRS_A_BLOCK + 1, fewer, fewer + 1, pairs, pairs + 1, pairs + 2]);
         card.pairs.resize(m, pair);
     }
 }
 
 /// A walk of pairs that comes back, on few or many contours. Steps by rule are often on it, and are not written.
-fn cycle(r: &Random, card: &mut Card) {
+fn cycle(r: &Random, card: &mut Card, limits: Limits) {
     let n = card.contours.len();
-    let length = r.from(1, n.min(r.pick(&[1, 2, 5, CONTOURS])));
+    let length = r.from(1, n.min(r.pick(&[1, 2, 5, limits.contours])));
     let mut ring: Vec<usize> = (0..n).collect();
     r.shuffle(&mut ring);
     ring.truncate(length);
     let rules = by_rule(card);
     if !rules.is_empty() && !r.one_in(3) {
         // the pairs that are there often lead from a hole to its outline too
-        card.pairs.truncate(r.pick(&[0, 0, PAIRS]));
+        card.pairs.truncate(r.pick(&[0, 0, limits.pairs]));
         for _ in 0..r.from(1, 2) {
             let (hole, outline) = r.pick(&rules);
             ring.retain(|&k| k != hole && k != outline);
             ring.extend([hole, outline]);
         }
     }
-    card.pairs.truncate(PAIRS - ring.len());
+    card.pairs.truncate(limits.pairs - ring.len());
     for k in 0..ring.len() {
         let (before, after) = (ring[k], ring[(k + 1) % ring.len()]);
         if !rules.contains(&(before, after)) {
@@ -372,7 +400,7 @@ fn cycle(r: &Random, card: &mut Card) {
 }
 
 /// Faults that only bytes can have. The checks are made good afterwards.
-fn in_bytes(r: &Random, bytes: &mut Vec<u8>, kind: usize) {
+fn in_bytes(r: &Random, bytes: &mut Vec<u8>, kind: usize, limits: Limits) {
     let blocks = bytes.len() / BLOCK;
     let block = |r: &Random| if r.one_in(3) { 0 } else { r.index(blocks) } * BLOCK;
     match kind {
@@ -401,7 +429,7 @@ fn in_bytes(r: &Random, bytes: &mut Vec<u8>, kind: usize) {
             // a head whose counts do not fit what follows
             let at = r.pick(&[head::CONTOURS, head::PAIRS, head::CONTOURS + 1, head::PAIRS + 1]);
             let (more, less) = (bytes[at].wrapping_add(1), bytes[at].wrapping_sub(1));
-            bytes[at] = r.pick(&[more, less, 0, CONTOURS as u8, PAIRS as u8]);
+            bytes[at] = r.pick(&[more, less, 0, limits.contours as u8, limits.pairs as u8]);
         }
         14 => {
             // another version: of the head alone, of any block alone, or of all
@@ -421,11 +449,12 @@ fn in_bytes(r: &Random, bytes: &mut Vec<u8>, kind: usize) {
 }
 
 /// Faults of the length and of the checks, and single bytes changed with the checks left as they are.
-fn after_seal(r: &Random, bytes: &mut Vec<u8>, kind: usize) {
+fn after_seal(r: &Random, bytes: &mut Vec<u8>, kind: usize, limits: Limits) {
     match kind {
         1 => {
             let short = [0, 1, BLOCK - 1, BLOCK, BLOCK + 1, bytes.len() + 1];
-            let long = [CARD_BYTES - 1, CARD_BYTES, CARD_BYTES + 1, CARD_BYTES + BLOCK, CARD_BYTES + 16_960];
+            let most = limits.bytes();
+            let long = [most - 1, most, most + 1, most + BLOCK, most + 16_960];
             bytes.resize(r.pick(&[&short[..], &long].concat()), 0);
             if r.one_in(2) {
                 seal(bytes);

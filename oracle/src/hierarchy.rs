@@ -147,7 +147,7 @@ fn order(q: &Asked, dag: &CuttingDag) -> Result<u64, String> {
 fn random(r: &Random) -> Result<u64, String> {
     let contours = r.pick(&[r.index(6), r.index(CONTOURS + 1), CONTOURS - 1, CONTOURS, CONTOURS + 1]);
     let range = r.pick(&[contours as u64, contours as u64, contours as u64 + 2, 3, 1 << 32]).max(1);
-    let count = r.pick(&[r.index(5), r.index(20), r.index(60), PAIRS - 1, PAIRS, PAIRS + 1]);
+    let count = r.pick(&[r.index(5), r.index(20), r.index(60), r.index(PAIRS), PAIRS - 1, PAIRS, PAIRS + 1]);
     let forward = r.one_in(2);
     let mut pairs = Vec::new();
     for _ in 0..count {

@@ -45,6 +45,24 @@ pub mod contour {
     pub const INSTANCE: usize = PAYLOAD_AT + 496;
 }
 
+/// How large a card may be, as far as request 2026-04 changed it.
+#[derive(Clone, Copy)]
+pub struct Limits {
+    pub contours: usize,
+    pub pairs: usize,
+}
+
+impl Limits {
+    pub const TODAY: Limits = Limits { contours: CONTOURS, pairs: PAIRS };
+    /// Those from before the request, for cards that a reader from then takes too.
+    pub const BEFORE: Limits = Limits { contours: 40, pairs: 124 };
+
+    /// The most bytes: the head's block, the contours' and the pairs'.
+    pub const fn bytes(self) -> usize {
+        BLOCK * (1 + self.contours + self.pairs.div_ceil(PAIRS_A_BLOCK))
+    }
+}
+
 /// The most candidates of each of n contours, where only those of all of them are limited.
 pub fn shared(n: usize) -> usize {
     CANDIDATES / n.max(1)

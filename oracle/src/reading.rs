@@ -17,8 +17,9 @@ const PAIR: usize = 16;
 const PAIRS_A_BLOCK: usize = 31;
 
 // "When a card goes back": the most that rows 4, 6 and 8 let pass, and so row 1.
-const CONTOURS: usize = 40;
-const PAIRS: usize = 124;
+// Request 2026-04 raises contours and pairs.
+const CONTOURS: usize = 80;
+const PAIRS: usize = 248;
 const PER_CONTOUR: usize = 8;
 const PASSES: usize = 1000;
 const DIRECTION: u8 = 2;
@@ -342,9 +343,10 @@ fn joined_in_order() {
 /// The Rust host's limits are those that this reading takes from the paper.
 #[test]
 fn the_host_has_the_same() {
+    use crate::limits::Limits;
     assert_eq!([jambolive::CONTOURS, jambolive::PAIRS], [CONTOURS, PAIRS]);
     assert_eq!([jambolive::PER_CONTOUR, jambolive::CANDIDATES], [PER_CONTOUR, CANDIDATES]);
     assert_eq!([jambolive::PASSES, jambolive::VERTICES], [PASSES, VERTICES]);
-    assert_eq!([jambolive::BLOCKS * BLOCK, jambolive::CARD_BYTES], [LONGEST, LONGEST]);
+    assert_eq!([jambolive::BLOCKS * BLOCK, jambolive::CARD_BYTES, Limits::TODAY.bytes()], [LONGEST; 3]);
     assert_eq!([jambolive::BLOCK, jambolive::PAIRS_A_BLOCK], [BLOCK, PAIRS_A_BLOCK]);
 }

@@ -2,9 +2,10 @@
 //! host prints. Rooms that are too small are refused.
 
 use crate::answer::Problem;
+use crate::card::Card;
 use crate::doors::refused;
 use crate::exports::{Left, UNTOUCHED, check, place, tour};
-use crate::generate::{good, limit_near};
+use crate::generate::{good, large, limit_near};
 use crate::limits::CANDIDATES;
 use crate::random::Random;
 use crate::run::{Tally, Wanted, by_version, same};
@@ -19,12 +20,11 @@ pub fn place_due(problem: &Problem, candidate: u64) -> (u64, u64, u64) {
 }
 
 const ALL: u64 = 200_000;
+const LARGE: u64 = 100_000;
 
-fn one(r: &Random, version: u8, by_rule: &Tally) -> Result<u64, String> {
-    let mut card = good(r, version);
+fn one(r: &Random, card: Card, by_rule: &Tally) -> Result<u64, String> {
     let n = card.contours.len();
     let problem = Problem::of(&card);
-    limit_near(r, &mut card, || problem.search(0).moves as u32);
     let bytes = card.bytes();
     let what = || format!("{card:?}");
     same(what, check(&bytes)?, 0)?;
@@ -45,7 +45,22 @@ fn one(r: &Random, version: u8, by_rule: &Tally) -> Result<u64, String> {
     Ok(agreed)
 }
 
+fn of_any_size(r: &Random, version: u8) -> Card {
+    let mut card = good(r, version);
+    let problem = Problem::of(&card);
+    limit_near(r, &mut card, || problem.search(0).moves as u32);
+    card
+}
+
 pub fn compare(wanted: Wanted) -> bool {
     let by_rule = Tally::of("good cards with another tour than by the written pairs alone", 20);
-    by_version(wanted, "good cards", ALL, |r, version| one(r, version, &by_rule)) && by_rule.enough(wanted.of(ALL))
+    by_version(wanted, "good cards", ALL, |r, version| one(r, of_any_size(r, version), &by_rule))
+        && by_rule.enough(wanted.of(ALL))
+}
+
+/// Cards with more contours than before request 2026-04.
+pub fn compare_large(wanted: Wanted) -> bool {
+    let by_rule = Tally::of("large cards with another tour than by the written pairs alone", 20);
+    by_version(wanted, "large cards", LARGE, |r, version| one(r, large(r, version), &by_rule))
+        && by_rule.enough(wanted.of(LARGE))
 }

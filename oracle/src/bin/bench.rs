@@ -32,12 +32,31 @@ fn root() {
     println!("root: {:.2} ns, the instruction {:.2} ns, {:.1} times", ours / each, hardware / each, ours / hardware);
 }
 
+/// The largest cards, from before request 2026-04 and of today. Of the latter in one the pairs lead from every other contour to
+/// the next one and no further, in another from each contour to all that come after it: what that takes longer is the closure
+/// on dense pairs.
 fn check() {
-    use oracle::limits::{BLOCK, CONTOURS, PAIRS, shared};
-    use oracle::{check, generate, random::Random, reading};
+    use oracle::limits::{BLOCK, CANDIDATES, CONTOURS, Limits, PAIRS};
+    use oracle::{card::Card, check, generate, random::Random, reading};
     use std::hint::black_box;
-    let sheet = generate::sheet(&Random::of(1, "bench", 0), CONTOURS, shared(CONTOURS), PAIRS);
-    for card in [sheet.clone(), generate::holed(sheet)] {
+    let largest = |limits: Limits| {
+        let Limits { contours, pairs } = limits;
+        generate::sheet(&Random::of(1, "bench", 0), contours, CANDIDATES / contours, pairs)
+    };
+    let (before, sheet) = (largest(Limits::BEFORE), largest(Limits::TODAY));
+    let led = |forward: &dyn Fn(usize) -> (usize, usize)| {
+        let pairs = (0..PAIRS).map(|q| sheet.pair(forward(q).0, forward(q).1)).collect();
+        Card { pairs, ..sheet.clone() }
+    };
+    let cards = [
+        ("pairs", before.clone()),
+        ("pairs and rule", generate::holed(before)),
+        ("pairs", sheet.clone()),
+        ("pairs and rule", generate::holed(sheet.clone())),
+        ("pairs by twos", led(&|q| (2 * q % CONTOURS, 2 * q % CONTOURS + 1))),
+        ("pairs in a chain", led(&|q| (q % (CONTOURS - 1), q % (CONTOURS - 1) + 1))),
+    ];
+    for (pairs, card) in cards {
         let bytes = card.bytes();
         let (ours, plain) = both(
             300,
@@ -45,9 +64,8 @@ fn check() {
             || assert_eq!(reading::refusal(black_box(&bytes)), None),
         );
         println!(
-            "check of {} blocks, version {}: {:.1} µs, plain Rust {:.1} µs, {:.2} times",
+            "check of {} blocks, {pairs}: {:.1} µs, plain Rust {:.1} µs, {:.2} times",
             bytes.len() / BLOCK,
-            card.version,
             ours / 1e3,
             plain / 1e3,
             ours / plain
@@ -58,11 +76,13 @@ fn check() {
 /// The classes of cards: version, contours, candidates a contour, written pairs. In version 2 each two contours are a hole and
 /// its outline. All but the third have as many candidates as a card takes.
 #[cfg(feature = "original")]
-const CLASSES: [(u8, usize, usize, usize); 6] = {
-    use oracle::limits::{CANDIDATES as ALL, CONTOURS, PAIRS, PER_CONTOUR as EACH};
+const CLASSES: [(u8, usize, usize, usize); 8] = {
+    use oracle::limits::{CANDIDATES as ALL, CONTOURS, Limits, PAIRS, PER_CONTOUR as EACH};
     [
         (1, ALL / 2, 2, 0),
         (1, ALL / 2, 2, ALL / 2),
+        (1, Limits::BEFORE.contours, 1, Limits::BEFORE.pairs),
+        (1, CONTOURS, 1, 0),
         (1, CONTOURS, 1, PAIRS),
         (1, ALL / 4, 4, 0),
         (1, ALL / EACH, EACH, 0),

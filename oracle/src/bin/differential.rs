@@ -8,7 +8,7 @@ use oracle::{candidates, check, cost, hierarchy, root, rules, search, start, tab
 /// A part's name, how it is compared, and whether that is quick: in full size a few seconds.
 type Part = (&'static str, fn(Wanted) -> bool, bool);
 
-const PARTS: [Part; 10] = [
+const PARTS: [Part; 11] = [
     ("root", root::compare, true),
     ("cost", cost::compare, true),
     ("hierarchy", hierarchy::compare, true),
@@ -19,6 +19,7 @@ const PARTS: [Part; 10] = [
     ("search", search::compare, false),
     ("check", check::compare, true),
     ("tour", tour::compare, false),
+    ("large", tour::compare_large, false),
 ];
 
 fn main() {

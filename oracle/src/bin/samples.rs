@@ -2,10 +2,10 @@
 //! the crate `replay` also its cards and what it must print.
 
 use oracle::answer::printed;
-use oracle::card::Card;
-use oracle::edges::{Edge, edges, edges_of_parts};
+use oracle::card::{Card, Contour};
+use oracle::edges::{Edge, edges, edges_of_parts, edges_of_size};
 use oracle::generate;
-use oracle::limits::{BLOCK, CARD_BYTES, VERSION_AT};
+use oracle::limits::{AUTO, BLOCK, CONTOURS, Limits, VERSION_AT};
 use oracle::random::Random;
 use std::fs;
 use std::path::Path;
@@ -28,6 +28,25 @@ fn plates() -> Card {
     card
 }
 
+/// A perforated panel with as many contours as a card takes: its outline, and holes in rows of ten, a candidate each. That the
+/// holes go first its parts say.
+fn panel() -> Card {
+    let holes = CONTOURS - 1;
+    let square = |(x, y): (f64, f64), size: f64| vec![(x, y), (x + size, y), (x + size, y + size), (x, y + size)];
+    let hole = |k: usize| square((20.0 + 40.0 * (k % 10) as f64, 20.0 + 40.0 * (k / 10) as f64), 16.0);
+    let outlines = std::iter::once(square((0.0, 0.0), 420.0)).chain((0..holes).map(hole));
+    let contours = (0..).zip(outlines).map(|(k, vertices)| Contour {
+        id: k,
+        tag: 100 + k,
+        interior: k > 0,
+        part: 1,
+        vertices,
+        ..Contour::default()
+    });
+    let contours = contours.collect();
+    Card { version: 2, job: 4_004, c: 1, passes: 100, exterior: AUTO, interior: AUTO, contours, ..Card::default() }
+}
+
 /// The fifth contour has the id of the second.
 fn refused() -> Card {
     let mut card = generate::sheet(&Random::of(2026, "refused", 0), 6, 2, 0);
@@ -44,6 +63,7 @@ fn examples() {
         ("refused", refused()),
         ("slit", generate::slit()),
         ("holes", generate::holes()),
+        ("panel", panel()),
     ];
     for (name, card) in cards {
         fs::write(format!("examples/{name}.card"), card.bytes()).unwrap();
@@ -51,30 +71,43 @@ fn examples() {
     }
 }
 
-/// Cards from the generator, by turns good and damaged, in version 2 by turns in another way. Most are small, so that the file is; every twenty-fifth has any size up
-/// to one byte too many.
+/// Cards from the generator within the limits from before request 2026-04, by turns good and damaged, in version 2 by turns
+/// in another way. Most are small, so that the file is; every twenty-fifth has any size up to one byte too many for then.
 fn random(part: &str, cases: u64, version: u8) -> impl Iterator<Item = Vec<u8>> {
+    const THEN: Limits = Limits::BEFORE;
     let made = move |case: u64| {
         let r = Random::of(2026, part, case);
+        let card = generate::good_within(&r, version, THEN);
         match case % 4 {
-            0 | 2 => generate::good(&r, version).bytes(),
-            3 if version == 2 => generate::relabelled(&r, version),
-            _ => generate::damaged(&r, version),
+            0 | 2 => card.bytes(),
+            3 if version == 2 => generate::relabelled_within(&r, card, THEN),
+            _ => generate::damaged_within(&r, card, THEN),
         }
     };
-    let most = |case: u64| if case % 25 == 0 { CARD_BYTES + 1 } else { 6 * BLOCK };
+    let most = |case: u64| if case % 25 == 0 { THEN.bytes() + 1 } else { 6 * BLOCK };
     (0..cases).map(move |case| (case, made(case))).filter(move |made| made.1.len() <= most(made.0)).map(|made| made.1)
 }
 
+/// Larger cards, good and damaged by turns, of version 1 and 2.
+fn large(case: u64) -> Vec<u8> {
+    let (r, version) = (Random::of(2026, "replay, large", case), 1 + (case / 2 % 2) as u8);
+    let card = generate::large(&r, version);
+    if case % 2 == 0 { card.bytes() } else { generate::damaged_within(&r, card, Limits::TODAY) }
+}
+
 /// The cards that the program `replay` runs over, each after its length in four bytes, and what it must print: first the
-/// edges that the paper names, then the card with a slit, then cards from the generator; then the same again for version 2.
-/// The first of them stay as they are, so that what a request leaves alone is seen.
+/// edges that the paper names, then the card with a slit, then cards from the generator; then the same again for version 2;
+/// then the edges of request 2026-04 and larger cards. The first of them stay as they are, so that what a request leaves
+/// alone is seen.
 fn replay(crate_folder: &Path) {
     let (mut cards, mut lists, mut of_two) = (Vec::new(), String::new(), 0);
     let written = |edges: Vec<Edge>| edges.into_iter().map(|edge| edge.0);
     let one = written(edges()).chain([generate::slit().bytes()]).chain(random("replay", 2000, 1));
     let two = written(edges_of_parts()).chain([generate::holes().bytes()]).chain(random("replay, version 2", 400, 2));
-    for bytes in one.chain(two) {
+    // no reader of the list has room for more
+    let three =
+        written(edges_of_size()).chain((0..16).map(large)).filter(|card| card.len() <= Limits::TODAY.bytes() + 1);
+    for bytes in one.chain(two).chain(three) {
         cards.extend((bytes.len() as u32).to_le_bytes());
         cards.extend(&bytes);
         lists += &printed(&bytes);
