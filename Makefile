@@ -43,6 +43,7 @@ test:
 	gate/test.sh
 	gate/refusals.sh
 	gate/contracts.sh
+	gate/limits.sh
 	@$(MAKE) --no-print-directory $(if $(shell command -v $(CARGO)),hosts,no-cargo)
 	@cat target/gate
 

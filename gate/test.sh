@@ -2,7 +2,8 @@
 # test.sh: refusals.sh must pass a sweep whose wrong programs are each refused at their own fact, and name what is wrong with
 # one that has a harmless replacement in it, one refused elsewhere, one told twice, a name that docs/PROMISES.md lacks, and so
 # on. The log is one that `rt must-fail` wrote of crates/block, cut short. And contracts.sh must pass a crate whose callable
-# functions all have their entries, and name one that has none, one that cites another's contract, and a record not proved.
+# functions all have their entries, and name one that has none, one that cites another's contract, and a record not proved. And
+# limits.sh must name a header, a table and a longest card that have another number than the code.
 set -eu
 
 here=$(cd "$(dirname "$0")" && pwd -P)
@@ -116,3 +117,20 @@ says 1 'no crate is named Card'
 entries "$door"
 echo 'of-card : OfCard' >"$tree/crates/contracts/proofs/Words.antt"
 says 1 'crates/contracts/proofs has no OfBlock'
+
+# ---- limits.sh
+script=limits.sh
+says_limits() { # STATUS TEXT WHERE OLD NEW: how it ends where a file of the tree says another number
+    for file in crates/closure/src/lib.rt crates/fields/src/lib.rt crates/block/src/lib.rt hosts/c/jambolive.h docs/CARD.md; do
+        mkdir -p "$(dirname "$tree/$file")"
+        cp "$here/../$file" "$tree/$file"
+    done
+    sed -i "s/$4/$5/" "$tree/$3"
+    says "$1" "$2"
+}
+most=$(sed -n 's/^pub const CONTOURS: usize = \([0-9]*\);$/\1/p' "$here/../crates/closure/src/lib.rt")
+says_limits 0 "say the code's" hosts/c/jambolive.h none none
+says_limits 1 "hosts/c/jambolive.h: no line begins «#define JL_CONTOURS $most" hosts/c/jambolive.h "JL_CONTOURS $most" 'JL_CONTOURS 79'
+says_limits 1 "docs/CARD.md: no line begins «| 4 | n, contours" docs/CARD.md "at most $most |" 'at most 79 |'
+says_limits 1 'docs/CARD.md: no line begins' crates/fields/src/lib.rt 'PASSES: usize = 1' 'PASSES: usize = 2'
+says_limits 1 'the longest card is not the one with the most' crates/closure/src/lib.rt 'PAIRS: usize = ' 'PAIRS: usize = 9'
