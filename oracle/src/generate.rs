@@ -50,19 +50,20 @@ pub fn slit() -> Card {
     on_a_line(45, 3, 7.0, &[&[4.0, 10.0], &[2.0], &[1.0]])
 }
 
-/// Good cards of every shape, of either version.
+/// Good cards of every shape, of either version. Few have more contours than before request 2026-04, over which the original
+/// takes long; more pairs than then any may have.
 pub fn good(r: &Random, version: u8) -> Card {
-    // now and then larger than before request 2026-04
-    if r.one_in(32) { large(r, version) } else { good_within(r, version, Limits::BEFORE) }
+    let few_contours = Limits { contours: Limits::BEFORE.contours, ..Limits::TODAY };
+    if r.one_in(32) { large(r, version) } else { good_within(r, version, few_contours) }
 }
 
-/// Good cards with more contours than before request 2026-04. Few have no limit: the original takes long over them.
+/// Good cards with more contours than before request 2026-04. One in 32 has no limit, so that its search goes to its end.
 pub fn large(r: &Random, version: u8) -> Card {
     let most = Limits::TODAY.contours;
     let n = r.pick(&[r.from(Limits::BEFORE.contours + 1, most), r.from(Limits::BEFORE.contours + 1, most), most]);
     let card = sized(r, version, n, Limits::TODAY);
     let limit = r.pick(&[r.from(1, 3), r.from(3, 200), r.from(200, 2000)]);
-    Card { limit: if r.one_in(200) { 0 } else { limit as u32 }, ..card }
+    Card { limit: if r.one_in(32) { 0 } else { limit as u32 }, ..card }
 }
 
 /// Good cards of every shape within these limits.

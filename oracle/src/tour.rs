@@ -22,9 +22,8 @@ pub fn place_due(problem: &Problem, candidate: u64) -> (u64, u64, u64) {
 const ALL: u64 = 200_000;
 const LARGE: u64 = 100_000;
 
-fn one(r: &Random, card: Card, by_rule: &Tally) -> Result<u64, String> {
+fn one(r: &Random, card: &Card, problem: Problem, by_rule: &Tally) -> Result<u64, String> {
     let n = card.contours.len();
-    let problem = Problem::of(&card);
     let bytes = card.bytes();
     let what = || format!("{card:?}");
     same(what, check(&bytes)?, 0)?;
@@ -40,27 +39,28 @@ fn one(r: &Random, card: Card, by_rule: &Tally) -> Result<u64, String> {
     same(what, tour(&bytes, room)?, Left::accepted(&found.tour, found.moves, found.length, room))?;
     let candidate = r.pick(&[r.below(CANDIDATES as u64), r.below(1 << 32), problem.instance.total_candidates as u64]);
     same(what, place(&bytes, candidate)?, place_due(&problem, candidate))?;
-    let agreed = same(what, jambolive::list(&bytes), problem.list(&card, &found))?;
-    by_rule.count(problem.shows_the_rule(&card, &found));
+    let agreed = same(what, jambolive::list(&bytes), problem.list(card, &found))?;
+    by_rule.count(problem.shows_the_rule(card, &found));
     Ok(agreed)
-}
-
-fn of_any_size(r: &Random, version: u8) -> Card {
-    let mut card = good(r, version);
-    let problem = Problem::of(&card);
-    limit_near(r, &mut card, || problem.search(0).moves as u32);
-    card
 }
 
 pub fn compare(wanted: Wanted) -> bool {
     let by_rule = Tally::of("good cards with another tour than by the written pairs alone", 20);
-    by_version(wanted, "good cards", ALL, |r, version| one(r, of_any_size(r, version), &by_rule))
-        && by_rule.enough(wanted.of(ALL))
+    let of_any_size = |r: &Random, version| {
+        let mut card = good(r, version);
+        let problem = Problem::of(&card);
+        limit_near(r, &mut card, || problem.search(0).moves as u32);
+        one(r, &card, problem, &by_rule)
+    };
+    by_version(wanted, "good cards", ALL, of_any_size) && by_rule.enough(wanted.of(ALL))
 }
 
 /// Cards with more contours than before request 2026-04.
 pub fn compare_large(wanted: Wanted) -> bool {
     let by_rule = Tally::of("large cards with another tour than by the written pairs alone", 20);
-    by_version(wanted, "large cards", LARGE, |r, version| one(r, large(r, version), &by_rule))
-        && by_rule.enough(wanted.of(LARGE))
+    let of_many = |r: &Random, version| {
+        let card = large(r, version);
+        one(r, &card, Problem::of(&card), &by_rule)
+    };
+    by_version(wanted, "large cards", LARGE, of_many) && by_rule.enough(wanted.of(LARGE))
 }

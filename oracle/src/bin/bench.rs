@@ -36,12 +36,12 @@ fn root() {
 /// the next one and no further, in another from each contour to all that come after it: what that takes longer is the closure
 /// on dense pairs.
 fn check() {
-    use oracle::limits::{BLOCK, CANDIDATES, CONTOURS, Limits, PAIRS};
+    use oracle::limits::{BLOCK, CONTOURS, Limits, PAIRS, shared};
     use oracle::{card::Card, check, generate, random::Random, reading};
     use std::hint::black_box;
     let largest = |limits: Limits| {
         let Limits { contours, pairs } = limits;
-        generate::sheet(&Random::of(1, "bench", 0), contours, CANDIDATES / contours, pairs)
+        generate::sheet(&Random::of(1, "bench", 0), contours, shared(contours), pairs)
     };
     let (before, sheet) = (largest(Limits::BEFORE), largest(Limits::TODAY));
     let led = |forward: &dyn Fn(usize) -> (usize, usize)| {
