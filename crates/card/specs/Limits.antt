@@ -13,6 +13,6 @@ pub record Limits : Type 0 where
 abbrev pub today : Limits
 today = record { bytes = cardBytes; contours = contourLimit; pairs = pairLimit }
 
--- those from before request 2026-04: 45 blocks
+-- those from before request 2026-04
 abbrev pub before : Limits
 before = record { bytes = 23040; contours = 40; pairs = 124 }

@@ -29,7 +29,8 @@ pub record Lowest (n : ℕ) (Fault : ℕ → Type 0) (place : ℕ) : Type 0 wher
 
 -- ---- the rows
 
--- 1: the length is 0, no multiple of 512, or above 45,568; the place is the length, or 45,569 if larger
+-- 1: the length is 0, no multiple of 512, or above the most bytes of a card; the place is the length, or one more than
+-- that most if it is larger
 pub record Row1 (s : List ℕ) (place : ℕ) : Type 0 where
   pub cause : (length s ≡ 0) ⊎ ((length s % blockBytes ≡ 0 → ⊥) ⊎ (cardBytes < length s))
   pub told : place ≡ min (length s) (cardBytes + 1)

@@ -31,36 +31,37 @@ use Rattle.tour.specs.Tour.{Left, tourOf}
 use Rattle.tour_laws.specs.Visits.{Visits}
 use Rattle.tour_laws.proofs.BelowLaws.{below-at}
 use Rattle.tour_laws.proofs.TourLaws.{contour-at, start-visits, tour-long, tour-legal, tour-visits}
-use Rattle.demands.specs.Demand3.{OnGrid, legsOn, Interval, edge, nearness, excess, Bounds, OneOf, Good, Claim}
+use Rattle.demands.specs.Demand3.{OnGrid, legsOn, Interval, closeUpTo, nearness, excess, Bounds, OneOf, Good}
+use Rattle.demands.specs.Demand3.{Claim}
 use Rattle.demands.proofs.AskedLaws.{toured-if, done-fine, fine-nothing}
 use Rattle.demands.proofs.NearLaws.{home-fits, near-of, number-of, excess-of}
 
 -- the bound is enough for as many legs as a card can have contours
 enough : (n : ℕ) → n ≤ contourLimit → (a : ℕ) × Enough n a (nearness n)
-enough n most = go (leb n edge) refl
+enough n most = go (leb n closeUpTo) refl
   where
-    go : (b : Bool) → leb n edge ≡ b → (a : ℕ) × Enough n a (cond b (2 ^ 12) (2 ^ 14))
-    go true e = (6, enough-fewer n 40 6 (2 ^ 12) (let few = leb-true n edge e in omega arith) forty)
-    go false e = (7, enough-fewer n 80 7 (2 ^ 14) most eighty)
+    go : (b : Bool) → leb n closeUpTo ≡ b → (a : ℕ) × Enough n a (cond b (2 ^ 12) (2 ^ 14))
+    go true e = (6, enough-fewer n closeUpTo 6 (2 ^ 12) (leb-true n closeUpTo e) forty)
+    go false e = (7, enough-fewer n contourLimit 7 (2 ^ 14) most eighty)
 
 twice : (n : ℕ) → 2 * nearness n ≤ excess n
-twice n = go (leb n edge)
+twice n = go (leb n closeUpTo)
   where
     go : (b : Bool) → 2 * cond b (2 ^ 12) (2 ^ 14) ≤ cond b (2 ^ 13) (2 ^ 15)
     go true = lit≤ tt
     go false = lit≤ tt
 
 near-to-40 : (n : ℕ) → n ≤ 40 → nearness n ≡ 2 ^ 12
-near-to-40 n h = rw (le-leb n edge (omega arith))
+near-to-40 n h = rw (le-leb n closeUpTo (omega arith))
 
 near-from-41 : (n : ℕ) → 41 ≤ n → nearness n ≡ 2 ^ 14
-near-from-41 n h = rw (lt-leb n edge (omega arith))
+near-from-41 n h = rw (lt-leb n closeUpTo (omega arith))
 
 excess-to-40 : (n : ℕ) → n ≤ 40 → excess n ≡ 2 ^ 13
-excess-to-40 n h = rw (le-leb n edge (omega arith))
+excess-to-40 n h = rw (le-leb n closeUpTo (omega arith))
 
 excess-from-41 : (n : ℕ) → 41 ≤ n → excess n ≡ 2 ^ 15
-excess-from-41 n h = rw (lt-leb n edge (omega arith))
+excess-from-41 n h = rw (lt-leb n closeUpTo (omega arith))
 
 bounds : Bounds
 bounds = record {

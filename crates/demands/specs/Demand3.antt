@@ -48,16 +48,16 @@ pub record Interval : Type 0 where
   pub upper : (legs : List ℕ) → upperEnd legs ≡ lowerEnd legs + length legs
 
 -- the most contours for which the closer bounds hold: as many as a card had before request 2026-04
-abbrev pub edge : ℕ
-edge = before .contours
+abbrev pub closeUpTo : ℕ
+closeUpTo = before .contours
 
 -- the bounds on a card of n contours, in steps of 2^-40 mm: for the length told, and for what the tour is longer than
 -- the start
 abbrev pub nearness : ℕ → ℕ
-nearness n = cond (leb n edge) (2 ^ 12) (2 ^ 14)
+nearness n = cond (leb n closeUpTo) (2 ^ 12) (2 ^ 14)
 
 abbrev pub excess : ℕ → ℕ
-excess n = cond (leb n edge) (2 ^ 13) (2 ^ 15)
+excess n = cond (leb n closeUpTo) (2 ^ 13) (2 ^ 15)
 
 -- they are 2^-28 and 2^-27 mm at 40 contours and below, 2^-26 and 2^-25 mm at 41 and above
 pub record Bounds : Type 0 where

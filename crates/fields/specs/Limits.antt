@@ -1,7 +1,7 @@
 -- The limits of a card, next to those on contours and pairs, which stand in the crate `closure`. Assumes nothing.
 use Prim.Native.Nat.{ℕ}
 
--- bytes of the longest card: 89 blocks
+-- bytes of the longest card, the one with the most contours and pairs
 abbrev pub cardBytes : ℕ
 cardBytes = 45568
 

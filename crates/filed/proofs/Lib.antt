@@ -1,3 +1,3 @@
 pub mod LimitLaws
 pub mod Filed
-pub mod Reader
+pub mod Before

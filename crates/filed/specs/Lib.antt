@@ -1,2 +1,2 @@
 pub mod Filed
-pub mod Reader
+pub mod Before

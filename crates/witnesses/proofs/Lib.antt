@@ -2,4 +2,3 @@ pub mod Examples
 pub mod Taken
 pub mod Slit
 pub mod ReadBack
-pub mod Larger

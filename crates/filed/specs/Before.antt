@@ -3,15 +3,19 @@
 use mathlib.Core.Path.{_≡_}
 use mathlib.Core.List.{List}
 use Prim.Native.Nat.{ℕ, _+_, _*_, _-_, _/_, _≤_, _<_}
+use lib.Ieee.{Float}
 use lib.ListN.{length}
+use Rattle.answer.specs.declared.Refusal.{Refusal}
 use Rattle.answer.specs.declared.Check.the-variants.{Fine, Refused}
 use Rattle.block.specs.Block.{blockBytes}
 use Rattle.fields.specs.Limits.{pairsABlock}
 use Rattle.fields.specs.Layout.{contoursOf, pairsOf}
 use Rattle.card.specs.Limits.{Limits, today, before}
 use Rattle.card.specs.Verdict.{checkWithin, checkOf}
+use Rattle.tour.specs.declared.Toured.the-variants as answer
+use Rattle.tour.specs.Tour.{left, tourWithin}
 
--- what the request raised, in numbers
+-- what the request raised, in numbers; below they go by their names
 pub record Raised : Type 0 where
   pub bytes : (before .bytes ≡ 23040) × (today .bytes ≡ 45568)
   pub contours : (before .contours ≡ 40) × (today .contours ≡ 80)
@@ -27,17 +31,22 @@ Refuses s number place = checkWithin before s ≡ Refused (record { number = num
 
 -- a card that is not larger is fine with it too
 abbrev pub NotLarger : List ℕ → Type 0
-NotLarger s = contoursOf s ≤ 40 → pairsOf s ≤ 124 → checkWithin before s ≡ Fine
+NotLarger s = contoursOf s ≤ before .contours → pairsOf s ≤ before .pairs → checkWithin before s ≡ Fine
 
 -- a larger one goes back with 1 for its length, else with 4 for its contours, else with 4 for its pairs
 abbrev pub Longer : List ℕ → Type 0
-Longer s = 23040 < length s → Refuses s 1 23041
+Longer s = before .bytes < length s → Refuses s 1 (before .bytes + 1)
 
 abbrev pub MoreContours : List ℕ → Type 0
-MoreContours s = length s ≤ 23040 → 40 < contoursOf s → Refuses s 4 1
+MoreContours s = length s ≤ before .bytes → before .contours < contoursOf s → Refuses s 4 1
 
 abbrev pub MorePairs : List ℕ → Type 0
-MorePairs s = length s ≤ 23040 → contoursOf s ≤ 40 → 124 < pairsOf s → Refuses s 4 2
+MorePairs s = length s ≤ before .bytes → contoursOf s ≤ before .contours → before .pairs < pairsOf s → Refuses s 4 2
+
+-- what it sends back, sound today or not, gets no tour from it, and the rooms stay as they were
+abbrev pub NoTour : List ℕ → Type 0
+NoTour s = (r : Refusal) → checkWithin before s ≡ Refused r → (room : List ℕ) (table : List Float)
+    → tourWithin before s room table ≡ left (answer.Refused r) room table
 
 pub record Reads (s : List ℕ) : Type 0 where
   pub not-larger : NotLarger s
@@ -50,3 +59,4 @@ pub record Claim : Type 0 where
   pub longest-today : Longest today
   pub longest-before : Longest before
   pub reads : (s : List ℕ) → checkOf s ≡ Fine → Reads s
+  pub no-tour : (s : List ℕ) → NoTour s

@@ -9,6 +9,7 @@ use lib.Dec.{eqb, lit<}
 use lib.ListN.{length, getD}
 use Rattle.answer.specs.declared.Found.the-variants.{At, Absent}
 use Rattle.answer.specs.declared.Check.the-variants.{Fine}
+use Rattle.answer.specs.Stage.{firstRefusal}
 use Rattle.answer.proofs.LowestLaws.{at-is}
 use Rattle.answer.proofs.StageLaws.{is-fine}
 use Rattle.block.specs.Block.{blockBytes}
@@ -18,17 +19,18 @@ use Rattle.card.specs.Stages.{lengthFaultWithin, checkFault, startFault, headFa
 use Rattle.card.specs.Verdict.{stagesWithin, checkWithin, checkOf}
 use Rattle.card.proofs.GroupLaws.{fine-absent}
 use Rattle.card_laws.proofs.Facts.{accepted}
-use Rattle.filed.specs.Reader.{Raised, Refuses, NotLarger, Longer, MoreContours, MorePairs, Reads, Claim}
+use Rattle.tour.specs.Tour.{tourCheckWithin, tourWithin}
+use Rattle.filed.specs.Before.{Raised, Refuses, NotLarger, Longer, MoreContours, MorePairs, NoTour, Reads, Claim}
 use Rattle.filed.proofs.LimitLaws.{Passes, Small, passes, small, one-verdict, one-head, one-cycle, length-again}
 
 module _ (s : List ℕ) (fine : checkOf s ≡ Fine) where
   now : Passes today s
   now = passes today s fine
 
-  short-fine : length s ≤ 23040 → lengthFaultWithin (before .bytes) s ≡ Absent
+  short-fine : length s ≤ before .bytes → lengthFaultWithin (before .bytes) s ≡ Absent
   short-fine h = length-again (today .bytes) (before .bytes) s (now .length-fine) h
 
-  short : contoursOf s ≤ 40 → pairsOf s ≤ 124 → length s ≤ 23040
+  short : contoursOf s ≤ before .contours → pairsOf s ≤ before .pairs → length s ≤ before .bytes
   short n m = let whole = accepted s fine .whole in omega arith
 
   not-larger : NotLarger s
@@ -41,12 +43,12 @@ module _ (s : List ℕ) (fine : checkOf s ≡ Fine) where
         cycle-fine = one-cycle before today s here there ∙ now .cycle-fine;
       }) now ∙ fine
 
-  too-long : 23040 < length s → lengthFaultWithin (before .bytes) s ≡ At 23041
+  too-long : before .bytes < length s → lengthFaultWithin (before .bytes) s ≡ At (before .bytes + 1)
   unfolding lengthFaultWithin
   too-long h =
       let a = eqb (length s) 0 in
       let b = not (eqb (length s % blockBytes) 0) in
-      let e : min (length s) (before .bytes + 1) ≡ 23041 = omega arith in
+      let e : min (length s) (before .bytes + 1) ≡ before .bytes + 1 = omega arith in
       rw (lt-ltb (before .bytes) (length s) h, or-true b, or-true a, e)
 
   longer : Longer s
@@ -62,29 +64,31 @@ module _ (s : List ℕ) (fine : checkOf s ≡ Fine) where
   unfolding checkWithin
   start-fine = fine-absent 3 (startFault s 1) (is-fine (stagesWithin today s) fine 2 (lit< tt))
 
-  at-field : (f : ℕ) → length s ≤ 23040 → headFaultWithin (before .contours) (before .pairs) s ≡ At f → Refuses s 4 f
+  at-field : (f : ℕ) → length s ≤ before .bytes → headFaultWithin (before .contours) (before .pairs) s ≡ At f
+      → Refuses s 4 f
   unfolding checkWithin
   at-field f h e = rw (short-fine h, checks-fine, start-fine, e)
 
-  first-field : 40 < contoursOf s → headFaultWithin (before .contours) (before .pairs) s ≡ At 1
+  first-field : before .contours < contoursOf s → headFaultWithin (before .contours) (before .pairs) s ≡ At 1
   unfolding headFaultWithin
   first-field n =
       at-is (λ f. getD (headFaultsWithin (before .contours) (before .pairs) s) f false) 8 1
-      (record { within = lit< tt; holds = lt-ltb 40 (contoursOf s) n; before = none })
+      (record { within = lit< tt; holds = lt-ltb (before .contours) (contoursOf s) n; before = none })
     where
       none : (j : ℕ) → j < 1 → getD (headFaultsWithin (before .contours) (before .pairs) s) j false ≡ false
       none zero h = refl
       none (suc j) h = absurd (omega arith)
 
-  second-field : contoursOf s ≤ 40 → 124 < pairsOf s → headFaultWithin (before .contours) (before .pairs) s ≡ At 2
+  second-field : contoursOf s ≤ before .contours → before .pairs < pairsOf s
+      → headFaultWithin (before .contours) (before .pairs) s ≡ At 2
   unfolding headFaultWithin
   second-field n m =
       at-is (λ f. getD (headFaultsWithin (before .contours) (before .pairs) s) f false) 8 2
-      (record { within = lit< tt; holds = lt-ltb 124 (pairsOf s) m; before = none })
+      (record { within = lit< tt; holds = lt-ltb (before .pairs) (pairsOf s) m; before = none })
     where
       none : (j : ℕ) → j < 2 → getD (headFaultsWithin (before .contours) (before .pairs) s) j false ≡ false
       none zero h = refl
-      none (suc zero) h = le-ltb 40 (contoursOf s) n
+      none (suc zero) h = le-ltb (before .contours) (contoursOf s) n
       none (suc (suc j)) h = absurd (omega arith)
 
   more-contours : MoreContours s
@@ -96,8 +100,12 @@ module _ (s : List ℕ) (fine : checkOf s ≡ Fine) where
   reads : Reads s
   reads = record { not-larger = not-larger; longer = longer; more-contours = more-contours; more-pairs = more-pairs }
 
+no-tour : (s : List ℕ) → NoTour s
+unfolding tourWithin tourCheckWithin firstRefusal
+no-tour s r e room table = rw e
+
 raised : Raised
 raised = record { bytes = (refl, refl); contours = (refl, refl); pairs = (refl, refl) }
 
 pub claim : Claim
-claim = record { raised = raised; longest-today = refl; longest-before = refl; reads = reads }
+claim = record { raised = raised; longest-today = refl; longest-before = refl; reads = reads; no-tour = no-tour }
