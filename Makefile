@@ -47,7 +47,9 @@ test:
 	@$(MAKE) --no-print-directory $(if $(shell command -v $(CARGO)),hosts,no-cargo)
 	@cat target/gate
 
+# The oracle is built without the original too, so that it still can be where that is not at hand.
 hosts: archives
+	$(CARGO) check --offline --quiet --package oracle --bins
 	$(TEST) --package oracle $(ORIGINAL)
 	$(TEST) --package jambolive
 	hosts/c/test.sh

@@ -54,9 +54,9 @@ uint64_t jl_check(const uint8_t *card, size_t bytes);
  * 2026-01 did not: with three candidates a contour or more the tour may be another than then, mostly shorter and now and
  * then longer; with fewer it is the same (docs/DIFFERENCES.md). On a card of version 2, which a library from before
  * request 2026-02 refuses, each hole of a part is cut before the first outline with its part and instance, besides what
- * the pairs say; pairs against that are refusal 12. A library from before request 2026-04 refuses a card with more
- * contours or pairs than it takes with 1 or 4 (docs/CARD.md, "Larger cards"); that request changed no tour of a card that
- * it takes. JL_CONTOURS entries are room enough for any tour. */
+ * the pairs say; pairs against that are refusal 12. A card with more contours or pairs than a library from before
+ * request 2026-04 takes is refused by it with 1 or 4 (docs/CARD.md, "Larger cards"); that request changed no tour of a
+ * card that it takes. JL_CONTOURS entries are room enough for any tour. */
 uint64_t jl_tour(const uint8_t *card, size_t bytes, uint8_t *tour, size_t room, uint64_t *moves, uint64_t *length);
 
 /* Writes the position of the contour that a candidate belongs to, and its number within that contour. A card that is not

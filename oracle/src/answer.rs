@@ -223,7 +223,7 @@ fn the_rule_of_before_is_seen_from_three_candidates_on() {
     let mut elsewhere = 0;
     for case in 0..3000 {
         let r = crate::random::Random::of(1, "rule of before", case);
-        // no larger ones, over which the original takes long: they have one candidate a contour
+        // no larger ones: those of more contours have one candidate each, and the original takes long over them
         let mut card = crate::generate::good_within(&r, 1, crate::limits::Limits::BEFORE);
         card.limit = 0;
         let same = solved(&card) == solved_before(&card);

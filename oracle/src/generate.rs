@@ -50,8 +50,8 @@ pub fn slit() -> Card {
     on_a_line(45, 3, 7.0, &[&[4.0, 10.0], &[2.0], &[1.0]])
 }
 
-/// Good cards of every shape, of either version. Few have more contours than before request 2026-04, over which the original
-/// takes long; more pairs than then any may have.
+/// Good cards of every shape, of either version. Any may have more pairs than before request 2026-04; few have more contours,
+/// over which the original takes long.
 pub fn good(r: &Random, version: u8) -> Card {
     let few_contours = Limits { contours: Limits::BEFORE.contours, ..Limits::TODAY };
     if r.one_in(32) { large(r, version) } else { good_within(r, version, few_contours) }
@@ -96,6 +96,7 @@ fn sized(r: &Random, version: u8, n: usize, limits: Limits) -> Card {
         ..Card::default()
     };
     let named = r.below(4);
+    // 64 where that is enough, so that the cards of before stay as they were
     let apart = if n > 64 { 128 } else { 64 };
     for k in 0..n {
         let id = match named {

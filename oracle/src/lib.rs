@@ -35,4 +35,4 @@ macro_rules! with_original {
         )*
     };
 }
-with_original!(cost hierarchy candidates table rules start search tour);
+with_original!(cost hierarchy candidates table rules start search tour large);

@@ -5,7 +5,7 @@ use crate::answer::Problem;
 use crate::card::Card;
 use crate::doors::refused;
 use crate::exports::{Left, UNTOUCHED, check, place, tour};
-use crate::generate::{good, large, limit_near};
+use crate::generate::{good, limit_near};
 use crate::limits::CANDIDATES;
 use crate::random::Random;
 use crate::run::{Tally, Wanted, by_version, same};
@@ -20,9 +20,9 @@ pub fn place_due(problem: &Problem, candidate: u64) -> (u64, u64, u64) {
 }
 
 const ALL: u64 = 200_000;
-const LARGE: u64 = 100_000;
 
-fn one(r: &Random, card: &Card, problem: Problem, by_rule: &Tally) -> Result<u64, String> {
+/// Compares what is said of one card.
+pub fn one(r: &Random, card: &Card, problem: Problem, by_rule: &Tally) -> Result<u64, String> {
     let n = card.contours.len();
     let bytes = card.bytes();
     let what = || format!("{card:?}");
@@ -53,14 +53,4 @@ pub fn compare(wanted: Wanted) -> bool {
         one(r, &card, problem, &by_rule)
     };
     by_version(wanted, "good cards", ALL, of_any_size) && by_rule.enough(wanted.of(ALL))
-}
-
-/// Cards with more contours than before request 2026-04.
-pub fn compare_large(wanted: Wanted) -> bool {
-    let by_rule = Tally::of("large cards with another tour than by the written pairs alone", 20);
-    let of_many = |r: &Random, version| {
-        let card = large(r, version);
-        one(r, &card, Problem::of(&card), &by_rule)
-    };
-    by_version(wanted, "large cards", LARGE, of_many) && by_rule.enough(wanted.of(LARGE))
 }

@@ -14,13 +14,14 @@ use Rattle.fields.specs.Limits.{cardBytes}
 use Rattle.fields.specs.Layout.{blocksOf, contoursOf}
 use Rattle.card.specs.Stages.{lengthFault, lengthFaultWithin, kindDue, headFaults, blocksDue, countFault}
 
-pub too-long : (s : List ℕ) → cardBytes < length s → At (cardBytes + 1) ≡ lengthFault s
+-- a file longer than the most bytes is told as one byte longer than that
+pub too-long : (most : ℕ) (s : List ℕ) → most < length s → At (most + 1) ≡ lengthFaultWithin most s
 unfolding lengthFaultWithin
-too-long s h =
+too-long most s h =
     let a = eqb (length s) 0 in
     let b = not (eqb (length s % blockBytes) 0) in
-    let e : min (length s) (cardBytes + 1) ≡ cardBytes + 1 = omega arith in
-    rw (lt-ltb cardBytes (length s) h, or-true b, or-true a, e)
+    let e : min (length s) (most + 1) ≡ most + 1 = omega arith in
+    rw (lt-ltb most (length s) h, or-true b, or-true a, e)
 
 module _ (s : List ℕ) (short : length s ≤ cardBytes) where
   pub no-blocks : (eqb (length s) 0 || not (eqb (length s % blockBytes) 0)) ≡ true → At (length s) ≡ lengthFault s

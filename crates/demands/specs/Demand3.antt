@@ -47,7 +47,7 @@ pub record Interval : Type 0 where
   pub one-more : (S : ℕ) (legs : List ℕ) → lowerEnd (S ∷ legs) ≡ legRoot S + lowerEnd legs
   pub upper : (legs : List ℕ) → upperEnd legs ≡ lowerEnd legs + length legs
 
--- the most contours for which the closer bounds hold: as many as a card had before request 2026-04
+-- the most contours for which the closer bounds hold: as many as a card could have before request 2026-04
 abbrev pub closeUpTo : ℕ
 closeUpTo = before .contours
 

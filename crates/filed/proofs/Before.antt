@@ -1,26 +1,27 @@
--- What a reader from before says of every sound card. Assumes nothing.
+-- What a reader from before says of every sound card, and that what it refuses gets no tour. Assumes nothing.
 use mathlib.Core.Path.{_≡_, refl, _∙_}
-use mathlib.Core.Bool.{false, not, or-true}
+use mathlib.Core.Bool.{false}
 use mathlib.Core.List.{List}
-use Prim.Native.Nat.{ℕ, zero, suc, _+_, _%_, _≤_, _<_, min}
+use Prim.Native.Nat.{ℕ, zero, suc, _≤_, _<_}
 use native.Mathlib.Omega.{arith}
 use borrow.Author.Tests.{lt-ltb, le-ltb}
-use lib.Dec.{eqb, lit<}
+use lib.Dec.{lit<}
 use lib.ListN.{length, getD}
 use Rattle.answer.specs.declared.Found.the-variants.{At, Absent}
 use Rattle.answer.specs.declared.Check.the-variants.{Fine}
 use Rattle.answer.specs.Stage.{firstRefusal}
 use Rattle.answer.proofs.LowestLaws.{at-is}
 use Rattle.answer.proofs.StageLaws.{is-fine}
-use Rattle.block.specs.Block.{blockBytes}
 use Rattle.fields.specs.Layout.{contoursOf, pairsOf}
 use Rattle.card.specs.Limits.{today, before}
 use Rattle.card.specs.Stages.{lengthFaultWithin, checkFault, startFault, headFaultsWithin, headFaultWithin}
 use Rattle.card.specs.Verdict.{stagesWithin, checkWithin, checkOf}
+use Rattle.card.proofs.FaultLaws.{too-long}
 use Rattle.card.proofs.GroupLaws.{fine-absent}
 use Rattle.card_laws.proofs.Facts.{accepted}
 use Rattle.tour.specs.Tour.{tourCheckWithin, tourWithin}
-use Rattle.filed.specs.Before.{Raised, Refuses, NotLarger, Longer, MoreContours, MorePairs, NoTour, Reads, Claim}
+use Rattle.filed.specs.Before.{Raised, Longest, Refuses, NotLarger, Longer, MoreContours, MorePairs, NoTour}
+use Rattle.filed.specs.Before.{Reads, Claim}
 use Rattle.filed.proofs.LimitLaws.{Passes, Small, passes, small, one-verdict, one-head, one-cycle, length-again}
 
 module _ (s : List ℕ) (fine : checkOf s ≡ Fine) where
@@ -43,17 +44,9 @@ module _ (s : List ℕ) (fine : checkOf s ≡ Fine) where
         cycle-fine = one-cycle before today s here there ∙ now .cycle-fine;
       }) now ∙ fine
 
-  too-long : before .bytes < length s → lengthFaultWithin (before .bytes) s ≡ At (before .bytes + 1)
-  unfolding lengthFaultWithin
-  too-long h =
-      let a = eqb (length s) 0 in
-      let b = not (eqb (length s % blockBytes) 0) in
-      let e : min (length s) (before .bytes + 1) ≡ before .bytes + 1 = omega arith in
-      rw (lt-ltb (before .bytes) (length s) h, or-true b, or-true a, e)
-
   longer : Longer s
   unfolding checkWithin
-  longer h = rw (too-long h)
+  longer h = rw (← too-long (before .bytes) s h)
 
   -- the stages between the length and the head name no limit
   checks-fine : checkFault s ≡ Absent
@@ -107,5 +100,17 @@ no-tour s r e room table = rw e
 raised : Raised
 raised = record { bytes = (refl, refl); contours = (refl, refl); pairs = (refl, refl) }
 
+longest-today : Longest today
+longest-today = refl
+
+longest-before : Longest before
+longest-before = refl
+
 pub claim : Claim
-claim = record { raised = raised; longest-today = refl; longest-before = refl; reads = reads; no-tour = no-tour }
+claim = record {
+  raised = raised;
+  longest-today = longest-today;
+  longest-before = longest-before;
+  reads = reads;
+  no-tour = no-tour;
+}

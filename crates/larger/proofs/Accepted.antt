@@ -86,7 +86,7 @@ module _ (s : List ℕ) (n : ℕ) (known : Known s n) where
   blocks : blocksOf s ≡ suc n
   blocks = omega arith
 
-  -- a test that no block fails
+  -- a fault that neither the head nor a contour's block has, no block has
   no-block : (test : ℕ → Bool) → test 0 ≡ false → ((k : ℕ) → k < n → test (suc k) ≡ false) → Nowhere test (suc n)
   no-block test first later zero h = first
   no-block test first later (suc k) h = later k (omega arith)
@@ -169,7 +169,7 @@ module _ (s : List ℕ) (n : ℕ) (known : Known s n) where
   cycle-fine : cycleFault s ≡ Absent
   unfolding cycleFaultWithin
   cycle-fine =
-      let few = min (contoursOf s) contourLimit in rw no-pairs (absent-exactly few [] .1 (λ i h. no-way few))
+      let seen = min (contoursOf s) contourLimit in rw no-pairs (absent-exactly seen [] .1 (λ i h. no-way seen))
 
   -- the card is accepted
   pub fine : checkOf s ≡ Fine

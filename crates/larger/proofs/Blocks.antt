@@ -2,7 +2,7 @@
 use mathlib.Core.Path.{_≡_, refl, sym, ap, _∙_}
 use mathlib.Core.Bool.{true, not}
 use mathlib.Core.List.{List, [], _++_, append-nil}
-use Prim.Native.Nat.{ℕ, zero, suc, _+_, _*_, _<_, _≤_}
+use Prim.Native.Nat.{ℕ, zero, suc, _+_, _*_, _-_, _<_, _≤_}
 use native.Mathlib.Nat.{add-zero, add-suc, suc-add}
 use native.Mathlib.Omega.{arith}
 use borrow.Author.Tests.{not-false}
@@ -12,11 +12,11 @@ use Rattle.answer.specs.declared.Found.the-variants.{Absent}
 use Rattle.answer.specs.Lowest.{lowest}
 use Rattle.answer.proofs.LowestLaws.{is-absent}
 use Rattle.block.specs.Field.{byteAt, u16At, u32At, u64At}
-use Rattle.block.specs.Block.{blockBytes, checked, starts, zerosAt}
+use Rattle.block.specs.Block.{blockBytes, payloadBytes, checkOffset, checked, starts, zerosAt}
 use Rattle.block.specs.Write.{blockOf}
 use Rattle.block.proofs.Readings.{is-due}
 use Rattle.closure.specs.Limits.{contourLimit}
-use Rattle.fields.specs.Layout.{payload, idOf, vertexCountOf, typeOf, fillerOf, vertexOffset}
+use Rattle.fields.specs.Layout.{payload, idOf, vertexCountOf, typeOf, fillerOf, vertexOffset, contourSize, vertexSize}
 use Rattle.card_laws.specs.Examples.{asJob41, cornered}
 use Rattle.card_laws.specs.Write.{headBytes, contourBytes, contourBlocks, written}
 use Rattle.card_laws.proofs.Starred.{verdict-computes}
@@ -80,6 +80,10 @@ block-at (suc n) b (suc i) h =
 
 -- ---- what a contour's block says
 
+-- the bytes of its fields, one vertex among them
+abbrev used : ℕ
+used = contourSize + vertexSize
+
 pub record Says (s : List ℕ) (k : ℕ) : Type 0 where
   pub check-is : checked s (blockBytes * suc k) ≡ true
   pub start-is : starts s (blockBytes * suc k) 2 1 (suc k) ≡ true
@@ -87,7 +91,7 @@ pub record Says (s : List ℕ) (k : ℕ) : Type 0 where
   pub count-is : vertexCountOf s k ≡ 1
   pub type-is : typeOf s k ≡ 0
   pub filler-is : fillerOf s k ≡ 0
-  pub spare-is : zerosAt s (payload (suc k) + 28) 472 ≡ true
+  pub spare-is : zerosAt s (payload (suc k) + used) (payloadBytes - used) ≡ true
   pub x-is : u64At s (vertexOffset k 0) ≡ 0
   pub y-is : u64At s (vertexOffset k 0 + 8) ≡ 0
 
@@ -122,7 +126,7 @@ module _ (s rest : List ℕ) (k : ℕ) (cut : drop (blockBytes * suc k) s ≡ co
   check : k < contourLimit → checked s (blockBytes * suc k) ≡ true
   unfolding checked
   check few =
-      rw (cut, u32 (blockBytes * suc k + 508) 508 refl)
+      rw (cut, u32 (blockBytes * suc k + checkOffset) checkOffset refl)
       (not-false (checked here 0)
       (is-absent (λ i. not (checked (contourBlock (suc i) ++ rest) 0)) contourLimit (checks rest) k few))
 
@@ -140,7 +144,7 @@ module _ (s rest : List ℕ) (k : ℕ) (cut : drop (blockBytes * suc k) s ≡ co
     count-is = u16 _ 16 (omega arith);
     type-is = byte _ 18 (omega arith);
     filler-is = byte _ 19 (omega arith);
-    spare-is = zeros (payload (suc k) + 28) 36 472 (omega arith);
+    spare-is = zeros (payload (suc k) + used) (8 + used) (payloadBytes - used) (omega arith);
     x-is = u64 _ 20 (omega arith);
     y-is = u64 _ 28 (omega arith);
   }

@@ -2,10 +2,11 @@
 -- (filed's Before, Demand 3 above 40 contours) is not said of nothing. Assumes nothing.
 use mathlib.Core.Path.{_≡_}
 use mathlib.Core.List.{List, [], _∷_}
-use Prim.Native.Nat.{ℕ, zero, suc, _+_, _*_}
+use Prim.Native.Nat.{ℕ, zero, suc, _+_, _*_, _-_, _/_, _<_}
 use lib.Ieee.{binary64, ofBits}
 use lib.ListN.{replicate}
 use Rattle.answer.specs.declared.Check.the-variants.{Fine}
+use Rattle.block.specs.Block.{blockBytes}
 use Rattle.fields.specs.Layout.{contoursOf}
 use Rattle.card.specs.Limits.{today, before}
 use Rattle.card.specs.Verdict.{checkWithin, checkOf}
@@ -15,7 +16,7 @@ use Rattle.card_laws.specs.Write.{written}
 use Rattle.tour.specs.declared.Toured.the-variants.{Done}
 use Rattle.tour.specs.Search.{outcomeOn}
 use Rattle.tour.specs.Tour.{tourOf}
-use Rattle.demands.specs.Demand3.{OnGrid}
+use Rattle.demands.specs.Demand3.{OnGrid, closeUpTo}
 use Rattle.filed.specs.Before.{Refuses}
 
 -- so many contours at the corner, their ids rising from a number
@@ -23,37 +24,47 @@ unfoldable pub crowd : ℕ → ℕ → List Contour
 crowd zero id = []
 crowd (suc n) id = cornered id ∷ crowd n (suc id)
 
--- a card of so many contours, their ids from 1 on, and no pair
+-- a card of so many contours, their ids from 1 on, and no pair: a block for its head and one for each contour
 abbrev pub crowded : ℕ → List ℕ
 crowded n = written (asJob41 (crowd n 1) [])
 
--- one contour more than the limits from before allow, and as many as today's do
-abbrev pub oneMore : List ℕ
-oneMore = crowded (before .contours + 1)
+-- one contour more than the limits from before allow; as many as fit into the longest file from then, and one more; as
+-- many as today's limits allow
+abbrev pub oneMore : ℕ
+oneMore = before .contours + 1
 
-abbrev pub full : List ℕ
-full = crowded (today .contours)
+abbrev pub fitting : ℕ
+fitting = before .bytes / blockBytes - 1
+
+abbrev pub most : ℕ
+most = today .contours
 
 -- one contour before another, said once more than the limits from before allow
 abbrev pub repeated : List ℕ
 repeated = written (asJob41 (cornered 5 ∷ cornered 6 ∷ []) (replicate (before .pairs + 1) (waits 5 6)))
 
--- each is fine today; the limits from before take job 41, and refuse the others for contours, length and pairs
-pub record Judged : Type 0 where
-  pub job41-before : checkWithin before (written job41) ≡ Fine
-  pub one-more-fine : checkOf oneMore ≡ Fine
-  pub one-more-before : Refuses oneMore 4 1
-  pub full-fine : checkOf full ≡ Fine
-  pub full-before : Refuses full 1 23041
-  pub repeated-fine : checkOf repeated ≡ Fine
-  pub repeated-before : Refuses repeated 4 2
+-- so many contours are fine today, and sent back by a reader from before
+pub record Larger (n number place : ℕ) : Type 0 where
+  pub fine : checkOf (crowded n) ≡ Fine
+  pub sent-back : Refuses (crowded n) number place
 
--- demand 3 above 40 contours: a card on the grid, answered with a tour in rooms of just the size
-pub record AnsweredOnGrid : Type 0 where
-  pub contours : contoursOf full ≡ 80
-  pub on-grid : OnGrid full
+-- each case of what such a reader says has a card
+pub record Judged : Type 0 where
+  pub one-more : Larger oneMore 4 1
+  pub longest : Larger fitting 4 1
+  pub a-block-more : Larger (fitting + 1) 1 (before .bytes + 1)
+  pub as-many-as-today : Larger most 1 (before .bytes + 1)
+  pub repeated-fine : checkOf repeated ≡ Fine
+  pub repeated-sent-back : Refuses repeated 4 2
+  pub job41-taken : checkWithin before (written job41) ≡ Fine
+
+-- so many contours meet what demand 3 asks for, above 40: on the grid, and answered with a tour, in rooms that just do
+pub record OnGridAnswered (n : ℕ) : Type 0 where
+  pub above : closeUpTo < contoursOf (crowded n)
+  pub on-grid : OnGrid (crowded n)
   pub answered :
-      tourOf full (replicate 80 0) (replicate (80 * 80) (ofBits binary64 0)) .answer ≡ Done (outcomeOn full)
+      tourOf (crowded n) (replicate n 0) (replicate (n * n) (ofBits binary64 0)) .answer
+      ≡ Done (outcomeOn (crowded n))
 
 abbrev pub Claim : Type 0
-Claim = Judged × AnsweredOnGrid
+Claim = Judged × (OnGridAnswered oneMore × OnGridAnswered most)

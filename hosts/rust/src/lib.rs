@@ -4,8 +4,8 @@
 //! followed, [`tour`] finds its tour, [`list`] prints it as the machine reads it. A card of version 1 or 2 will do; in
 //! version 2 a hole is cut before the first outline of its part and instance without a pair that says so. The work is
 //! done by a library in which every function is proved: these calls only hand slices over and make numbers into words.
-//! They take any bytes, never panic, and keep nothing. They may run side by side; how much stack the library takes
-//! hosts/c/jambolive.h says.
+//! They take any bytes, never panic, and keep nothing. They may run side by side. hosts/c/jambolive.h says how much
+//! stack the library takes.
 //!
 //! ```
 //! let mut card = std::fs::read("../../examples/job-41.card").unwrap();
@@ -48,9 +48,9 @@ pub struct Tour {
 
 /// Finds a card's tour. In the turn of a position the search keeps the last candidate that it accepted, where a library from
 /// before request 2026-01 did not: with three candidates a contour or more the tour may be another than then, mostly shorter
-/// and now and then longer; with fewer it is the same (docs/DIFFERENCES.md). A library from before request 2026-04
-/// refuses a card with more contours or pairs than it takes (docs/CARD.md, "Larger cards"); that request changed no tour of a
-/// card that it takes.
+/// and now and then longer; with fewer it is the same (docs/DIFFERENCES.md). A card with more contours or pairs than a
+/// library from before request 2026-04 takes is refused by it (docs/CARD.md, "Larger cards"); that request changed no tour of
+/// a card that it takes.
 pub fn tour(card: &[u8]) -> Result<Tour, Refusal> {
     let mut room = [0; CONTOURS];
     let (moves, length) = tour_into(card, &mut room)?;

@@ -33,8 +33,8 @@ fn root() {
 }
 
 /// The largest cards, from before request 2026-04 and of today. Of the latter in one the pairs lead from every other contour to
-/// the next one and no further, in another from each contour to all that come after it: what that takes longer is the closure
-/// on dense pairs.
+/// the next one and no further, in another from each contour to the next, and so to all that come after it: what that one takes
+/// longer is the closure on dense pairs.
 fn check() {
     use oracle::limits::{BLOCK, CONTOURS, Limits, PAIRS, shared};
     use oracle::{card::Card, check, generate, random::Random, reading};

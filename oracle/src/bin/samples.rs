@@ -5,7 +5,7 @@ use oracle::answer::printed;
 use oracle::card::{Card, Contour};
 use oracle::edges::{Edge, edges, edges_of_parts, edges_of_size};
 use oracle::generate;
-use oracle::limits::{AUTO, BLOCK, CONTOURS, Limits, VERSION_AT};
+use oracle::limits::{AUTO, BLOCK, CARD_BYTES, CONTOURS, Limits, VERSION_AT};
 use oracle::random::Random;
 use std::fs;
 use std::path::Path;
@@ -105,8 +105,7 @@ fn replay(crate_folder: &Path) {
     let one = written(edges()).chain([generate::slit().bytes()]).chain(random("replay", 2000, 1));
     let two = written(edges_of_parts()).chain([generate::holes().bytes()]).chain(random("replay, version 2", 400, 2));
     // no reader of the list has room for more
-    let three =
-        written(edges_of_size()).chain((0..16).map(large)).filter(|card| card.len() <= Limits::TODAY.bytes() + 1);
+    let three = written(edges_of_size()).chain((0..16).map(large)).filter(|card| card.len() <= CARD_BYTES + 1);
     for bytes in one.chain(two).chain(three) {
         cards.extend((bytes.len() as u32).to_le_bytes());
         cards.extend(&bytes);

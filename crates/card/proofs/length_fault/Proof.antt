@@ -1,11 +1,12 @@
 -- `card::length_fault` meets its contract. Assumes nothing.
 use borrow.Author.Needs.{needs}
+use Rattle.fields.specs.Limits.{cardBytes}
 use Rattle.card.proofs.FaultLaws.{too-long, no-blocks, whole-blocks}
 use Rattle.card.proofs.length_fault.Statement.{statement}
 use Rattle.card.proofs.length_fault.Tie as tie
 
 returns : tie.Need-returns
-returns c = too-long _ (c .if1 .taken)
+returns c = too-long cardBytes _ (c .if1 .taken)
 
 returns-2 : tie.Need-returns-2
 returns-2 c = no-blocks _ (c .before .if1 .left) (c .if2 .taken)
