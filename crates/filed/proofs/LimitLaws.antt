@@ -130,19 +130,22 @@ found-none : (b : Bool) (k : ℕ) → foundIf b k ≡ Absent → b ≡ false
 found-none true k e = let z : _≡_ {A = ℕ} 0 1 = cc in absurd (omega arith)
 found-none false k e = refl
 
--- a length that is not too large for one limit, nor above another, is not too large for that one
+-- a length that is not at fault is not 0, is one of whole blocks, and is not above the limit
+sized : (most : ℕ) (s : List ℕ) → lengthFaultWithin most s ≡ Absent
+    → (eqb (length s) 0 ≡ false) × (not (eqb (length s % blockBytes) 0) ≡ false) × (ltb most (length s) ≡ false)
+unfolding lengthFaultWithin
+sized most s e =
+    let bad = found-none (badLengthWithin most s) (min (length s) (most + 1)) e in
+    let some = or-none (eqb (length s) 0) (not (eqb (length s % blockBytes) 0) || ltb most (length s)) bad in
+    let whole = or-none (not (eqb (length s % blockBytes) 0)) (ltb most (length s)) (some .1) in
+    (some .0, whole .0, whole .1)
+
+pub not-above : (most : ℕ) (s : List ℕ) → lengthFaultWithin most s ≡ Absent → length s ≤ most
+not-above most s e = ltb-false most (length s) (sized most s e .2)
+
+-- with another limit that it is not above either, it is not at fault
 pub length-again : (most other : ℕ) (s : List ℕ) → lengthFaultWithin most s ≡ Absent → length s ≤ other
     → lengthFaultWithin other s ≡ Absent
 unfolding lengthFaultWithin
 length-again most other s e h =
-    let bad = found-none (badLengthWithin most s) (min (length s) (most + 1)) e in
-    let some = or-none (eqb (length s) 0) (not (eqb (length s % blockBytes) 0) || ltb most (length s)) bad in
-    let whole = or-none (not (eqb (length s % blockBytes) 0)) (ltb most (length s)) (some .1) in
-    rw (some .0, whole .0, le-ltb other (length s) h)
-
-pub not-above : (most : ℕ) (s : List ℕ) → lengthFaultWithin most s ≡ Absent → length s ≤ most
-unfolding lengthFaultWithin
-not-above most s e =
-    let bad = found-none (badLengthWithin most s) (min (length s) (most + 1)) e in
-    let some = or-none (eqb (length s) 0) (not (eqb (length s % blockBytes) 0) || ltb most (length s)) bad in
-    ltb-false most (length s) (or-none (not (eqb (length s % blockBytes) 0)) (ltb most (length s)) (some .1) .1)
+    let fine = sized most s e in rw (fine .0, fine .1, le-ltb other (length s) h)
