@@ -21,7 +21,7 @@ use Rattle.answer.proofs.StageLaws.{refused-is, fine-is, is-fine}
 use Rattle.closure.specs.Limits.{contourLimit, pairLimit}
 use Rattle.closure.specs.Cycle.{firstOnCycle}
 use Rattle.fields.specs.Layout.{contoursOf, pairsOf}
-use Rattle.card.specs.Stages.{headFaults, headFault, headFaultWithin}
+use Rattle.card.specs.Stages.{headFaultsWithin, headFaultWithin, headFault}
 use Rattle.card.specs.Names.{pairsOn}
 use Rattle.card.specs.Verdict.{cycleFault, cycleFaultWithin, cardStages, pairStages, checkOf, checkWithin}
 
@@ -77,17 +77,18 @@ fine-absent number Absent e = refl
 
 -- ---- the counts that the first stages let pass
 
-pub few-contours : (s : List ℕ) → firstRefusal (cardStages s) ≡ Fine → contoursOf s ≤ contourLimit
+-- no fault of the head: no more contours and pairs than the limits
+pub no-more : (contours pairs : ℕ) (s : List ℕ) → headFaultWithin contours pairs s ≡ Absent
+    → (contoursOf s ≤ contours) × (pairsOf s ≤ pairs)
 unfolding headFaultWithin
-few-contours s e =
-    ltb-false _ _ (is-absent (λ f. getD (headFaults s) f false) 8
-    (fine-absent 4 (headFault s) (is-fine (cardStages s) e 3 (lit< tt))) 1 (lit< tt))
+no-more contours pairs s e =
+    let none = is-absent (λ f. getD (headFaultsWithin contours pairs s) f false) 8 e in
+    (ltb-false _ _ (none 1 (lit< tt)), ltb-false _ _ (none 2 (lit< tt)))
 
-pub few-pairs : (s : List ℕ) → firstRefusal (cardStages s) ≡ Fine → pairsOf s ≤ pairLimit
-unfolding headFaultWithin
-few-pairs s e =
-    ltb-false _ _ (is-absent (λ f. getD (headFaults s) f false) 8
-    (fine-absent 4 (headFault s) (is-fine (cardStages s) e 3 (lit< tt))) 2 (lit< tt))
+pub few-of-both : (s : List ℕ) → firstRefusal (cardStages s) ≡ Fine
+    → (contoursOf s ≤ contourLimit) × (pairsOf s ≤ pairLimit)
+few-of-both s e =
+    no-more contourLimit pairLimit s (fine-absent 4 (headFault s) (is-fine (cardStages s) e 3 (lit< tt)))
 
 -- the cycle's stage, from the positions handed in
 pub cycle-is : (s p : List ℕ) (n : ℕ) (f : Found) → n ≡ contoursOf s → p ≡ pairsOn s → f ≡ firstOnCycle n p

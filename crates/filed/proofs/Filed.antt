@@ -13,7 +13,7 @@ use Rattle.instance.proofs.FineLaws.{held-all}
 use Rattle.tour_laws.proofs.TourLaws.{start-long}
 use Rattle.filed.specs.Filed.{Kept, Claim}
 use Rattle.filed.proofs.LimitLaws.{Passes, Small, passes, small, one-verdict, one-head, one-cycle, one-held}
-use Rattle.filed.proofs.LimitLaws.{one-start, one-tour, one-list, length-again, not-above}
+use Rattle.filed.proofs.LimitLaws.{one-start, one-tour, one-list, length-again, short-enough}
 
 module _ (s : List ℕ) (e : checkWithin before s ≡ Fine) where
   then : Passes before s
@@ -31,7 +31,7 @@ module _ (s : List ℕ) (e : checkWithin before s ≡ Fine) where
 
   now : Passes today s
   now =
-      let short : length s ≤ before .bytes = not-above (before .bytes) s (then .length-fine) in
+      let short : length s ≤ before .bytes = short-enough (before .bytes) s (then .length-fine) in
       record {
         length-fine = length-again (before .bytes) (today .bytes) s (then .length-fine) (omega arith);
         head-fine = sym (one-head before today s small-then small-now) ∙ then .head-fine;

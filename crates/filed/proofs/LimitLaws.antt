@@ -8,11 +8,10 @@ use native.Mathlib.Omega.{arith}
 use borrow.Author.Tests.{le-leb, le-ltb, ltb-false}
 use lib.Dec.{eqb, ltb, lit<}
 use lib.Ieee.{Float}
-use lib.ListN.{length, getD}
+use lib.ListN.{length}
 use Rattle.answer.specs.declared.Found.the-variants.{Absent}
 use Rattle.answer.specs.declared.Check.the-variants.{Fine}
 use Rattle.answer.specs.Lowest.{lowest}
-use Rattle.answer.proofs.LowestLaws.{is-absent}
 use Rattle.answer.proofs.RoomLaws.{padded-front}
 use Rattle.answer.proofs.StageLaws.{is-fine}
 use Rattle.answer.proofs.Truth.{or-none}
@@ -20,10 +19,10 @@ use Rattle.block.specs.Block.{blockBytes}
 use Rattle.closure.specs.Cycle.{onCycle}
 use Rattle.fields.specs.Layout.{contoursOf, pairsOf}
 use Rattle.card.specs.Limits.{Limits}
-use Rattle.card.specs.Stages.{foundIf, badLengthWithin, lengthFaultWithin, headFaultsWithin, headFaultWithin, nameFault}
+use Rattle.card.specs.Stages.{foundIf, badLengthWithin, lengthFaultWithin, headFaultWithin, nameFault}
 use Rattle.card.specs.Names.{pairsOn, knownBefore, seatsWithin, namedAsWithin, namedWithin}
 use Rattle.card.specs.Verdict.{cycleFaultWithin, stagesWithin, checkWithin}
-use Rattle.card.proofs.GroupLaws.{fine-absent}
+use Rattle.card.proofs.GroupLaws.{fine-absent, no-more}
 use Rattle.instance.specs.Gather.{heldWithin}
 use Rattle.improve.specs.Search.{searchedWithin}
 use Rattle.start.specs.Nearest.{nearestWithin}
@@ -53,10 +52,7 @@ passes l s e =
     }
 
 pub small : (l : Limits) (s : List ℕ) → headFaultWithin (l .contours) (l .pairs) s ≡ Absent → Small l s
-unfolding headFaultWithin
-small l s e =
-    let none = is-absent (λ f. getD (headFaultsWithin (l .contours) (l .pairs) s) f false) 8 e in
-    record { contours = ltb-false _ _ (none 1 (lit< tt)); pairs = ltb-false _ _ (none 2 (lit< tt)) }
+small l s e = let both = no-more (l .contours) (l .pairs) s e in record { contours = both .0; pairs = both .1 }
 
 -- where both pass, the verdicts are one
 pub one-verdict : (l m : Limits) (s : List ℕ) → Passes l s → Passes m s → checkWithin l s ≡ checkWithin m s
@@ -140,8 +136,8 @@ sized most s e =
     let whole = or-none (not (eqb (length s % blockBytes) 0)) (ltb most (length s)) (some .1) in
     (some .0, whole .0, whole .1)
 
-pub not-above : (most : ℕ) (s : List ℕ) → lengthFaultWithin most s ≡ Absent → length s ≤ most
-not-above most s e = ltb-false most (length s) (sized most s e .2)
+pub short-enough : (most : ℕ) (s : List ℕ) → lengthFaultWithin most s ≡ Absent → length s ≤ most
+short-enough most s e = ltb-false most (length s) (sized most s e .2)
 
 -- with another limit that it is not above either, it is not at fault
 pub length-again : (most other : ℕ) (s : List ℕ) → lengthFaultWithin most s ≡ Absent → length s ≤ other

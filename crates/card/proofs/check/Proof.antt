@@ -2,7 +2,7 @@
 use mathlib.Core.Path.{sym, _∙_}
 use denote.Ref.{now}
 use borrow.Author.Needs.{needs}
-use Rattle.card.proofs.GroupLaws.{few-contours, few-pairs, stages-stop, pairs-say}
+use Rattle.card.proofs.GroupLaws.{few-of-both, stages-stop, pairs-say}
 use Rattle.card.proofs.check.Statement.{statement}
 use Rattle.card.proofs.check.Tie as tie
 
@@ -16,7 +16,7 @@ check-pairs-requires : tie.Need-check-pairs-requires
 check-pairs-requires c κs = let g = c .before .before in
     let s = now (g .before .before .args .card) in
     let e = sym (g .check-stages .ensures) ∙ c .enum-told .given .1 in
-    (few-contours s e, few-pairs s e)
+    few-of-both s e
 
 returns-2 : tie.Need-returns-2
 returns-2 c = let t = c .before in
