@@ -25,6 +25,7 @@ due $card "| 10 | passes of the search, 2 bytes | at most $(code PASSES);"
 due $card "| 8 | v, vertices, 2 bytes | 1 to $(code VERTICES) |"
 longer="its length; $((bytes + 1)) for all that is longer than $bytes |"
 due $card "| 1 | the file is empty, has a broken block or more than $blocks | $longer"
+due $card "| 13 | then: a piece with bytes, or the asking, with a byte room that is smaller than the longest card | $bytes |"
 # what the header works out from its own
 if [ "$bytes" -ne $(($(code BLOCK) * (1 + $(code CONTOURS) + ($(code PAIRS) + $(code PAIRS_A_BLOCK) - 1) / $(code PAIRS_A_BLOCK)))) ]; then
     echo 'the longest card is not the one with the most contours and pairs'

@@ -26,6 +26,8 @@ extern "C" {
 #define JL_CHECK_STACK_BYTES 16384
 #define JL_PLACE_STACK_BYTES 32768
 #define JL_TOUR_STACK_BYTES 98304
+#define JL_FEED_STACK_BYTES 1024
+#define JL_ASK_STACK_BYTES 98304
 #define JL_STACK_BYTES JL_TOUR_STACK_BYTES
 
 /* The bytes of a block, and the pairs that one takes. */
@@ -63,6 +65,28 @@ uint64_t jl_tour(const uint8_t *card, size_t bytes, uint8_t *tour, size_t room, 
  * good gets its refusal 1 to 12 first, whatever the candidate; then refusal 15, with the candidate as its place
  * (2^32 - 1 for any above it), where the card has no such candidate. */
 uint64_t jl_place(const uint8_t *card, size_t bytes, uint64_t candidate, uint64_t *contour, uint64_t *within);
+
+/* A card that arrives in pieces: each goes to jl_feed as it comes, and jl_ask ends it. Between the calls the host keeps
+ * the state, one number, and the byte room, whose front holds the bytes fed so far; it may write behind them, or lend
+ * another room that begins with them. However the card is cut, jl_ask answers and writes what jl_tour does of the whole.
+ * A new card has the state JL_NEW; JL_HELD says of a state how many bytes are held, and JL_ENDED whether jl_ask has
+ * ended it. The rest of the number is the library's own: whether there were more bytes than are held. */
+#define JL_NEW 0
+#define JL_HELD(state) ((uint64_t)(state) / 4)
+#define JL_ENDED(state) ((int)((state) % 2))
+
+/* Takes a piece of `bytes` bytes: writes it behind those that are held in `held`, whose rest is kept. Bytes past the
+ * JL_CARD_BYTES of the longest card are not held, and jl_ask then answers refusal 1 at JL_CARD_BYTES + 1. After the end
+ * any piece, of no bytes too, is refusal 17, place 0. Then a piece with bytes is refusal 13, place JL_CARD_BYTES, where
+ * `room` is under JL_CARD_BYTES, however few are held; no bytes need no room. A refusal changes nothing. */
+uint64_t jl_feed(uint64_t *state, uint8_t *held, size_t room, const uint8_t *piece, size_t bytes);
+
+/* The end: answers for the bytes that were fed as jl_tour does for a card, and writes `tour`, `moves` and `length` as it
+ * does. A byte room under JL_CARD_BYTES is refusal 13, place JL_CARD_BYTES, which changes nothing and is not the end;
+ * after every other answer, a refusal of the card or of the tour's room too, the state is ended. Asked again with the
+ * same rooms it answers the same, and in other rooms what they get of the same card. */
+uint64_t jl_ask(uint64_t *state, const uint8_t *held, size_t bytes, uint8_t *tour, size_t room, uint64_t *moves,
+                uint64_t *length);
 
 #ifdef __cplusplus
 }

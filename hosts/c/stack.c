@@ -5,13 +5,17 @@
 #include <pthread.h>
 #include <string.h>
 
-#define CALLS 3
+#define CALLS 5
 /* as little as a thread may have on AArch64 */
 #define SPACE (1 << 17)
 #define PAINT 0xa5
 
 static int call;
 static uintptr_t top;
+
+/* a card that was fed whole, for jl_ask */
+static uint8_t held[JL_CARD_BYTES];
+static uint64_t fed;
 
 static void *ask(void *tour)
 {
@@ -21,8 +25,12 @@ static void *ask(void *tour)
         jl_check(card, bytes);
     else if (call == 1)
         jl_tour(card, bytes, tour, JL_CONTOURS, &a, &b);
-    else
+    else if (call == 2)
         jl_place(card, bytes, 0, &a, &b);
+    else if (call == 3)
+        jl_feed(&fed, held, sizeof held, card, bytes);
+    else
+        jl_ask(&fed, held, sizeof held, tour, JL_CONTOURS, &a, &b);
     return NULL;
 }
 
@@ -47,14 +55,16 @@ static size_t taken(uint8_t *space)
 
 int main(void)
 {
-    static const char *const calls[CALLS] = {"jl_check", "jl_tour", "jl_place"};
-    static const size_t due[CALLS] = {JL_CHECK_STACK_BYTES, JL_TOUR_STACK_BYTES, JL_PLACE_STACK_BYTES};
+    static const char *const calls[CALLS] = {"jl_check", "jl_tour", "jl_place", "jl_feed", "jl_ask"};
+    static const size_t due[CALLS] = {JL_CHECK_STACK_BYTES, JL_TOUR_STACK_BYTES, JL_PLACE_STACK_BYTES, JL_FEED_STACK_BYTES,
+                                      JL_ASK_STACK_BYTES};
     size_t most[CALLS] = {0}, largest = 0;
     uint8_t *space = aligned_alloc(1 << 16, SPACE);
     int cards = 0;
     for (; space && next_card(); cards++) {
         if (bytes > largest && jl_check(card, bytes) == 0)
             largest = bytes;
+        fed = JL_NEW;
         for (call = 0; call < CALLS; call++) {
             size_t now = taken(space);
             most[call] = now > most[call] ? now : most[call];
@@ -63,8 +73,10 @@ int main(void)
     free(space);
 
     uint64_t a = 5, b = 7, empty = (uint64_t)1 << 32;
+    fed = JL_NEW;
     int kept = jl_check(NULL, 0) == empty && jl_tour(NULL, 0, NULL, 0, &a, &b) == empty
-        && jl_place(NULL, 0, 0, &a, &b) == empty && a == 5 && b == 7;
+        && jl_place(NULL, 0, 0, &a, &b) == empty && jl_feed(&fed, NULL, 0, NULL, 0) == 0
+        && jl_ask(&fed, held, sizeof held, NULL, 0, &a, &b) == empty && a == 5 && b == 7;
 
     printf("C host: stack over %d cards, of at most %zu bytes:", cards, largest);
     int fits = largest == JL_CARD_BYTES;

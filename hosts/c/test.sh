@@ -1,7 +1,7 @@
 #!/bin/sh
 # Builds list.c over the archive. What it prints, and what the program cutlist prints where it is built, is held against the
-# list of each example card, and against the refusal of no bytes and of more than any card has. Then stack.c and roots.c, over
-# the cards of the fixed list, roots.c over an archive that counts.
+# list of each example card, and against the refusal of no bytes and of more than any card has. Then feed.c, stack.c and
+# roots.c, over the cards of the fixed list, roots.c over an archive that counts.
 set -eu
 
 cd "$(dirname "$0")/../.."
@@ -9,6 +9,8 @@ command -v cc >/dev/null || { echo 'C host: left out, no cc on this machine'; ex
 list=target/staticlib/list
 # -lm: the remainder of two floats is the C library's fmod
 cc -std=c11 -O2 -Wall -Wextra -Werror -pedantic -o "$list" hosts/c/list.c target/staticlib/libhost.a -lm
+feed=target/staticlib/feed
+cc -std=gnu11 -O2 -Wall -Wextra -Werror -pedantic -pthread -o "$feed" hosts/c/feed.c target/staticlib/libhost.a -lm
 stack=target/staticlib/stack
 cc -std=gnu11 -O2 -Wall -Wextra -Werror -pedantic -pthread -o "$stack" hosts/c/stack.c target/staticlib/libhost.a -lm
 hosts/native/archive.sh --counted host
@@ -31,6 +33,7 @@ prints() { # WORDS..: the program, run on every input
 over=$(($(echo 'JL_CARD_BYTES + 1' | cc -E -P -xc -include hosts/c/jambolive.h - | tail -n 1)))
 prints "$list"
 echo "C host: $cards cards print their lists, no bytes and a million are refused"
+"$feed" <crates/replay/data/cards
 "$stack" <crates/replay/data/cards
 "$roots" <crates/replay/data/cards
 if [ -x target/bin/cutlist ]; then

@@ -1,15 +1,25 @@
-//! The exports of the crate `tour`, called as a host calls them, with a watch on every byte that they may
-//! not change: the card, and what stands around the tour's room and the lent numbers.
+//! The exports of the crate `host`, called as a host calls them, with a watch on every byte that they may
+//! not change: the card, and what stands around the rooms and the lent numbers.
 
 unsafe extern "C" {
     pub fn jl_check(card: *const u8, bytes: usize) -> u64;
     pub fn jl_tour(card: *const u8, bytes: usize, tour: *mut u8, room: usize, moves: *mut u64, length: *mut u64)
     -> u64;
     pub fn jl_place(card: *const u8, bytes: usize, candidate: u64, contour: *mut u64, within: *mut u64) -> u64;
+    pub fn jl_feed(state: *mut u64, held: *mut u8, room: usize, piece: *const u8, bytes: usize) -> u64;
+    pub fn jl_ask(
+        state: *mut u64,
+        held: *const u8,
+        bytes: usize,
+        tour: *mut u8,
+        room: usize,
+        moves: *mut u64,
+        length: *mut u64,
+    ) -> u64;
 }
 
 /// What a call of `jl_tour` leaves: its answer, the whole tour room, and the two lent numbers.
-#[derive(Debug, PartialEq)]
+#[derive(Clone, Debug, PartialEq)]
 pub struct Left {
     pub code: u64,
     pub room: Vec<u8>,
@@ -43,6 +53,12 @@ struct Padded<T>(Vec<T>);
 impl<T: Copy + PartialEq> Padded<T> {
     fn of(size: usize, untouched: T) -> Padded<T> {
         Padded(vec![untouched; AROUND + size + AROUND])
+    }
+
+    fn holding(entries: &[T], untouched: T) -> Padded<T> {
+        let mut padded = Padded::of(entries.len(), untouched);
+        padded.0[AROUND..AROUND + entries.len()].copy_from_slice(entries);
+        padded
     }
 
     fn lent(&mut self) -> *mut T {
@@ -92,6 +108,29 @@ pub fn place(card: &[u8], candidate: u64) -> Result<(u64, u64, u64), String> {
     let (mut contour, mut within) = (number(), number());
     let code = on(card, |at, bytes| unsafe { jl_place(at, bytes, candidate, contour.lent(), within.lent()) })?;
     Ok((code, told(&contour)?, told(&within)?))
+}
+
+/// What a call of `jl_feed` leaves: its answer, the state and the byte room.
+pub type Fed = (u64, u64, Vec<u8>);
+
+/// Feeds a piece.
+pub fn feed(state: u64, held: &[u8], piece: &[u8]) -> Result<Fed, String> {
+    let (mut number, mut room) = (Padded::holding(&[state], UNTOUCHED), Padded::holding(held, UNTOUCHED as u8));
+    let code = on(piece, |at, bytes| unsafe { jl_feed(number.lent(), room.lent(), held.len(), at, bytes) })?;
+    Ok((code, told(&number)?, room.left(UNTOUCHED as u8)?.to_vec()))
+}
+
+/// Asks at the end of a feed, with the tour's room and the two numbers as something left them. Says the state too.
+pub fn ask(state: u64, held: &[u8], before: &Left) -> Result<(u64, Left), String> {
+    let (mut number, mut tour) = (Padded::holding(&[state], UNTOUCHED), Padded::holding(&before.room, UNTOUCHED as u8));
+    let (mut moves, mut length) =
+        (Padded::holding(&[before.moves], UNTOUCHED), Padded::holding(&[before.length], UNTOUCHED));
+    let room = before.room.len();
+    let code = on(held, |at, bytes| unsafe {
+        jl_ask(number.lent(), at, bytes, tour.lent(), room, moves.lent(), length.lent())
+    })?;
+    let room = tour.left(UNTOUCHED as u8)?.to_vec();
+    Ok((told(&number)?, Left { code, room, moves: told(&moves)?, length: told(&length)? }))
 }
 
 /// A byte that changed around what was lent is seen.

@@ -5,7 +5,8 @@
 use crate::card::seal;
 use crate::coverage::Coverage;
 use crate::doors::refused;
-use crate::exports::{UNTOUCHED, jl_check, jl_place, jl_tour};
+use crate::exports::{UNTOUCHED, jl_ask, jl_check, jl_feed, jl_place, jl_tour};
+use crate::feed;
 use crate::generate::{damaged, good, mutated, relabelled};
 use crate::guard::Guarded;
 use crate::limits::{BLOCK, CANDIDATES, CARD_BYTES, CONTOURS, PAIRS, PAYLOAD_AT, REACH, contour, head};
@@ -97,11 +98,46 @@ fn safe(card: &[u8], fault: u64) -> Result<Option<Tour>, String> {
     Ok(tour.ok().map(|t| (t.candidates, t.moves, t.length.to_bits())))
 }
 
+/// The bytes in a few pieces into a byte room at the edge of a guard page, each piece at one too, and asked for a tour into
+/// a room of this size: what the end answers, with the tour's room and the two numbers.
+fn fed(r: &Random, memory: &mut Memory, bytes: &[u8], room: &[u8]) -> Result<(u64, Vec<u8>, u64, u64), String> {
+    let [piece, tour, first, second, held, state] = memory;
+    let edge = |r: &Random| r.one_in(2);
+    let filled = vec![UNTOUCHED as u8; CARD_BYTES + r.pick(&[0, 0, 1, BLOCK])];
+    let held = held.lend(&filled, edge(r));
+    let state = state.lend(&[0; 8], edge(r));
+    let (mut at, mut pieces) = (0, r.index(6));
+    while at < bytes.len() {
+        let size = if pieces == 0 { bytes.len() - at } else { feed::size(r, bytes.len() - at) };
+        let piece = piece.lend(&bytes[at..at + size], edge(r));
+        let number = state.as_mut_ptr().cast();
+        let code = unsafe { jl_feed(number, held.as_mut_ptr(), held.len(), piece.as_ptr(), piece.len()) };
+        same(|| format!("{size} bytes fed behind {at}"), code, 0)?;
+        (at, pieces) = (at + size, pieces.saturating_sub(1));
+        let kept = at.min(CARD_BYTES);
+        same(|| format!("held after {at} bytes"), told(state) / 4, kept as u64)?;
+        same(|| format!("the byte room after {at} bytes"), &*held, &[&bytes[..kept], &filled[kept..]].concat())?;
+    }
+    let tour = tour.lend(room, edge(r));
+    let (first, second) = (first.lend(&number(), edge(r)), second.lend(&number(), edge(r)));
+    let (moves, length) = (first.as_mut_ptr().cast(), second.as_mut_ptr().cast());
+    let kept = held.to_vec();
+    let number = state.as_mut_ptr().cast();
+    let code =
+        unsafe { jl_ask(number, held.as_ptr(), held.len(), tour.as_mut_ptr(), tour.len(), moves, length) };
+    same(|| "the byte room at the end".to_string(), &*held, &kept)?;
+    same(|| "the end's state".to_string(), told(state) % 2, 1)?;
+    Ok((code, tour.to_vec(), told(first), told(second)))
+}
+
+/// What is lent: the card or a piece of it, the tour's room, two numbers, the byte room of a feed and its state.
+type Memory = [Guarded; 6];
+
 /// Asks every export, and the safe calls, about these bytes. Says whether they are a card, or what differs.
-fn ask(r: &Random, memory: &mut [Guarded; 4], bytes: &[u8]) -> Result<bool, String> {
+fn ask(r: &Random, memory: &mut Memory, bytes: &[u8]) -> Result<bool, String> {
     let due = reading::card(bytes);
     let what = || format!("{} bytes, due {:?}", bytes.len(), due.as_ref().err());
-    let [card, tour, first, second] = memory;
+    let [card, tour, first, second, ..] = memory;
     let edge = |r: &Random| r.one_in(2);
     let card = card.lend(bytes, edge(r));
     let room = vec![UNTOUCHED as u8; r.pick(&[0, 1, CONTOURS - 1, CONTOURS, CONTOURS + 1, r.index(ROOM)])];
@@ -121,6 +157,7 @@ fn ask(r: &Random, memory: &mut [Guarded; 4], bytes: &[u8]) -> Result<bool, Stri
     } else {
         same(what, &tour[n..], &room[n..])?;
     }
+    let whole = (code, tour.to_vec(), told(first), told(second));
     let tour = (code == 0).then(|| (tour[..n].to_vec(), told(first), told(second)));
     same(|| "the card".to_string(), &*card, bytes)?;
     let tours: Vec<Tour> = tour.into_iter().chain(safe(card, fault)?).collect();
@@ -138,6 +175,7 @@ fn ask(r: &Random, memory: &mut [Guarded; 4], bytes: &[u8]) -> Result<bool, Stri
         Ok(card) => answered(card, &tours, candidate, place)?,
     };
     same(|| "the card".to_string(), &*card, bytes)?;
+    same(what, fed(r, memory, bytes, &room)?, whole)?;
     Ok(due.is_ok())
 }
 
@@ -162,7 +200,7 @@ fn answered(card: &crate::card::Card, tours: &[Tour], candidate: u64, place: (u6
 /// Runs for a time from a seed. A difference leaves its bytes in `failed`.
 pub fn run(seed: u64, seconds: u64, failed: &std::path::Path) -> bool {
     let began = Instant::now();
-    let mut memory = [LARGEST, ROOM, 8, 8].map(Guarded::new);
+    let mut memory = [LARGEST, ROOM, 8, 8, LARGEST, 8].map(Guarded::new);
     let (mut coverage, mut kept) = (Coverage::begin(), Vec::new());
     let (mut case, mut accepted) = (0u64, 0u64);
     println!("fuzz: seed {seed}, {seconds} s, {}", coverage.kind());

@@ -7,6 +7,7 @@ pub mod coverage;
 pub mod doors;
 pub mod edges;
 pub mod exports;
+pub mod feed;
 pub mod fuzz;
 pub mod generate;
 pub mod guard;

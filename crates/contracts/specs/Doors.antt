@@ -6,15 +6,18 @@ use Rattle.questions.specs.Nearest.{nearestOf}
 use Rattle.questions.specs.Index.{pickedOf, placeIn, locatedOf, globalOf}
 use lib.Ieee.{toBits, binary64}
 use Rattle.tour.specs.Tour.{left, tourOf}
+use Rattle.feed.specs.Feed.{begun, stored, addOf, reply, askOf}
 use Prim.Native.Nat.{min}
 use lib.ListN.{length}
 use Rattle.text.specs.Page.{over}
 use Rattle.list.specs.Lines.{listOf}
 use Rattle.answer.specs.Code.{codeOf}
 use Rattle.host.specs.Hosts.{hosted, hostTour, pointed, hostPlace}
+use Rattle.host.specs.Feeds.{hostFed, hostFeed, hostAsked, hostAsk}
 use denote.Ref.{now}
 use Rattle.questions.proofs as Questions
 use Rattle.tour.proofs as Tour
+use Rattle.feed.proofs as Feed
 use Rattle.list.proofs as List
 use Rattle.host.proofs as Host
 use Rattle.contracts.specs.Contract.{Says}
@@ -46,6 +49,14 @@ pub record OfTour : Type 0 where
   pub bits-of : Says Tour.bits_of.ended Tour.bits_of.Reads.Asked Tour.bits_of.Reads.Learnt
       (λ _ x r. r ≡ toBits binary64 x)
 
+-- feed
+pub record OfFeed : Type 0 where
+  pub begin : Says Feed.begin.ended Feed.begin.Reads.Asked Feed.begin.Reads.Learnt (λ _ r. r ≡ begun)
+  pub add : Says Feed.add.ended Feed.add.Reads.Asked Feed.add.Reads.Learnt
+      (λ _ f held piece r held′. stored r held′ ≡ addOf f (now held) (now piece))
+  pub ask : Says Feed.ask.ended Feed.ask.Reads.Asked Feed.ask.Reads.Learnt
+      (λ _ f held room table r room′ table′. reply r room′ table′ ≡ askOf f (now held) (now room) (now table))
+
 -- list
 pub record OfList : Type 0 where
   pub write-list : Says List.write_list.ended List.write_list.Reads.Asked List.write_list.Reads.Learnt
@@ -63,6 +74,12 @@ pub record OfHost : Type 0 where
   pub jl-place : Says Host.jl_place.ended Host.jl_place.Reads.Asked Host.jl_place.Reads.Learnt
       (λ _ card candidate contour within r contour′ within′.
       pointed r contour′ within′ ≡ hostPlace (locatedOf (now card) candidate) (now contour) (now within))
+  pub jl-feed : Says Host.jl_feed.ended Host.jl_feed.Reads.Asked Host.jl_feed.Reads.Learnt
+      (λ _ state held piece r state′ held′. hostFed r state′ held′ ≡ hostFeed (now state) (now held) (now piece))
+  pub jl-ask : Says Host.jl_ask.ended Host.jl_ask.Reads.Asked Host.jl_ask.Reads.Learnt
+      (λ _ state held tour moves length-bits r state′ tour′ moves′ length-bits′.
+      hostAsked state′ (hosted r tour′ moves′ length-bits′)
+      ≡ hostAsk (now state) (now held) (now tour) (now moves) (now length-bits))
 
 abbrev pub Claim : Type 0
-Claim = OfQuestions × OfTour × OfList × OfHost
+Claim = OfQuestions × OfTour × OfFeed × OfList × OfHost

@@ -1,3 +1,5 @@
 pub mod BoundLaws
 pub mod Exports
 pub mod HostLaws
+pub mod FeedLaws
+pub mod Pieces

@@ -1,2 +1,4 @@
 pub mod Hosts
 pub mod Exports
+pub mod Feeds
+pub mod Pieces

@@ -1,13 +1,17 @@
-// What C and Rust hosts call: the card's check, its tour, and where a candidate is. Each answers one number, 0 or the refusal's number times
-// 2^32 plus its place, and tells the rest through lent numbers that a refusal keeps.
+// What C and Rust hosts call: the card's check, its tour, where a candidate is, and a card fed in pieces. Each answers one number, 0 or the
+// refusal's number times 2^32 plus its place, and tells the rest through lent numbers that a refusal keeps.
 ghost use mathlib.Core.Path.{_≡_};
+ghost use Prim.Native.Nat.{_^_, _≤_, _<_};
 ghost use Rattle.answer.specs.declared.Check.the-variants.{Refused};
 ghost use Rattle.answer.specs.Code.{codeOf};
 ghost use Rattle.card.specs.Verdict.{checkOf};
 ghost use Rattle.questions.specs.Index.{locatedOf};
 ghost use Rattle.host.specs.Hosts.{hosted, hostTour, pointed, hostPlace};
+ghost use Rattle.host.specs.Feeds.{bitOf, numberOf, stateOf, hostFed, hostFeed, hostAsked, hostAsk};
 use answer::Check;
+use answer::Count;
 use answer::Refusal;
+use feed::Feed;
 use questions::Located;
 use table::ENTRIES;
 use tour::Toured;
@@ -60,6 +64,82 @@ pub extern "C" fn jl_place(card: &[u8], candidate: u64, contour: &mut u64, withi
         Located::At(p) => {
             *contour = p.contour as u64;
             *within = p.within as u64;
+            0
+        }
+    }
+}
+
+// ---- a card in pieces
+
+// 1 for true.
+fn bit(b: bool) -> u64
+    ensures { λ r. ⌜ r ≡ bitOf b ⌝ }
+    ensures { λ r. ⌜ r ≤ 1 ⌝ }
+{
+    if b {
+        return 1;
+    }
+    0
+}
+
+// A state as the number that a host holds.
+fn number_of(f: Feed) -> u64
+    requires { ⌜ f .kept < 2 ^ 62 ⌝ }
+    ensures { λ r. ⌜ r ≡ numberOf f ⌝ }
+{
+    4 * (f.kept as u64) + 2 * bit(f.over) + bit(f.ended)
+}
+
+// The state that a host's number stands for.
+fn state_of(n: u64) -> Feed
+    ensures { λ r. ⌜ r ≡ stateOf n ⌝ }
+    ensures { λ r. ⌜ r .kept < 2 ^ 62 ⌝ }
+{
+    Feed {
+        kept: (n / 4) as usize,
+        over: n / 2 % 2 == 1,
+        ended: n % 2 == 1,
+    }
+}
+
+// A piece of a card, kept in a lent byte room, with the state as a lent number. A refusal keeps them both.
+#[no_mangle]
+pub extern "C" fn jl_feed(state: &mut u64, held: &mut [u8], piece: &[u8]) -> u64
+    ensures { λ r. ⌜ hostFed r (now (state .exit)) (now (held .exit))
+        ≡ hostFeed (now (state .entry)) (now (held .entry)) (now (piece .entry)) ⌝ }
+{
+    let f = state_of(*state);
+    let fed = feed::add(f, held, piece);
+    *state = number_of(fed.feed);
+    let answer = fed.answer;
+    match answer {
+        Count::Refused(r) => told(r),
+        Count::Is(_) => 0,
+    }
+}
+
+// The end of a card in pieces: the tour, as `jl_tour` gives it of the whole. A refusal keeps what `jl_tour` would.
+#[no_mangle]
+pub extern "C" fn jl_ask(
+    state: &mut u64,
+    held: &[u8],
+    tour: &mut [u8],
+    moves: &mut u64,
+    length_bits: &mut u64,
+) -> u64
+    ensures { λ r. ⌜ hostAsked (now (state .exit)) (hosted r (now (tour .exit)) (now (moves .exit)) (now («length_bits» .exit)))
+        ≡ hostAsk (now (state .entry)) (now (held .entry)) (now (tour .entry)) (now (moves .entry)) (now («length_bits» .entry)) ⌝ }
+{
+    let mut table = [0.0; ENTRIES];
+    let f = state_of(*state);
+    let asked = feed::ask(f, held, tour, &mut table);
+    *state = number_of(asked.feed);
+    let answer = asked.answer;
+    match answer {
+        Toured::Refused(r) => told(r),
+        Toured::Done(o) => {
+            *moves = o.moves;
+            *length_bits = tour::bits_of(o.length);
             0
         }
     }

@@ -70,7 +70,7 @@ pub enum Refusal {
         /// The first such contour.
         position: u32,
     },
-    /// The room lent for the tour is too small.
+    /// A room that was lent is too small: the tour's or, where a card is fed, the byte room.
     Room {
         /// The entries that it needs.
         needed: u32,
@@ -80,6 +80,8 @@ pub enum Refusal {
         /// The number that was asked about.
         number: u32,
     },
+    /// The card was asked about before: no more of it is taken.
+    Ended,
 }
 
 impl Refusal {
@@ -102,6 +104,7 @@ impl Refusal {
             12 => Refusal::Cycle { position: place },
             13 => Refusal::Room { needed: place },
             15 => Refusal::Candidate { number: place },
+            17 => Refusal::Ended,
             other => unreachable!("the library has no refusal {other}"),
         })
     }
@@ -132,6 +135,7 @@ impl Refusal {
             Refusal::Cycle { position } => (12, position),
             Refusal::Room { needed } => (13, needed),
             Refusal::Candidate { number } => (15, number),
+            Refusal::Ended => (17, 0),
         }
     }
 }
@@ -180,8 +184,9 @@ impl fmt::Display for Refusal {
             Refusal::UnknownId { pair } => write!(f, "pair {pair} names an id that no contour has"),
             Refusal::OtherTag { pair } => write!(f, "pair {pair} names a contour by another tag than its own"),
             Refusal::Cycle { position } => write!(f, "contour {position} would have to be cut before itself"),
-            Refusal::Room { needed } => write!(f, "the room for the tour is too small: it needs {needed} entries"),
+            Refusal::Room { needed } => write!(f, "a room is too small: it needs {needed} entries"),
             Refusal::Candidate { number } => write!(f, "the card has no candidate {number}"),
+            Refusal::Ended => f.write_str("the card has ended: it was asked about before"),
         }
     }
 }
@@ -198,6 +203,8 @@ fn codes() {
             assert_eq!((u64::from(refusal.number()), u64::from(refusal.place())), (number, place));
         }
     }
+    let ended = Refusal::of(17 << 32).unwrap_err();
+    assert_eq!((ended, ended.number(), ended.place()), (Refusal::Ended, 17, 0));
 }
 
 #[test]
@@ -230,6 +237,7 @@ fn sentences() {
     says(10, 0, "pair 0 names an id that no contour has");
     says(11, 5, "pair 5 names a contour by another tag than its own");
     says(12, 3, "contour 3 would have to be cut before itself");
-    says(13, 3, "the room for the tour is too small: it needs 3 entries");
+    says(13, 3, "a room is too small: it needs 3 entries");
     says(15, 9, "the card has no candidate 9");
+    says(17, 0, "the card has ended: it was asked about before");
 }

@@ -3,12 +3,12 @@
 //! where an answer differs or a name is no part's. With a time it goes on from seed to seed until the time is over.
 
 use oracle::run::Wanted;
-use oracle::{candidates, check, cost, hierarchy, large, root, rules, search, start, table, tour};
+use oracle::{candidates, check, cost, feed, hierarchy, large, root, rules, search, start, table, tour};
 
 /// A part's name, how it is compared, and whether that is quick: in full size a few seconds.
 type Part = (&'static str, fn(Wanted) -> bool, bool);
 
-const PARTS: [Part; 11] = [
+const PARTS: [Part; 12] = [
     ("root", root::compare, true),
     ("cost", cost::compare, true),
     ("hierarchy", hierarchy::compare, true),
@@ -19,6 +19,7 @@ const PARTS: [Part; 11] = [
     ("search", search::compare, false),
     ("check", check::compare, true),
     ("tour", tour::compare, false),
+    ("feed", feed::compare, false),
     ("large", large::compare, false),
 ];
 

@@ -1,0 +1,3 @@
+pub mod FeedLaws
+pub mod AgainLaws
+pub mod Whole

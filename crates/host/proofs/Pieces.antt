@@ -1,0 +1,99 @@
+-- A card in pieces, as hosts feed it. Assumes nothing.
+use mathlib.Core.Path.{_≡_, refl, ap, _∙_, sym}
+use mathlib.Core.Bool.{true, false}
+use mathlib.Core.List.{List, _++_}
+use Prim.Native.Nat.{ℕ, _+_, _*_, _^_, _/_, _%_, _≤_, _<_, min}
+use native.Mathlib.Omega.{arith}
+use lib.Dec.{eqb}
+use lib.Ieee.{Float}
+use lib.ListN.{length, take, replicate, length-replicate}
+use Rattle.answer.specs.Room.{placed}
+use Rattle.fields.specs.Limits.{cardBytes}
+use Rattle.points.specs.Numbers.{zero64}
+use Rattle.table.specs.Distances.{entryLimit}
+use Rattle.tour.specs.Tour.{Left, tourOf}
+use Rattle.feed.specs.declared.Feed.{Feed}
+use Rattle.feed.specs.Feed.{ended, Stored, addOf, Reply, askOf}
+use Rattle.feed.specs.Whole.{Found, Run, Whole}
+use Rattle.feed.proofs.FeedLaws.{add-late, add-small, ask-small}
+use Rattle.feed.proofs.Whole.{state, whole}
+use Rattle.host.specs.Hosts.{Hosted, hosted, hostTour}
+use Rattle.host.specs.Feeds.{numberOf, stateOf, hostFed, countTold, fedAs, hostFeed, hostAsked, askedAs, hostAsk}
+use Rattle.host.specs.Pieces.{Numbered, Refuses, Pieces, Claim}
+use Rattle.host.proofs.Exports.{toured-so}
+use Rattle.host.proofs.FeedLaws.{bit-small, state-back, number-back}
+
+abbrev own : List Float
+own = replicate entryLimit zero64
+
+-- ---- the refusals
+
+module _ (n : ℕ) (held piece room : List ℕ) (moves bits : ℕ) where
+  abbrev same-number : Stored → Type 0
+  same-number a = addOf (stateOf n) held piece ≡ a
+
+  late : n % 2 ≡ 1 → hostFeed n held piece ≡ hostFed (17 * 2 ^ 32) n held
+  unfolding hostFeed
+  late e =
+      ap fedAs (add-late (stateOf n) held piece (ap (λ (m : ℕ). eqb m 1) e))
+      ∙ ap (λ (m : ℕ). hostFed (17 * 2 ^ 32) m held) (number-back n)
+
+  small : n % 2 ≡ 0 → 0 < length piece → length held < cardBytes
+      → hostFeed n held piece ≡ hostFed (13 * 2 ^ 32 + cardBytes) n held
+  unfolding hostFeed
+  small e h g =
+      ap fedAs (add-small (stateOf n) held piece (ap (λ (m : ℕ). eqb m 1) e) h g)
+      ∙ ap (λ (m : ℕ). hostFed (13 * 2 ^ 32 + cardBytes) m held) (number-back n)
+
+  ask-refused : length held < cardBytes
+      → hostAsk n held room moves bits ≡ hostAsked n (hosted (13 * 2 ^ 32 + cardBytes) room moves bits)
+  unfolding hostAsk
+  ask-refused h =
+      ap (λ (a : Reply). askedAs a moves bits) (ask-small (stateOf n) held room own h)
+      ∙ ap (λ (m : ℕ). hostAsked m (hosted (13 * 2 ^ 32 + cardBytes) room moves bits)) (number-back n)
+
+-- ---- a run
+
+module _ {s : List ℕ} {f : Feed} {was : List ℕ} (w : Whole s f was) where
+  piece-told : (held piece : List ℕ) → Found f was held
+      → hostFeed (numberOf f) held piece
+      ≡ hostFed 0 (numberOf (addOf f held piece .feed)) (placed (take cardBytes (s ++ piece)) held)
+  unfolding hostFeed
+  piece-told held piece found =
+      let h = w .piece held piece found in
+      ap (λ (g : Feed). fedAs (addOf g held piece)) (state-back f)
+      ∙ (λ i. hostFed (countTold (h .0 i)) (numberOf (addOf f held piece .feed)) (h .1 i))
+
+  module _ (held room : List ℕ) (moves bits : ℕ) (found : Found f was held) where
+    -- in whatever state an asking finds these bytes
+    told : (g : Feed) → askOf g held room own ≡ record { feed = ended f; left = tourOf s room own }
+        → hostAsk (numberOf g) held room moves bits ≡ hostAsked (numberOf (ended f)) (hostTour s room moves bits)
+    unfolding hostAsk
+    told g is =
+        ap (λ (h : Feed). askedAs (askOf h held room own) moves bits) (state-back g)
+        ∙ ap (λ (a : Reply). askedAs a moves bits) is
+        ∙ ap (hostAsked (numberOf (ended f))) (sym (toured-so s room own moves bits (rw length-replicate (omega arith))))
+
+pieces : (s : List ℕ) (f : Feed) (was : List ℕ) → Run s f was → Pieces s f was
+pieces s f was run =
+    let w = whole s f was run in
+    record {
+      held = (let a = bit-small (f .over) in let b = bit-small (f .ended) in let e : numberOf f / 4 ≡ f .kept = omega arith in e)
+          ∙ state run .kept;
+      piece = piece-told w;
+      end = λ held room moves bits found. told w held room moves bits found f (w .end held room own found);
+      later = λ held room moves bits found.
+          told w held room moves bits found (ended f) (w .later held room own found);
+      closed = omega arith;
+    }
+
+pub claim : Claim
+claim = (
+  record { state = state-back; number = number-back; new = refl },
+  λ n held piece room moves bits. record {
+    late = late n held piece room moves bits;
+    small = small n held piece room moves bits;
+    ask-small = ask-refused n held piece room moves bits;
+  },
+  pieces,
+)

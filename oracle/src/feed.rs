@@ -1,0 +1,142 @@
+//! Cards in pieces against the whole: good ones, damaged ones and longer ones than any, cut at random. Every call that is
+//! refused on the way keeps all it was lent; the host writes behind the bytes that are held, and lends other rooms.
+
+use crate::doors::refused;
+use crate::exports::{self, Left, UNTOUCHED};
+use crate::generate::{damaged, good, mutated, relabelled};
+use crate::limits::{BLOCK, CARD_BYTES, CONTOURS};
+use crate::random::Random;
+use crate::run::{Tally, Wanted, by_version, same};
+
+/// A card, whole, cut short, or with bytes behind it: up to the longest card's, or past them.
+pub fn any(r: &Random, version: u8) -> Vec<u8> {
+    let mut bytes = match r.below(4) {
+        0 | 1 => good(r, version).bytes(),
+        2 => damaged(r, version),
+        _ => r.pick(&[mutated, relabelled])(r, version),
+    };
+    match r.below(16) {
+        0 => bytes.resize(r.pick(&[CARD_BYTES, CARD_BYTES + 1, CARD_BYTES + BLOCK, 2 * CARD_BYTES]), r.next() as u8),
+        1 => bytes.truncate(r.index(bytes.len() + 1)),
+        _ => {}
+    }
+    bytes
+}
+
+/// The size of the next piece, of those that are left.
+pub fn size(r: &Random, left: usize) -> usize {
+    r.pick(&[0, 1, BLOCK - 1, BLOCK, BLOCK + 1, r.index(left + 1), r.index(left / 4 + 1), left]).min(left)
+}
+
+/// What a host holds, and what the library must have made of it.
+struct Host {
+    fed: Vec<u8>,
+    held: Vec<u8>,
+    ended: bool,
+}
+
+impl Host {
+    fn kept(&self) -> usize {
+        self.fed.len().min(CARD_BYTES)
+    }
+
+    /// The state as it is due.
+    fn state(&self) -> u64 {
+        4 * self.kept() as u64 + 2 * u64::from(self.fed.len() > CARD_BYTES) + u64::from(self.ended)
+    }
+
+    /// Writes behind the bytes that are held, or takes another room with them.
+    fn stirs(&mut self, r: &Random) {
+        let kept = self.kept();
+        match r.below(4) {
+            0 => self.held[kept..].fill(r.next() as u8),
+            1 => {
+                self.held.truncate(kept);
+                self.held.resize(CARD_BYTES + r.pick(&[0, 1, BLOCK]), r.next() as u8);
+            }
+            _ => {}
+        }
+    }
+
+    /// Feeds a piece that must be taken.
+    fn feeds(&mut self, piece: &[u8]) -> Result<u64, String> {
+        let kept = self.kept();
+        self.fed.extend_from_slice(piece);
+        let mut due = self.held.clone();
+        due[kept..self.kept()].copy_from_slice(&piece[..self.kept() - kept]);
+        let (code, state, held) = exports::feed(self.state_before(kept, piece), &self.held, piece)?;
+        self.held = due;
+        same(|| format!("a piece of {} bytes behind {kept}", piece.len()), (code, state, &held), (0, self.state(), &self.held))
+    }
+
+    /// The state before a piece that has just been taken.
+    fn state_before(&self, kept: usize, piece: &[u8]) -> u64 {
+        4 * kept as u64 + 2 * u64::from(self.fed.len() - piece.len() > CARD_BYTES)
+    }
+
+    /// Feeds a piece that must be refused.
+    fn is_refused(&self, held: &[u8], piece: &[u8], number: u64, place: usize) -> Result<u64, String> {
+        let due = (refused(number, place as u64), self.state(), held.to_vec());
+        same(|| format!("{} bytes that must be refused", piece.len()), exports::feed(self.state(), held, piece)?, due)
+    }
+
+    /// Asks, with a tour's room that something was left in.
+    fn asks(&mut self, before: &Left) -> Result<Left, String> {
+        let (state, left) = exports::ask(self.state(), &self.held, before)?;
+        self.ended = true;
+        same(|| "the state at the end".to_string(), state, self.state())?;
+        Ok(left)
+    }
+
+    /// Calls on the way that change nothing: no bytes into any room, and what a small room is refused for.
+    fn idles(&self, r: &Random) -> Result<u64, String> {
+        let small = &self.held[..r.pick(&[0, self.kept(), CARD_BYTES - 1]).min(CARD_BYTES - 1)];
+        let state = self.state();
+        same(|| "no bytes".to_string(), exports::feed(state, small, &[])?, (0, state, small.to_vec()))?;
+        self.is_refused(small, &[1; 3][..r.from(1, 3)], 13, CARD_BYTES)?;
+        let before = Left::refused(0, CONTOURS);
+        let due = (state, Left { code: refused(13, CARD_BYTES as u64), ..before.clone() });
+        same(|| "asked in a small room".to_string(), exports::ask(state, small, &before)?, due)
+    }
+}
+
+/// Feeds a card as it is cut, and holds the end against the whole's.
+fn one(r: &Random, bytes: &[u8], longer: &Tally, cut: &Tally) -> Result<u64, String> {
+    let mut host = Host { fed: Vec::new(), held: vec![UNTOUCHED as u8; CARD_BYTES], ended: false };
+    let mut pieces = 0;
+    while host.fed.len() < bytes.len() && pieces < 40 {
+        let left = &bytes[host.fed.len()..];
+        host.stirs(r);
+        if r.one_in(8) {
+            host.idles(r)?;
+        }
+        host.feeds(&left[..size(r, left.len())])?;
+        pieces += 1;
+    }
+    host.stirs(r);
+    host.feeds(&bytes[host.fed.len()..])?;
+    host.idles(r)?;
+    longer.count(bytes.len() > CARD_BYTES);
+    cut.count(pieces > 2);
+
+    let room = r.pick(&[CONTOURS, CONTOURS + 3, r.index(CONTOURS)]);
+    let whole = exports::tour(bytes, room)?;
+    let first = host.asks(&Left::refused(0, room))?;
+    same(|| "the end".to_string(), &first, &whole)?;
+    let again = host.asks(&first)?;
+    same(|| "the end, asked again".to_string(), &again, &whole)?;
+    for piece in [&[][..], &[1]] {
+        host.is_refused(&host.held[..r.pick(&[0, CARD_BYTES])], piece, 17, 0)?;
+    }
+    Ok(1)
+}
+
+const ALL: u64 = 50_000;
+
+pub fn compare(wanted: Wanted) -> bool {
+    let longer = Tally::of("fed cards that are longer than any", 50);
+    let cut = Tally::of("fed cards in three pieces or more", 2);
+    by_version(wanted, "fed cards", ALL, |r, version| one(r, &any(r, version), &longer, &cut))
+        & longer.enough(wanted.of(ALL))
+        & cut.enough(wanted.of(ALL))
+}
