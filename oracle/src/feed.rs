@@ -66,7 +66,11 @@ impl Host {
         due[kept..self.kept()].copy_from_slice(&piece[..self.kept() - kept]);
         let (code, state, held) = exports::feed(self.state_before(kept, piece), &self.held, piece)?;
         self.held = due;
-        same(|| format!("a piece of {} bytes behind {kept}", piece.len()), (code, state, &held), (0, self.state(), &self.held))
+        same(
+            || format!("a piece of {} bytes behind {kept}", piece.len()),
+            (code, state, &held),
+            (0, self.state(), &self.held),
+        )
     }
 
     /// The state before a piece that has just been taken.

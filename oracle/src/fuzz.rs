@@ -123,8 +123,7 @@ fn fed(r: &Random, memory: &mut Memory, bytes: &[u8], room: &[u8]) -> Result<(u6
     let (moves, length) = (first.as_mut_ptr().cast(), second.as_mut_ptr().cast());
     let kept = held.to_vec();
     let number = state.as_mut_ptr().cast();
-    let code =
-        unsafe { jl_ask(number, held.as_ptr(), held.len(), tour.as_mut_ptr(), tour.len(), moves, length) };
+    let code = unsafe { jl_ask(number, held.as_ptr(), held.len(), tour.as_mut_ptr(), tour.len(), moves, length) };
     same(|| "the byte room at the end".to_string(), &*held, &kept)?;
     same(|| "the end's state".to_string(), told(state) % 2, 1)?;
     Ok((code, tour.to_vec(), told(first), told(second)))

@@ -1,5 +1,5 @@
 -- The tour asked for again, in the rooms that it was written to: the same answer, and the rooms stay. Assumes nothing.
-use mathlib.Core.Path.{_≡_, refl, sym, ap, _∙_}
+use mathlib.Core.Path.{_≡_, refl, ap, _∙_}
 use mathlib.Core.Bool.{Bool, true, false}
 use mathlib.Core.List.{List, [], _∷_, _++_}
 use Prim.Native.Nat.{ℕ, _*_, _≤_}
@@ -20,7 +20,7 @@ use Rattle.card.specs.Verdict.{checkOf}
 use Rattle.table.proofs.DistanceLaws.{distances-length}
 use Rattle.instance.specs.Search.{candidatesOn, countOn, ownersOn, tableOn}
 use Rattle.tour.specs.Search.{tourOn}
-use Rattle.tour.specs.Tour.{Left, roomCheck, tourCheck, tourCheckWithin, toured, touredUnless, tourOf, tourWithin}
+use Rattle.tour.specs.Tour.{roomCheck, tourCheck, tourCheckWithin, toured, touredUnless, tourOf, tourWithin}
 
 -- a list written to the front makes no room smaller
 pub placed-grows : {A : Type 0} (l room : List A) → length room ≤ length (placed l room)

@@ -19,8 +19,10 @@ use Rattle.fields.specs.Limits.{cardBytes}
 use Rattle.tour.specs.declared.Toured.the-variants as answer
 use Rattle.tour.specs.Tour.{Left, left, touredUnless, tourOf}
 use Rattle.feed.specs.declared.Feed.{Feed}
-use Rattle.feed.specs.Feed.{takenOf, pieceCheck, fed, filled, Stored, storedUnless, addOf}
-use Rattle.feed.specs.Feed.{askCheck, Reply, replyUnless, ended, endOf, askOf}
+use Rattle.feed.specs.declared.Fed.{Fed}
+use Rattle.feed.specs.Feed.{takenOf, pieceCheck, fed, filled, stored, storedUnless, addOf}
+use Rattle.feed.specs.declared.Asked.{Asked}
+use Rattle.feed.specs.Feed.{askCheck, reply, ended, endOf, askOf}
 use Rattle.feed.specs.Whole.{unchanged, unasked}
 
 -- as many as there are, at most
@@ -130,6 +132,20 @@ module _ (kept n : ℕ) (held piece : List ℕ) (is : n ≡ takenOf kept (length
       ∙ sym (append-assoc (take kept held) front (drop (kept + n) held))
       ∙ ap (λ (m : ℕ). take kept held ++ take m piece ++ drop (kept + m) held) is
 
+-- what the code answers without keeping anything
+module _ (f : Feed) (held piece : List ℕ) (r : Fed) where
+  pub told-late : r ≡ record { feed = f; answer = count.Refused (record { number = 17; place = 0 }) } → f .ended ≡ true
+      → stored r held ≡ addOf f held piece
+  told-late is e = ap (λ (q : Fed). stored q held) is ∙ sym (add-late f held piece e)
+
+  pub told-none : r ≡ record { feed = f; answer = count.Is (f .kept) } → f .ended ≡ false → length piece ≡ 0
+      → stored r held ≡ addOf f held piece
+  told-none is e z = ap (λ (q : Fed). stored q held) is ∙ sym (add-none f held piece e z)
+
+  pub told-small : r ≡ record { feed = f; answer = count.Refused (record { number = 13; place = cardBytes }) }
+      → f .ended ≡ false → (length piece ≡ 0 → ⊥) → length held < cardBytes → stored r held ≡ addOf f held piece
+  told-small is e some h = ap (λ (q : Fed). stored q held) is ∙ sym (add-small f held piece e (omega arith) h)
+
 pub add-kept : (f : Feed) (held piece after : List ℕ) (n : ℕ) → f .ended ≡ false → cardBytes ≤ length held
     → n ≡ takenOf (f .kept) (length piece) → after ≡ filled (f .kept) held piece
     → record {
@@ -158,25 +174,34 @@ module _ (f : Feed) (held room : List ℕ) (table : List Float) where
   unfolding askOf askCheck
   ask-end h = rw (le-ltb (length held) cardBytes h)
 
-  -- as the code answers
+  pub told-unasked : (r : Asked)
+      → r ≡ record { feed = f; answer = answer.Refused (record { number = 13; place = cardBytes }) }
+      → length held < cardBytes → reply r room table ≡ askOf f held room table
+  told-unasked r is h = ap (λ (q : Asked). reply q room table) is ∙ sym (ask-small h)
+
+  -- by whether there were more bytes than are kept
+  pub by-over : (o : Bool) → f .over ≡ o
+      → endOf f held room table
+      ≡ touredUnless (refuseIf o 1 (cardBytes + 1)) (tourOf (take (f .kept) held) room table) room table
+  by-over o e =
+      ap (λ (b : Bool).
+      touredUnless (refuseIf b 1 (cardBytes + 1)) (tourOf (take (f .kept) held) room table) room table) e
+
+  -- what the code left is the end
+  ends : cardBytes ≤ length held → (l : Left) → l ≡ endOf f held room table
+      → record { feed = ended f; left = l } ≡ askOf f held room table
+  ends h l e = ap (λ (k : Left). record { feed = ended f; left = k }) e ∙ sym (ask-end h)
+
   pub ask-over : f .over ≡ true → cardBytes ≤ length held
-      → record { feed = ended f; left = left (answer.Refused (record { number = 1; place = cardBytes + 1 })) room table }
-      ≡ askOf f held room table
-  ask-over e h =
-      ap (λ (o : Bool). record {
+      → record {
         feed = ended f;
-        left = touredUnless (refuseIf o 1 (cardBytes + 1)) (tourOf (take (f .kept) held) room table) room table;
-      }) (sym e)
-      ∙ sym (ask-end h)
+        left = left (answer.Refused (record { number = 1; place = cardBytes + 1 })) room table;
+      } ≡ askOf f held room table
+  ask-over e h = ends h _ (sym (by-over true e))
 
   pub ask-kept : f .over ≡ false → cardBytes ≤ length held → (n : ℕ) → n ≡ min (f .kept) (length held) → (l : Left)
       → l ≡ tourOf (take n held) room table → record { feed = ended f; left = l } ≡ askOf f held room table
   ask-kept e h n is l toured =
       let m : n ≡ min (length held) (f .kept) = omega arith in
       let same : take n held ≡ take (f .kept) held = ap (λ (k : ℕ). take k held) m ∙ take-cut (f .kept) held in
-      ap (λ (k : Left). record { feed = ended f; left = k }) (toured ∙ ap (λ (s : List ℕ). tourOf s room table) same)
-      ∙ ap (λ (o : Bool). record {
-        feed = ended f;
-        left = touredUnless (refuseIf o 1 (cardBytes + 1)) (tourOf (take (f .kept) held) room table) room table;
-      }) (sym e)
-      ∙ sym (ask-end h)
+      ends h l (toured ∙ ap (λ (s : List ℕ). tourOf s room table) same ∙ sym (by-over false e))

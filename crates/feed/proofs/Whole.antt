@@ -11,7 +11,6 @@ use lib.Dec.{ltb}
 use lib.Ieee.{Float}
 use lib.ListN.{length, take, drop, length-append, length-take}
 use lib.Seq.{take-all, drop-append-add, drop-drop}
-use Rattle.answer.specs.declared.Check.{Check}
 use Rattle.answer.specs.declared.Refusal.{Refusal}
 use Rattle.answer.specs.declared.Check.the-variants.{Fine}
 use Rattle.answer.specs.declared.Count.the-variants as count
@@ -27,8 +26,9 @@ use Rattle.tour.proofs.DoorLaws.{tour-refused}
 use Rattle.feed.specs.declared.Feed.{Feed}
 use Rattle.feed.specs.Feed.{begun, ended, takenOf, fed, filled, Stored, storedUnless, addOf, Reply, endOf, askOf}
 use Rattle.feed.specs.Whole.{OfPieces, OfAsking, Found, Run, begins, adds, idles, no-room, not-yet, Holds, Whole}
-use Rattle.feed.specs.Whole.{joined, Poured, poured, AnyCut, Claim}
-use Rattle.feed.proofs.FeedLaws.{take-cut, add-late, add-small, add-none, add-taken, ask-small, ask-end}
+use Rattle.feed.specs.Whole.{joined, poured, AnyCut, Claim}
+use Rattle.feed.proofs.FeedLaws.{take-cut, add-late, add-small, add-none, add-taken}
+use Rattle.feed.proofs.FeedLaws.{ask-small, ask-end, by-over}
 use Rattle.feed.proofs.AgainLaws.{placed-grows, tour-again}
 
 -- ---- the first bytes of two lists, one behind the other
@@ -66,8 +66,8 @@ still-over n size = go (ltb cardBytes n) refl (ltb cardBytes (n + size)) refl
         let k = ltb-false cardBytes (n + size) g in
         rw (e, g) (le-ltb (takenOf (min n cardBytes) size) size (omega arith))
 
-module _ {s : List ℕ} {f : Feed} {was : List ℕ} (st : State s f was) (held piece : List ℕ) (found : Found f was held)
-    where
+module _ {s : List ℕ} {f : Feed} {was : List ℕ} (st : State s f was)
+    (held piece : List ℕ) (found : Found f was held) where
   abbrev n : ℕ
   n = takenOf (f .kept) (length piece)
 
@@ -126,7 +126,8 @@ state (idles {f = f} run held) =
     stays st (addOf f held [] .feed) (ap (λ (a : Stored). a .feed) (add-none f held [] (st .before-end) refl))
 state (no-room {f = f} run held piece some short) =
     let st = state run in
-    stays st (addOf f held piece .feed) (ap (λ (a : Stored). a .feed) (add-small f held piece (st .before-end) some short))
+    stays st (addOf f held piece .feed)
+    (ap (λ (a : Stored). a .feed) (add-small f held piece (st .before-end) some short))
 state (not-yet {f = f} run held room table short) =
     let st = state run in
     stays st (askOf f held room table .feed) (ap (λ (a : Reply). a .feed) (ask-small f held room table short))
@@ -149,12 +150,10 @@ module _ {s : List ℕ} {f : Feed} {was : List ℕ} (st : State s f was) (held r
     where
       go : (b : Bool) → ltb cardBytes (length s) ≡ b → endOf f held room table ≡ tourOf s room table
       go true e =
-          ap (λ (o : Bool). touredUnless (refuseIf o 1 (cardBytes + 1)) (tourOf (take (f .kept) held) room table) room table)
-          (st .over ∙ e)
+          by-over f held room table true (st .over ∙ e)
           ∙ too-long s room table (ltb-true cardBytes (length s) e)
       go false e =
-          ap (λ (o : Bool). touredUnless (refuseIf o 1 (cardBytes + 1)) (tourOf (take (f .kept) held) room table) room table)
-          (st .over ∙ e)
+          by-over f held room table false (st .over ∙ e)
           ∙ ap (λ (l : List ℕ). tourOf l room table)
           (found .same ∙ st .bytes ∙ take-all cardBytes s (ltb-false cardBytes (length s) e))
 
@@ -212,28 +211,35 @@ unfolding joined poured
 pour [] s f held room run e enough =
     subst (λ (l : List ℕ). Behind [] l f held room) (sym (append-nil s)) (run, e)
 pour (piece ∷ more) s f held room run e enough =
-    let found : Found f held held = record { enough = rw e (le-trans enough (placed-grows (take cardBytes s) room)); same = refl } in
-    let next = whole s f held run .piece held piece found in
+    let large : cardBytes ≤ length held = rw e (le-trans enough (placed-grows (take cardBytes s) room)) in
+    let found : Found f held held = record { enough = large; same = refl } in
+    let next = holds (state run) held piece found in
     let long = more-bytes s piece in
     subst (λ (l : List ℕ). Behind (piece ∷ more) l f held room) (append-assoc s piece (joined more))
     (pour more (s ++ piece) (addOf f held piece .feed) (addOf f held piece .held) room (adds run held piece found)
     (next .1 ∙ ap (placed (take cardBytes (s ++ piece))) e
     ∙ placed-longer (take cardBytes s) (take cardBytes (s ++ piece)) room long) enough)
 
+any-cut : (pieces : List (List ℕ)) (held : List ℕ) → cardBytes ≤ length held → AnyCut pieces held
+any-cut pieces held enough =
+    let p = pour pieces [] begun held held (begins held) refl enough in
+    record { runs = p .0; holds = p .1 }
+
+-- ---- the refusals
+
+of-pieces : (f : Feed) (held piece : List ℕ) → OfPieces f held piece
+of-pieces f held piece = record {
+  late = add-late f held piece;
+  small = add-small f held piece;
+  none = add-none f held piece;
+  taken = λ e h. ap (λ (a : Stored). a .answer) (add-taken f held piece e h);
+}
+
+of-asking : (f : Feed) (held room : List ℕ) (table : List Float) → OfAsking f held room table
+of-asking f held room table = record {
+  small = ask-small f held room table;
+  end = λ h. ap (λ (a : Reply). a .feed) (ask-end f held room table h);
+}
+
 pub claim : Claim
-claim = (
-  λ f held piece. record {
-    late = add-late f held piece;
-    small = add-small f held piece;
-    none = add-none f held piece;
-    some = λ e h. (f .kept + takenOf (f .kept) (length piece), ap (λ (a : Stored). a .answer) (add-taken f held piece e h));
-  },
-  λ f held room table. record {
-    small = ask-small f held room table;
-    end = λ h. ap (λ (a : Reply). a .feed) (ask-end f held room table h);
-  },
-  whole,
-  λ pieces held enough.
-      let p = pour pieces [] begun held held (begins held) refl enough in
-      record { runs = p .0; holds = p .1 },
-)
+claim = (of-pieces, of-asking, whole, any-cut)

@@ -1,8 +1,9 @@
 -- However a card is cut, the end answers as for the whole: what the calls of Feed come to, one after another. Assumes
 -- nothing.
 use mathlib.Core.Path.{_≡_}
+use mathlib.Core.Bool.{true, false}
 use mathlib.Core.List.{List, [], _∷_, _++_}
-use Prim.Native.Nat.{ℕ, _≤_, _<_, min}
+use Prim.Native.Nat.{ℕ, _+_, _≤_, _<_, min}
 use lib.Ieee.{Float}
 use lib.ListN.{length, take}
 use Rattle.answer.specs.declared.Refusal.{Refusal}
@@ -12,8 +13,7 @@ use Rattle.fields.specs.Limits.{cardBytes}
 use Rattle.tour.specs.declared.Toured.the-variants as answer
 use Rattle.tour.specs.Tour.{left, tourOf}
 use Rattle.feed.specs.declared.Feed.{Feed}
-use Rattle.feed.specs.Feed.{begun, ended, Stored, addOf, Reply, askOf}
-use mathlib.Core.Bool.{true, false}
+use Rattle.feed.specs.Feed.{begun, takenOf, Stored, addOf, Reply, ended, askOf}
 
 -- ---- the refusals, in words
 
@@ -31,7 +31,8 @@ pub record OfPieces (f : Feed) (held piece : List ℕ) : Type 0 where
       → addOf f held piece ≡ unchanged f (record { number = 13; place = cardBytes }) held
   pub none : f .ended ≡ false → length piece ≡ 0 → addOf f held piece
       ≡ record { feed = f; answer = count.Is (f .kept); held = held }
-  pub some : f .ended ≡ false → cardBytes ≤ length held → (k : ℕ) × (addOf f held piece .answer ≡ count.Is k)
+  pub taken : f .ended ≡ false → cardBytes ≤ length held
+      → addOf f held piece .answer ≡ count.Is (f .kept + takenOf (f .kept) (length piece))
 
 -- of an asking: 13 under the longest card, which is not the end; every other one is the end, whatever it answers
 pub record OfAsking (f : Feed) (held room : List ℕ) (table : List Float) : Type 0 where

@@ -73,45 +73,63 @@ fn keep(kept: usize, held: &mut [u8], piece: &[u8]) -> usize
     n
 }
 
-// A piece: its bytes are kept in the byte room behind those kept before, as many as the longest card takes.
-pub fn add(before: Feed, held: &mut [u8], piece: &[u8]) -> Fed
-    ensures { λ r. ⌜ stored r (now (held .exit)) ≡ addOf before (now (held .entry)) (now (piece .entry)) ⌝ }
+// A piece that is refused with this number at this place: the state stays.
+fn sent_back(f: Feed, number: u32, place: usize) -> Fed
+    ensures { λ r. ⌜ r ≡ record { feed = f; answer = Count.Refused (record { number = number; place = place }) } ⌝ }
 {
-    if before.ended {
-        return Fed {
-            feed: before,
-            answer: Count::Refused(Refusal {
-                number: 17,
-                place: 0,
-            }),
-        };
+    Fed {
+        feed: f,
+        answer: Count::Refused(Refusal { number, place }),
     }
-    let kept = before.kept;
+}
+
+// A piece of no bytes: it is said what is held.
+fn nothing_new(f: Feed) -> Fed
+    ensures { λ r. ⌜ r ≡ record { feed = f; answer = Count.Is (f .kept) } ⌝ }
+{
+    let kept = f.kept;
+    Fed {
+        feed: f,
+        answer: Count::Is(kept),
+    }
+}
+
+// A piece: its bytes are kept in the byte room behind those kept before, as many as the longest card takes.
+pub fn add(f: Feed, held: &mut [u8], piece: &[u8]) -> Fed
+    ensures { λ r. ⌜ stored r (now (held .exit)) ≡ addOf f (now (held .entry)) (now (piece .entry)) ⌝ }
+{
     let size = piece.len();
+    if f.ended {
+        return sent_back(f, 17, 0);
+    }
     if size == 0 {
-        return Fed {
-            feed: before,
-            answer: Count::Is(kept),
-        };
+        return nothing_new(f);
     }
     if held.len() < CARD_BYTES {
-        return Fed {
-            feed: before,
-            answer: Count::Refused(Refusal {
-                number: 13,
-                place: CARD_BYTES,
-            }),
-        };
+        return sent_back(f, 13, CARD_BYTES);
     }
-    let n = keep(kept, held, piece);
-    let now_kept = kept + n;
+    let n = keep(f.kept, held, piece);
+    let kept = f.kept + n;
     Fed {
         feed: Feed {
-            kept: now_kept,
-            over: before.over | (n < size),
+            kept,
+            over: f.over | (n < size),
             ended: false,
         },
-        answer: Count::Is(now_kept),
+        answer: Count::Is(kept),
+    }
+}
+
+// An asking in a byte room that is too small: the state stays, and it is not the end.
+fn unasked(f: Feed) -> Asked
+    ensures { λ r. ⌜ r ≡ record { feed = f; answer = Toured.Refused (record { number = 13; place = cardBytes }) } ⌝ }
+{
+    Asked {
+        feed: f,
+        answer: Toured::Refused(Refusal {
+            number: 13,
+            place: CARD_BYTES,
+        }),
     }
 }
 
@@ -120,13 +138,7 @@ pub fn ask(f: Feed, held: &[u8], room: &mut [u8], table: &mut [f64]) -> Asked
     ensures { λ r. ⌜ reply r (now (room .exit)) (now (table .exit)) ≡ askOf f (now (held .entry)) (now (room .entry)) (now (table .entry)) ⌝ }
 {
     if held.len() < CARD_BYTES {
-        return Asked {
-            feed: f,
-            answer: Toured::Refused(Refusal {
-                number: 13,
-                place: CARD_BYTES,
-            }),
-        };
+        return unasked(f);
     }
     let kept = f.kept;
     let over = f.over;

@@ -1,8 +1,7 @@
 -- A card in pieces, as hosts feed it. Assumes nothing.
 use mathlib.Core.Path.{_≡_, refl, ap, _∙_, sym}
-use mathlib.Core.Bool.{true, false}
 use mathlib.Core.List.{List, _++_}
-use Prim.Native.Nat.{ℕ, _+_, _*_, _^_, _/_, _%_, _≤_, _<_, min}
+use Prim.Native.Nat.{ℕ, _+_, _*_, _^_, _/_, _%_, _<_}
 use native.Mathlib.Omega.{arith}
 use lib.Dec.{eqb}
 use lib.Ieee.{Float}
@@ -11,13 +10,13 @@ use Rattle.answer.specs.Room.{placed}
 use Rattle.fields.specs.Limits.{cardBytes}
 use Rattle.points.specs.Numbers.{zero64}
 use Rattle.table.specs.Distances.{entryLimit}
-use Rattle.tour.specs.Tour.{Left, tourOf}
+use Rattle.tour.specs.Tour.{tourOf}
 use Rattle.feed.specs.declared.Feed.{Feed}
-use Rattle.feed.specs.Feed.{ended, Stored, addOf, Reply, askOf}
+use Rattle.feed.specs.Feed.{ended, addOf, Reply, askOf}
 use Rattle.feed.specs.Whole.{Found, Run, Whole}
 use Rattle.feed.proofs.FeedLaws.{add-late, add-small, ask-small}
 use Rattle.feed.proofs.Whole.{state, whole}
-use Rattle.host.specs.Hosts.{Hosted, hosted, hostTour}
+use Rattle.host.specs.Hosts.{hosted, hostTour}
 use Rattle.host.specs.Feeds.{numberOf, stateOf, hostFed, countTold, fedAs, hostFeed, hostAsked, askedAs, hostAsk}
 use Rattle.host.specs.Pieces.{Numbered, Refuses, Pieces, Claim}
 use Rattle.host.proofs.Exports.{toured-so}
@@ -29,9 +28,6 @@ own = replicate entryLimit zero64
 -- ---- the refusals
 
 module _ (n : ℕ) (held piece room : List ℕ) (moves bits : ℕ) where
-  abbrev same-number : Stored → Type 0
-  same-number a = addOf (stateOf n) held piece ≡ a
-
   late : n % 2 ≡ 1 → hostFeed n held piece ≡ hostFed (17 * 2 ^ 32) n held
   unfolding hostFeed
   late e =
@@ -72,14 +68,17 @@ module _ {s : List ℕ} {f : Feed} {was : List ℕ} (w : Whole s f was) where
     told g is =
         ap (λ (h : Feed). askedAs (askOf h held room own) moves bits) (state-back g)
         ∙ ap (λ (a : Reply). askedAs a moves bits) is
-        ∙ ap (hostAsked (numberOf (ended f))) (sym (toured-so s room own moves bits (rw length-replicate (omega arith))))
+        ∙ ap (hostAsked (numberOf (ended f)))
+        (sym (toured-so s room own moves bits (rw length-replicate (omega arith))))
+
+number-held : (f : Feed) → numberOf f / 4 ≡ f .kept
+number-held f = let a = bit-small (f .over) in let b = bit-small (f .ended) in omega arith
 
 pieces : (s : List ℕ) (f : Feed) (was : List ℕ) → Run s f was → Pieces s f was
 pieces s f was run =
     let w = whole s f was run in
     record {
-      held = (let a = bit-small (f .over) in let b = bit-small (f .ended) in let e : numberOf f / 4 ≡ f .kept = omega arith in e)
-          ∙ state run .kept;
+      held = number-held f ∙ state run .kept;
       piece = piece-told w;
       end = λ held room moves bits found. told w held room moves bits found f (w .end held room own found);
       later = λ held room moves bits found.
@@ -87,13 +86,15 @@ pieces s f was run =
       closed = omega arith;
     }
 
+numbered : Numbered
+numbered = record { state = state-back; number = number-back; new = refl }
+
+refuses : (n : ℕ) (held piece room : List ℕ) (moves bits : ℕ) → Refuses n held piece room moves bits
+refuses n held piece room moves bits = record {
+  late = late n held piece room moves bits;
+  small = small n held piece room moves bits;
+  ask-small = ask-refused n held piece room moves bits;
+}
+
 pub claim : Claim
-claim = (
-  record { state = state-back; number = number-back; new = refl },
-  λ n held piece room moves bits. record {
-    late = late n held piece room moves bits;
-    small = small n held piece room moves bits;
-    ask-small = ask-refused n held piece room moves bits;
-  },
-  pieces,
-)
+claim = (numbered, refuses, pieces)

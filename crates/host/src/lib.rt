@@ -136,10 +136,10 @@ pub extern "C" fn jl_ask(
     *state = number_of(asked.feed);
     let answer = asked.answer;
     match answer {
-        Toured::Refused(r) => told(r),
-        Toured::Done(o) => {
-            *moves = o.moves;
-            *length_bits = tour::bits_of(o.length);
+        Toured::Refused(why) => told(why),
+        Toured::Done(found) => {
+            *moves = found.moves;
+            *length_bits = tour::bits_of(found.length);
             0
         }
     }

@@ -19,7 +19,7 @@ const PARTS: [Part; 12] = [
     ("search", search::compare, false),
     ("check", check::compare, true),
     ("tour", tour::compare, false),
-    ("feed", feed::compare, false),
+    ("feed", feed::compare, true),
     ("large", large::compare, false),
 ];
 

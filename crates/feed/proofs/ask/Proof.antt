@@ -1,14 +1,13 @@
 -- `feed::ask` meets its contract. Assumes nothing.
-use mathlib.Core.Path.{sym}
 use native.Mathlib.Omega.{arith}
 use Rattle.tour.proofs.DoorLaws.{part-lent}
-use Rattle.feed.proofs.FeedLaws.{ask-small, ask-over, ask-kept}
+use Rattle.feed.proofs.FeedLaws.{told-unasked, ask-over, ask-kept}
 use borrow.Author.Needs.{needs}
 use Rattle.feed.proofs.ask.Statement.{statement}
 use Rattle.feed.proofs.ask.Tie as tie
 
 returns : tie.Need-returns
-returns c = sym (ask-small _ _ _ _ (c .if1 .taken))
+returns c = told-unasked _ _ _ _ _ (c .unasked .ensures) (c .before .if1 .taken)
 
 returns-2 : tie.Need-returns-2
 returns-2 c = ask-over _ _ _ _ (c .if2 .taken) (c .before .if1 .left)
@@ -26,6 +25,7 @@ pub ask-spec : {M : Type 1} → statement M
 ask-spec =
     tie.close
     (tie.spec
+    (λ c κs. search needs)
     returns
     (λ c. search needs)
     returns-2

@@ -17,12 +17,15 @@ slice-aggregate-copy c = let e = c .before .before .taken .ensures in part-lent 
 copy-requires : tie.Need-copy-requires
 copy-requires c κs =
     let b = c .before .before .before .before .before .before in
-    front-fits _ _ (b .args .held .now) _ (c .before .before .before .taken .ensures) (c .before .before .if1 .left) (b .pre)
+    front-fits _ _ (b .args .held .now) _ (c .before .before .before .taken .ensures) (c .before .before .if1 .left)
+    (b .pre)
 
 returns-2 : tie.Need-returns-2
 returns-2 c =
     let d = c .before .before .before .before .before in
-    (d .before .taken .ensures, written _ _ _ _ (d .before .taken .ensures) (d .if1 .left) (d .before .before .before .before .pre) _ (c .before .before .copy .ensures .1))
+    let n = d .before .taken .ensures in
+    let w = c .before .before .copy .ensures .1 in
+    (n, written _ _ _ _ n (d .if1 .left) (d .before .before .before .before .pre) _ w)
 
 pub keep-spec : {M : Type 1} → statement M
 keep-spec =
