@@ -1,5 +1,5 @@
 -- Every door passes the card's own refusal on, and has no other of its numbers. Assumes nothing.
-use mathlib.Core.Path.{_≡_, refl, sym, ap, _∙_}
+use mathlib.Core.Path.{_≡_, refl, sym, ap, _∙_, subst}
 use mathlib.Core.Logic.{_⊎_, inl, inr}
 use mathlib.Core.Bool.{Bool, true, false, not}
 use mathlib.Core.List.{List, [], _∷_}
@@ -27,8 +27,12 @@ use Rattle.card_laws.proofs.Verdicts.{exactly}
 use Rattle.improve.specs.Search.{lengthIn}
 use Rattle.instance.specs.Search.{candidatesOn, countOn, ownersOn, firstsOn, chartOn}
 use Rattle.tour.specs.declared.Toured.the-variants as answer
-use Rattle.tour.specs.Tour.{roomCheck, tourCheck, tourCheckWithin, toured, touredUnless, tourOf, tourWithin}
+use Rattle.tour.specs.Tour.{Left, left, roomCheck, tourCheck, tourCheckWithin, toured, touredUnless, tourOf, tourWithin}
 use Rattle.tour.proofs.DoorLaws.{tour-refused}
+use Rattle.feed.specs.declared.Feed.{Feed}
+use Rattle.feed.specs.Feed.{ended, Reply, askOf}
+use Rattle.feed.specs.Whole.{Intact, Run}
+use Rattle.feed.proofs.Whole.{whole}
 use Rattle.questions.specs.declared.Located.{Located}
 use Rattle.questions.specs.declared.Located.the-variants as located
 use Rattle.questions.specs.declared.Picked.the-variants as picked
@@ -41,7 +45,9 @@ use Rattle.questions.proofs.IndexLaws.{candidate-refused, place-refused, global
 use Rattle.questions.proofs.NearestLaws.{stops-refused}
 use Rattle.list.specs.Lines.{headLine, tourLines, refusalLine, listUnless, listOf}
 use Rattle.host.specs.Hosts.{hosted, hostCheck, hostedUnless, hostTour, pointed, hostPlace}
+use Rattle.host.specs.Feeds.{numberOf, HostAsked, hostAsked, hostAsk}
 use Rattle.host.proofs.BoundLaws.{check-near}
+use Rattle.host.proofs.Pieces.{pieces}
 use Rattle.demands.specs.Doors.{refusedLine, oneNumber, PassedOn, OwnOnly, Doors}
 
 -- ---- the card goes back
@@ -64,6 +70,20 @@ module _ (s : List ℕ) (r : Refusal) (e : checkOf s ≡ Refused r) where
   place-told candidate contour within =
       rw (← place-refused s (checkOf s) refl candidate r e, code-is)
 
+  -- what was fed, as the whole
+  ask-told : (f : Feed) (was : List ℕ) → Run s f was → (held room : List ℕ) (table : List Float) → Intact f was held
+      → askOf f held room table ≡ record { feed = ended f; left = left (answer.Refused r) room table }
+  ask-told f was run held room table intact =
+      whole s f was run .end held room table intact
+      ∙ ap (λ (l : Left). record { feed = ended f; left = l }) (sym (tour-refused s room table (checkOf s) refl r e))
+
+  fed-told : (f : Feed) (was : List ℕ) → Run s f was → (held room : List ℕ) (moves bits : ℕ) → Intact f was held
+      → hostAsk (numberOf f) held room moves bits
+      ≡ hostAsked (numberOf (ended f)) (hosted (oneNumber r) room moves bits)
+  fed-told f was run held room moves bits intact =
+      pieces s f was run .end held room moves bits intact
+      ∙ ap (hostAsked (numberOf (ended f))) (host-told room moves bits)
+
   -- every door answers so
   pub passed-on : PassedOn s r
   passed-on = record {
@@ -73,10 +93,12 @@ module _ (s : List ℕ) (r : Refusal) (e : checkOf s ≡ Refused r) where
     global-to-local = λ number. sym (place-refused s (checkOf s) refl number r e);
     local-to-global = λ contour within. sym (global-refused s (checkOf s) refl contour within r e);
     solve-nn = rw (← stops-refused s (checkOf s) refl r e, e);
+    ask = ask-told;
     write-list = listed;
     jl-check = ap codeOf e ∙ code-is;
     jl-tour = host-told;
     jl-place = place-told;
+    jl-ask = fed-told;
   }
 
 -- ---- the card is sound
@@ -217,6 +239,19 @@ module _ (s : List ℕ) (fine : checkOf s ≡ Fine) where
       go (located.At p) only = inl refl
       go (located.Refused q) only = inr (code-number q ∙ only q refl)
 
+  ask-own : (f : Feed) (was : List ℕ) → Run s f was → (held room : List ℕ) (table : List Float) → Intact f was held
+      → (q : Refusal) → askOf f held room table .left .answer ≡ answer.Refused q → q .number ≡ 13
+  ask-own f was run held room table intact q h =
+      tour-own room table q
+      (sym (ap (λ (a : Reply). a .left .answer) (whole s f was run .end held room table intact)) ∙ h)
+
+  fed-own : (f : Feed) (was : List ℕ) → Run s f was → (held room : List ℕ) (moves bits : ℕ) → Intact f was held
+      → let a = hostAsk (numberOf f) held room moves bits .told .answer in (a ≡ 0) ⊎ (a / 2 ^ 32 ≡ 13)
+  fed-own f was run held room moves bits intact =
+      subst (λ (a : ℕ). (a ≡ 0) ⊎ (a / 2 ^ 32 ≡ 13))
+      (sym (ap (λ (a : HostAsked). a .told .answer) (pieces s f was run .end held room moves bits intact)))
+      (host-own room moves bits)
+
   own-only : OwnOnly s
   own-only = record {
     tour = tour-own;
@@ -225,10 +260,12 @@ module _ (s : List ℕ) (fine : checkOf s ≡ Fine) where
     global-to-local = located-own;
     local-to-global = global-own;
     solve-nn = nearest-own;
+    ask = ask-own;
     write-list = list-own;
     jl-check = ap codeOf fine;
     jl-tour = host-own;
     jl-place = place-own;
+    jl-ask = fed-own;
   }
 
 pub doors : (s : List ℕ) → Doors s

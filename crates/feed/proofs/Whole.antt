@@ -25,7 +25,7 @@ use Rattle.tour.specs.Tour.{Left, tourOf, touredUnless}
 use Rattle.tour.proofs.DoorLaws.{tour-refused}
 use Rattle.feed.specs.declared.Feed.{Feed}
 use Rattle.feed.specs.Feed.{begun, ended, takenOf, fed, filled, Stored, storedUnless, addOf, Reply, endOf, askOf}
-use Rattle.feed.specs.Whole.{OfPieces, OfAsking, Found, Run, begins, adds, idles, no-room, not-yet, Holds, Whole}
+use Rattle.feed.specs.Whole.{OfPieces, OfAsking, Intact, Run, begins, adds, idles, no-room, not-yet, Holds, Whole}
 use Rattle.feed.specs.Whole.{joined, poured, AnyCut, Claim}
 use Rattle.feed.proofs.FeedLaws.{take-cut, add-late, add-small, add-none, add-taken}
 use Rattle.feed.proofs.FeedLaws.{ask-small, ask-end, by-over}
@@ -67,7 +67,7 @@ still-over n size = go (ltb cardBytes n) refl (ltb cardBytes (n + size)) refl
         rw (e, g) (le-ltb (takenOf (min n cardBytes) size) size (omega arith))
 
 module _ {s : List ℕ} {f : Feed} {was : List ℕ} (st : State s f was)
-    (held piece : List ℕ) (found : Found f was held) where
+    (held piece : List ℕ) (intact : Intact f was held) where
   abbrev n : ℕ
   n = takenOf (f .kept) (length piece)
 
@@ -82,7 +82,7 @@ module _ {s : List ℕ} {f : Feed} {was : List ℕ} (st : State s f was)
       let free : cardBytes - f .kept ≡ cardBytes - length s = omega arith in
       let taken : take n piece ≡ take (cardBytes - length s) piece =
       take-cut (cardBytes - f .kept) piece ∙ ap (λ (m : ℕ). take m piece) free in
-      (λ i. (found .same ∙ st .bytes) i ++ taken i) ∙ sym (take-both cardBytes s piece)
+      (λ i. (intact .same ∙ st .bytes) i ++ taken i) ∙ sym (take-both cardBytes s piece)
 
   front-length : length (take cardBytes (s ++ piece)) ≡ f .kept + n
   front-length = length-take cardBytes (s ++ piece) ∙ (let c = count-is in omega arith)
@@ -91,7 +91,7 @@ module _ {s : List ℕ} {f : Feed} {was : List ℕ} (st : State s f was)
   filled-is = λ i. front-is i ++ drop (sym front-length i) held
 
   is-stored : addOf f held piece ≡ storedUnless Fine f held piece
-  is-stored = add-taken f held piece (st .before-end) (found .enough)
+  is-stored = add-taken f held piece (st .before-end) (intact .enough)
 
   holds : Holds (s ++ piece) (addOf f held piece) held
   holds = (
@@ -120,7 +120,7 @@ module _ {s : List ℕ} {f : Feed} {was : List ℕ} (st : State s f was) where
 
 pub state : {s : List ℕ} {f : Feed} {was : List ℕ} → Run s f was → State s f was
 state (begins held) = record { kept = refl; over = refl; before-end = refl; bytes = refl }
-state (adds run held piece found) = next (state run) held piece found
+state (adds run held piece intact) = next (state run) held piece intact
 state (idles {f = f} run held) =
     let st = state run in
     stays st (addOf f held [] .feed) (ap (λ (a : Stored). a .feed) (add-none f held [] (st .before-end) refl))
@@ -143,7 +143,7 @@ too-long s room table h =
     (exactly s .refused-if r (one (record { cause = inr (inr h); told = omega arith })))
 
 module _ {s : List ℕ} {f : Feed} {was : List ℕ} (st : State s f was) (held room : List ℕ) (table : List Float)
-    (found : Found f was held) where
+    (intact : Intact f was held) where
   -- what is kept is the whole, unless that is longer than the longest card
   end-is : endOf f held room table ≡ tourOf s room table
   end-is = go (ltb cardBytes (length s)) refl
@@ -155,26 +155,26 @@ module _ {s : List ℕ} {f : Feed} {was : List ℕ} (st : State s f was) (held r
       go false e =
           by-over f held room table false (st .over ∙ e)
           ∙ ap (λ (l : List ℕ). tourOf l room table)
-          (found .same ∙ st .bytes ∙ take-all cardBytes s (ltb-false cardBytes (length s) e))
+          (intact .same ∙ st .bytes ∙ take-all cardBytes s (ltb-false cardBytes (length s) e))
 
   end : askOf f held room table ≡ record { feed = ended f; left = tourOf s room table }
   end =
-      ask-end f held room table (found .enough)
+      ask-end f held room table (intact .enough)
       ∙ ap (λ (l : Left). record { feed = ended f; left = l }) end-is
 
   later : askOf (ended f) held room table ≡ record { feed = ended f; left = tourOf s room table }
   later =
-      ask-end (ended f) held room table (found .enough)
+      ask-end (ended f) held room table (intact .enough)
       ∙ ap (λ (l : Left). record { feed = ended f; left = l }) end-is
 
 module _ {s : List ℕ} {f : Feed} {was : List ℕ} (st : State s f was) (held room : List ℕ) (table : List Float)
-    (found : Found f was held) where
+    (intact : Intact f was held) where
   again : let a = askOf f held room table in askOf (a .feed) held (a .left .room) (a .left .table) ≡ a
   again =
-      let is = end st held room table found in
+      let is = end st held room table intact in
       let l = tourOf s room table in
       ap (λ (a : Reply). askOf (a .feed) held (a .left .room) (a .left .table)) is
-      ∙ later st held (l .room) (l .table) found
+      ∙ later st held (l .room) (l .table) intact
       ∙ ap (λ (m : Left). record { feed = ended f; left = m }) (tour-again s room table)
       ∙ sym is
 
@@ -212,18 +212,26 @@ pour [] s f held room run e enough =
     subst (λ (l : List ℕ). Behind [] l f held room) (sym (append-nil s)) (run, e)
 pour (piece ∷ more) s f held room run e enough =
     let large : cardBytes ≤ length held = rw e (le-trans enough (placed-grows (take cardBytes s) room)) in
-    let found : Found f held held = record { enough = large; same = refl } in
-    let next = holds (state run) held piece found in
+    let intact : Intact f held held = record { enough = large; same = refl } in
+    let next = holds (state run) held piece intact in
     let long = more-bytes s piece in
     subst (λ (l : List ℕ). Behind (piece ∷ more) l f held room) (append-assoc s piece (joined more))
-    (pour more (s ++ piece) (addOf f held piece .feed) (addOf f held piece .held) room (adds run held piece found)
+    (pour more (s ++ piece) (addOf f held piece .feed) (addOf f held piece .held) room (adds run held piece intact)
     (next .1 ∙ ap (placed (take cardBytes (s ++ piece))) e
     ∙ placed-longer (take cardBytes s) (take cardBytes (s ++ piece)) room long) enough)
 
 any-cut : (pieces : List (List ℕ)) (held : List ℕ) → cardBytes ≤ length held → AnyCut pieces held
 any-cut pieces held enough =
     let p = pour pieces [] begun held held (begins held) refl enough in
-    record { runs = p .0; holds = p .1 }
+    let after = poured pieces begun held in
+    let large : cardBytes ≤ length (after .held) =
+    rw (p .1) (le-trans enough (placed-grows (take cardBytes (joined pieces)) held)) in
+    record {
+      runs = p .0;
+      holds = p .1;
+      end = λ room table. ap (λ (a : Reply). a .left)
+          (end (state (p .0)) (after .held) room table (record { enough = large; same = refl }));
+    }
 
 -- ---- the refusals
 

@@ -36,7 +36,7 @@ pieceCheck f size room =
     firstRefusal (refuseIf (f .ended) 17 0
     ∷ refuseIf (ltb 0 size && ltb room cardBytes) 13 cardBytes ∷ [])
 
--- a piece of this size was taken; bytes that were not kept are never forgotten
+-- a piece of this size was taken; that there were more bytes than are kept is never forgotten
 abbrev pub fed : Feed → ℕ → Feed
 fed f size =
     let n = takenOf (f .kept) size in

@@ -43,7 +43,7 @@ pub record OfAsking (f : Feed) (held room : List ℕ) (table : List Float) : Typ
 -- ---- a run
 
 -- a byte room is large enough, and has the bytes kept as they were left
-pub record Found (f : Feed) (was held : List ℕ) : Type 0 where
+pub record Intact (f : Feed) (was held : List ℕ) : Type 0 where
   pub enough : cardBytes ≤ length held
   pub same : take (f .kept) held ≡ take (f .kept) was
 
@@ -52,7 +52,7 @@ pub record Found (f : Feed) (was held : List ℕ) : Type 0 where
 pub data Run : List ℕ → Feed → List ℕ → Type 0 where
   begins : (held : List ℕ) → Run [] begun held
   -- a piece; no bytes, too
-  adds : {s : List ℕ} {f : Feed} {was : List ℕ} → Run s f was → (held piece : List ℕ) → Found f was held
+  adds : {s : List ℕ} {f : Feed} {was : List ℕ} → Run s f was → (held piece : List ℕ) → Intact f was held
       → Run (s ++ piece) (addOf f held piece .feed) (addOf f held piece .held)
   -- no bytes need no room
   idles : {s : List ℕ} {f : Feed} {was : List ℕ} → Run s f was → (held : List ℕ) → Run s (addOf f held [] .feed) was
@@ -69,15 +69,15 @@ abbrev pub Holds : List ℕ → Stored → List ℕ → Type 0
 Holds s a held = (a .answer ≡ count.Is (min (length s) cardBytes)) × (a .held ≡ placed (take cardBytes s) held)
 
 pub record Whole (s : List ℕ) (f : Feed) (was : List ℕ) : Type 0 where
-  pub piece : (held piece : List ℕ) → Found f was held → Holds (s ++ piece) (addOf f held piece) held
+  pub piece : (held piece : List ℕ) → Intact f was held → Holds (s ++ piece) (addOf f held piece) held
   -- the end: answer, tour and table are those of all bytes that were fed
-  pub end : (held room : List ℕ) (table : List Float) → Found f was held
+  pub end : (held room : List ℕ) (table : List Float) → Intact f was held
       → askOf f held room table ≡ record { feed = ended f; left = tourOf s room table }
   -- asked again with the same rooms: the same
-  pub again : (held room : List ℕ) (table : List Float) → Found f was held
+  pub again : (held room : List ℕ) (table : List Float) → Intact f was held
       → let a = askOf f held room table in askOf (a .feed) held (a .left .room) (a .left .table) ≡ a
   -- and in any other rooms, at any later time, what these rooms get of the whole
-  pub later : (held room : List ℕ) (table : List Float) → Found f was held
+  pub later : (held room : List ℕ) (table : List Float) → Intact f was held
       → askOf (ended f) held room table ≡ record { feed = ended f; left = tourOf s room table }
 
 -- ---- any cutting, in one room
@@ -96,10 +96,13 @@ unfoldable pub poured : List (List ℕ) → Feed → List ℕ → Poured
 poured [] f held = record { feed = f; held = held }
 poured (piece ∷ more) f held = poured more (addOf f held piece .feed) (addOf f held piece .held)
 
--- every cutting is a run, and leaves the bytes kept at the front of the room and its rest as it was
+-- every cutting is a run, leaves the bytes kept at the front of the room and its rest as it was, and ends as the whole
 pub record AnyCut (pieces : List (List ℕ)) (held : List ℕ) : Type 0 where
   pub runs : Run (joined pieces) (poured pieces begun held .feed) (poured pieces begun held .held)
   pub holds : poured pieces begun held .held ≡ placed (take cardBytes (joined pieces)) held
+  pub end : (room : List ℕ) (table : List Float)
+      → askOf (poured pieces begun held .feed) (poured pieces begun held .held) room table .left
+      ≡ tourOf (joined pieces) room table
 
 abbrev pub Claim : Type 0
 Claim =

@@ -13,7 +13,7 @@ use Rattle.table.specs.Distances.{entryLimit}
 use Rattle.tour.specs.Tour.{tourOf}
 use Rattle.feed.specs.declared.Feed.{Feed}
 use Rattle.feed.specs.Feed.{ended, addOf, Reply, askOf}
-use Rattle.feed.specs.Whole.{Found, Run, Whole}
+use Rattle.feed.specs.Whole.{Intact, Run, Whole}
 use Rattle.feed.proofs.FeedLaws.{add-late, add-small, ask-small}
 use Rattle.feed.proofs.Whole.{state, whole}
 use Rattle.host.specs.Hosts.{hosted, hostTour}
@@ -51,16 +51,16 @@ module _ (n : ℕ) (held piece room : List ℕ) (moves bits : ℕ) where
 -- ---- a run
 
 module _ {s : List ℕ} {f : Feed} {was : List ℕ} (w : Whole s f was) where
-  piece-told : (held piece : List ℕ) → Found f was held
+  piece-told : (held piece : List ℕ) → Intact f was held
       → hostFeed (numberOf f) held piece
       ≡ hostFed 0 (numberOf (addOf f held piece .feed)) (placed (take cardBytes (s ++ piece)) held)
   unfolding hostFeed
-  piece-told held piece found =
-      let h = w .piece held piece found in
+  piece-told held piece intact =
+      let h = w .piece held piece intact in
       ap (λ (g : Feed). fedAs (addOf g held piece)) (state-back f)
       ∙ (λ i. hostFed (countTold (h .0 i)) (numberOf (addOf f held piece .feed)) (h .1 i))
 
-  module _ (held room : List ℕ) (moves bits : ℕ) (found : Found f was held) where
+  module _ (held room : List ℕ) (moves bits : ℕ) (intact : Intact f was held) where
     -- in whatever state an asking finds these bytes
     told : (g : Feed) → askOf g held room own ≡ record { feed = ended f; left = tourOf s room own }
         → hostAsk (numberOf g) held room moves bits ≡ hostAsked (numberOf (ended f)) (hostTour s room moves bits)
@@ -74,15 +74,15 @@ module _ {s : List ℕ} {f : Feed} {was : List ℕ} (w : Whole s f was) where
 number-held : (f : Feed) → numberOf f / 4 ≡ f .kept
 number-held f = let a = bit-small (f .over) in let b = bit-small (f .ended) in omega arith
 
-pieces : (s : List ℕ) (f : Feed) (was : List ℕ) → Run s f was → Pieces s f was
+pub pieces : (s : List ℕ) (f : Feed) (was : List ℕ) → Run s f was → Pieces s f was
 pieces s f was run =
     let w = whole s f was run in
     record {
       held = number-held f ∙ state run .kept;
       piece = piece-told w;
-      end = λ held room moves bits found. told w held room moves bits found f (w .end held room own found);
-      later = λ held room moves bits found.
-          told w held room moves bits found (ended f) (w .later held room own found);
+      end = λ held room moves bits intact. told w held room moves bits intact f (w .end held room own intact);
+      later = λ held room moves bits intact.
+          told w held room moves bits intact (ended f) (w .later held room own intact);
       closed = omega arith;
     }
 

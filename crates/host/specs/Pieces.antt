@@ -8,7 +8,7 @@ use Rattle.answer.specs.Room.{placed}
 use Rattle.fields.specs.Limits.{cardBytes}
 use Rattle.feed.specs.declared.Feed.{Feed}
 use Rattle.feed.specs.Feed.{begun, ended, addOf}
-use Rattle.feed.specs.Whole.{Found, Run}
+use Rattle.feed.specs.Whole.{Intact, Run}
 use Rattle.host.specs.Hosts.{hosted, hostTour}
 use Rattle.host.specs.Feeds.{numberOf, stateOf, hostFed, hostFeed, hostAsked, hostAsk}
 
@@ -30,12 +30,12 @@ pub record Refuses (n : ℕ) (held piece room : List ℕ) (moves bits : ℕ) : T
 -- what the whole gets, and an odd number
 pub record Pieces (s : List ℕ) (f : Feed) (was : List ℕ) : Type 0 where
   pub held : numberOf f / 4 ≡ min (length s) cardBytes
-  pub piece : (held piece : List ℕ) → Found f was held
+  pub piece : (held piece : List ℕ) → Intact f was held
       → hostFeed (numberOf f) held piece
       ≡ hostFed 0 (numberOf (addOf f held piece .feed)) (placed (take cardBytes (s ++ piece)) held)
-  pub end : (held room : List ℕ) (moves bits : ℕ) → Found f was held
+  pub end : (held room : List ℕ) (moves bits : ℕ) → Intact f was held
       → hostAsk (numberOf f) held room moves bits ≡ hostAsked (numberOf (ended f)) (hostTour s room moves bits)
-  pub later : (held room : List ℕ) (moves bits : ℕ) → Found f was held
+  pub later : (held room : List ℕ) (moves bits : ℕ) → Intact f was held
       → hostAsk (numberOf (ended f)) held room moves bits ≡ hostAsked (numberOf (ended f)) (hostTour s room moves bits)
   pub closed : numberOf (ended f) % 2 ≡ 1
 

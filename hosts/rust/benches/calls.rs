@@ -1,5 +1,5 @@
-//! `cargo bench --package jambolive`: how long a check and a tour of each example card take, the shortest of many
-//! rounds.
+//! `cargo bench --package jambolive`: how long a check and a tour of each example card take, and its tour where it comes
+//! block by block, into a feed or into a list of bytes; the shortest of many rounds.
 
 use std::hint::black_box;
 use std::time::{Duration, Instant};
@@ -19,6 +19,19 @@ fn main() {
         let card = std::fs::read(format!("{folder}/{name}.card")).unwrap();
         let check = shortest(|| _ = black_box(jambolive::check(black_box(&card))));
         let tour = shortest(|| _ = black_box(jambolive::tour(black_box(&card))));
-        println!("{name}: check {check:?}, tour {tour:?}");
+        let mut feed = jambolive::Feed::new();
+        let new = feed.clone();
+        let fed = shortest(|| {
+            feed.clone_from(black_box(&new));
+            card.chunks(jambolive::BLOCK).for_each(|piece| _ = feed.push(black_box(piece)));
+            _ = black_box(feed.finish());
+        });
+        let mut bytes = Vec::with_capacity(jambolive::CARD_BYTES);
+        let collected = shortest(|| {
+            bytes.clear();
+            card.chunks(jambolive::BLOCK).for_each(|piece| bytes.extend_from_slice(black_box(piece)));
+            _ = black_box(jambolive::tour(black_box(&bytes)));
+        });
+        println!("{name}: check {check:?}, tour {tour:?}, fed {fed:?}, collected {collected:?}");
     }
 }
