@@ -132,5 +132,6 @@ most=$(sed -n 's/^pub const CONTOURS: usize = \([0-9]*\);$/\1/p' "$here/../crate
 says_limits 0 "say the code's" hosts/c/jambolive.h none none
 says_limits 1 "hosts/c/jambolive.h: no line begins «#define JL_CONTOURS $most" hosts/c/jambolive.h "JL_CONTOURS $most" 'JL_CONTOURS 79'
 says_limits 1 "docs/CARD.md: no line begins «| 4 | n, contours" docs/CARD.md "at most $most |" 'at most 79 |'
+says_limits 1 'docs/CARD.md: no line begins «| 13 | then' docs/CARD.md 'the longest card | [0-9]*' 'the longest card | 1'
 says_limits 1 'docs/CARD.md: no line begins' crates/fields/src/lib.rt 'PASSES: usize = 1' 'PASSES: usize = 2'
 says_limits 1 'the longest card is not the one with the most' crates/closure/src/lib.rt 'PAIRS: usize = ' 'PAIRS: usize = 9'

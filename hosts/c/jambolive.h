@@ -2,7 +2,8 @@
  *
  * A card is any `bytes` bytes at `card`. Every call answers one number: 0, or why it refuses, as the refusal's
  * number times 2^32 plus its place; docs/CARD.md says what each number and place means. Nothing that is lent is kept,
- * and what a comment does not name stays as it was; after a refusal that is everything. The lent parts may not overlap.
+ * and what a comment does not name stays as it was; after a refusal that is everything, but the state that jl_ask ends.
+ * The lent parts may not overlap.
  *
  * Calls may run side by side: the library has no memory of its own.
  * A call takes at most JL_STACK_BYTES of stack.
@@ -26,7 +27,7 @@ extern "C" {
 #define JL_CHECK_STACK_BYTES 16384
 #define JL_PLACE_STACK_BYTES 32768
 #define JL_TOUR_STACK_BYTES 98304
-#define JL_FEED_STACK_BYTES 1024
+#define JL_FEED_STACK_BYTES 8192
 #define JL_ASK_STACK_BYTES 98304
 #define JL_STACK_BYTES JL_TOUR_STACK_BYTES
 
@@ -78,14 +79,14 @@ uint64_t jl_place(const uint8_t *card, size_t bytes, uint64_t candidate, uint64_
 /* Takes a piece of `bytes` bytes: writes it behind those that are held in `held`, whose rest is kept. Bytes past the
  * JL_CARD_BYTES of the longest card are not held, and jl_ask then answers refusal 1 at JL_CARD_BYTES + 1. After the end
  * any piece, of no bytes too, is refusal 17, place 0. Then a piece with bytes is refusal 13, place JL_CARD_BYTES, where
- * `room` is under JL_CARD_BYTES, however few are held; no bytes need no room. A refusal changes nothing. */
-uint64_t jl_feed(uint64_t *state, uint8_t *held, size_t room, const uint8_t *piece, size_t bytes);
+ * `held_room` is under JL_CARD_BYTES, however few are held; no bytes need no room. A refusal changes nothing. */
+uint64_t jl_feed(uint64_t *state, uint8_t *held, size_t held_room, const uint8_t *piece, size_t bytes);
 
 /* The end: answers for the bytes that were fed as jl_tour does for a card, and writes `tour`, `moves` and `length` as it
  * does. A byte room under JL_CARD_BYTES is refusal 13, place JL_CARD_BYTES, which changes nothing and is not the end;
  * after every other answer, a refusal of the card or of the tour's room too, the state is ended. Asked again with the
  * same rooms it answers the same, and in other rooms what they get of the same card. */
-uint64_t jl_ask(uint64_t *state, const uint8_t *held, size_t bytes, uint8_t *tour, size_t room, uint64_t *moves,
+uint64_t jl_ask(uint64_t *state, const uint8_t *held, size_t held_room, uint8_t *tour, size_t room, uint64_t *moves,
                 uint64_t *length);
 
 #ifdef __cplusplus

@@ -6,11 +6,11 @@ unsafe extern "C" {
     pub fn jl_tour(card: *const u8, bytes: usize, tour: *mut u8, room: usize, moves: *mut u64, length: *mut u64)
     -> u64;
     pub fn jl_place(card: *const u8, bytes: usize, candidate: u64, contour: *mut u64, within: *mut u64) -> u64;
-    pub fn jl_feed(state: *mut u64, held: *mut u8, room: usize, piece: *const u8, bytes: usize) -> u64;
+    pub fn jl_feed(state: *mut u64, held: *mut u8, held_room: usize, piece: *const u8, bytes: usize) -> u64;
     pub fn jl_ask(
         state: *mut u64,
         held: *const u8,
-        bytes: usize,
+        held_room: usize,
         tour: *mut u8,
         room: usize,
         moves: *mut u64,

@@ -1,5 +1,6 @@
 //! Cards in pieces against the whole: good ones, damaged ones and longer ones than any, cut at random. Every call that is
-//! refused on the way keeps all it was lent; the host writes behind the bytes that are held, and lends other rooms.
+//! refused on the way keeps all it was lent; the host writes behind the bytes that are held, and lends other rooms. And
+//! single calls in any state, against the request read once more.
 
 use crate::doors::refused;
 use crate::exports::{self, Left, UNTOUCHED};
@@ -60,22 +61,13 @@ impl Host {
 
     /// Feeds a piece that must be taken.
     fn feeds(&mut self, piece: &[u8]) -> Result<u64, String> {
-        let kept = self.kept();
+        let (kept, state) = (self.kept(), self.state());
+        let ours = exports::feed(state, &self.held, piece)?;
         self.fed.extend_from_slice(piece);
-        let mut due = self.held.clone();
-        due[kept..self.kept()].copy_from_slice(&piece[..self.kept() - kept]);
-        let (code, state, held) = exports::feed(self.state_before(kept, piece), &self.held, piece)?;
-        self.held = due;
-        same(
-            || format!("a piece of {} bytes behind {kept}", piece.len()),
-            (code, state, &held),
-            (0, self.state(), &self.held),
-        )
-    }
-
-    /// The state before a piece that has just been taken.
-    fn state_before(&self, kept: usize, piece: &[u8]) -> u64 {
-        4 * kept as u64 + 2 * u64::from(self.fed.len() - piece.len() > CARD_BYTES)
+        let now_kept = self.kept();
+        self.held[kept..now_kept].copy_from_slice(&self.fed[kept..now_kept]);
+        let due = (0, self.state(), self.held.clone());
+        same(|| format!("a piece of {} bytes behind {kept}", piece.len()), ours, due)
     }
 
     /// Feeds a piece that must be refused.
@@ -92,20 +84,29 @@ impl Host {
         Ok(left)
     }
 
+    /// A byte room that is too small.
+    fn small(&self, r: &Random) -> &[u8] {
+        &self.held[..r.pick(&[0, self.kept(), CARD_BYTES - 1]).min(CARD_BYTES - 1)]
+    }
+
+    /// Asks with a byte room that is too small, which changes nothing.
+    fn asks_in_vain(&self, r: &Random) -> Result<u64, String> {
+        let before = Left::refused(0, CONTOURS);
+        let due = (self.state(), Left { code: refused(13, CARD_BYTES as u64), ..before.clone() });
+        same(|| "asked in a small room".to_string(), exports::ask(self.state(), self.small(r), &before)?, due)
+    }
+
     /// Calls on the way that change nothing: no bytes into any room, and what a small room is refused for.
     fn idles(&self, r: &Random) -> Result<u64, String> {
-        let small = &self.held[..r.pick(&[0, self.kept(), CARD_BYTES - 1]).min(CARD_BYTES - 1)];
-        let state = self.state();
+        let (small, state) = (self.small(r), self.state());
         same(|| "no bytes".to_string(), exports::feed(state, small, &[])?, (0, state, small.to_vec()))?;
         self.is_refused(small, &[1; 3][..r.from(1, 3)], 13, CARD_BYTES)?;
-        let before = Left::refused(0, CONTOURS);
-        let due = (state, Left { code: refused(13, CARD_BYTES as u64), ..before.clone() });
-        same(|| "asked in a small room".to_string(), exports::ask(state, small, &before)?, due)
+        self.asks_in_vain(r)
     }
 }
 
 /// Feeds a card as it is cut, and holds the end against the whole's.
-fn one(r: &Random, bytes: &[u8], longer: &Tally, cut: &Tally) -> Result<u64, String> {
+fn one(r: &Random, bytes: &[u8], met: &[Tally; 3]) -> Result<u64, String> {
     let mut host = Host { fed: Vec::new(), held: vec![UNTOUCHED as u8; CARD_BYTES], ended: false };
     let mut pieces = 0;
     while host.fed.len() < bytes.len() && pieces < 40 {
@@ -120,8 +121,6 @@ fn one(r: &Random, bytes: &[u8], longer: &Tally, cut: &Tally) -> Result<u64, Str
     host.stirs(r);
     host.feeds(&bytes[host.fed.len()..])?;
     host.idles(r)?;
-    longer.count(bytes.len() > CARD_BYTES);
-    cut.count(pieces > 2);
 
     let room = r.pick(&[CONTOURS, CONTOURS + 3, r.index(CONTOURS)]);
     let whole = exports::tour(bytes, room)?;
@@ -129,18 +128,73 @@ fn one(r: &Random, bytes: &[u8], longer: &Tally, cut: &Tally) -> Result<u64, Str
     same(|| "the end".to_string(), &first, &whole)?;
     let again = host.asks(&first)?;
     same(|| "the end, asked again".to_string(), &again, &whole)?;
+    same(
+        || "the end, in another room".to_string(),
+        host.asks(&Left::refused(0, CONTOURS))?,
+        exports::tour(bytes, CONTOURS)?,
+    )?;
+    host.asks_in_vain(r)?;
     for piece in [&[][..], &[1]] {
         host.is_refused(&host.held[..r.pick(&[0, CARD_BYTES])], piece, 17, 0)?;
+    }
+    for (tally, met) in met.iter().zip([bytes.len() > CARD_BYTES, pieces > 2, whole.code == 0]) {
+        tally.count(met);
     }
     Ok(1)
 }
 
+/// What a piece leaves in any state, read from the request once more.
+pub fn fed_due(state: u64, held: &[u8], piece: &[u8]) -> exports::Fed {
+    let mut after = held.to_vec();
+    if state % 2 == 1 {
+        return (refused(17, 0), state, after);
+    }
+    if !piece.is_empty() && held.len() < CARD_BYTES {
+        return (refused(13, CARD_BYTES as u64), state, after);
+    }
+    let (kept, over) = (state / 4, state / 2 % 2 == 1);
+    let taken = piece.len().min((CARD_BYTES as u64).saturating_sub(kept) as usize);
+    if taken > 0 {
+        after[kept as usize..kept as usize + taken].copy_from_slice(&piece[..taken]);
+    }
+    (0, 4 * (kept + taken as u64) + 2 * u64::from(over || taken < piece.len()), after)
+}
+
+/// Likewise an asking.
+pub fn asked_due(state: u64, held: &[u8], room: usize) -> Result<(u64, Left), String> {
+    if held.len() < CARD_BYTES {
+        return Ok((state, Left::refused(refused(13, CARD_BYTES as u64), room)));
+    }
+    let kept = (state / 4).min(held.len() as u64) as usize;
+    let left = match state / 2 % 2 {
+        1 => Left::refused(refused(1, CARD_BYTES as u64 + 1), room),
+        _ => exports::tour(&held[..kept], room)?,
+    };
+    Ok((state | 1, left))
+}
+
+/// A state that perhaps no call gave, with a byte room of any size.
+fn any_state(r: &Random, bytes: &[u8]) -> Result<u64, String> {
+    let most = CARD_BYTES as u64;
+    let kept = r.pick(&[bytes.len() as u64, r.below(most), most - 1, most, most + 1, r.below(2 * most), r.next() >> 2]);
+    let state = 4 * kept + r.below(4);
+    let mut held = bytes.to_vec();
+    held.resize(r.pick(&[CARD_BYTES, CARD_BYTES, CARD_BYTES + BLOCK, CARD_BYTES - 1, r.index(CARD_BYTES)]), 0);
+    let piece = &bytes[..r.pick(&[0, 1, r.index(bytes.len() + 1), bytes.len()]).min(bytes.len())];
+    let what = || format!("state {state}, {} bytes of room, {} more", held.len(), piece.len());
+    same(what, exports::feed(state, &held, piece)?, fed_due(state, &held, piece))?;
+    let room = r.pick(&[CONTOURS, r.index(CONTOURS)]);
+    same(what, exports::ask(state, &held, &Left::refused(0, room))?, asked_due(state, &held, room)?)
+}
+
 const ALL: u64 = 50_000;
+const STATES: u64 = 20_000;
 
 pub fn compare(wanted: Wanted) -> bool {
     let longer = Tally::of("fed cards that are longer than any", 50);
     let cut = Tally::of("fed cards in three pieces or more", 2);
-    by_version(wanted, "fed cards", ALL, |r, version| one(r, &any(r, version), &longer, &cut))
-        & longer.enough(wanted.of(ALL))
-        & cut.enough(wanted.of(ALL))
+    let met = [longer, cut, Tally::of("fed cards with a tour", 4)];
+    by_version(wanted, "fed cards", ALL, |r, version| one(r, &any(r, version), &met))
+        & met.into_iter().fold(true, |all, tally| tally.enough(wanted.of(ALL)) & all)
+        & by_version(wanted, "feeds in any state", STATES, |r, version| any_state(r, &any(r, version)))
 }

@@ -5,7 +5,7 @@
 use crate::card::seal;
 use crate::coverage::Coverage;
 use crate::doors::refused;
-use crate::exports::{UNTOUCHED, jl_ask, jl_check, jl_feed, jl_place, jl_tour};
+use crate::exports::{Left, UNTOUCHED, jl_ask, jl_check, jl_feed, jl_place, jl_tour};
 use crate::feed;
 use crate::generate::{damaged, good, mutated, relabelled};
 use crate::guard::Guarded;
@@ -89,11 +89,16 @@ fn told(bytes: &[u8]) -> u64 {
 /// A tour with its trials and its length's bits.
 type Tour = (Vec<u8>, u64, u64);
 
-/// Asks the safe calls about a card: their refusal is the one that is due, or there is a tour.
-fn safe(card: &[u8], fault: u64) -> Result<Option<Tour>, String> {
+/// Asks the safe calls about a card, whole and fed: their refusal is the one that is due, or there is a tour.
+fn safe(r: &Random, card: &[u8], fault: u64) -> Result<Option<Tour>, String> {
     let code = |r: jambolive::Refusal| refused(u64::from(r.number()), u64::from(r.place()));
     same(|| "jambolive::check".to_string(), jambolive::check(card).map_or_else(code, |()| 0), fault)?;
     let tour = jambolive::tour(card);
+    let mut feed = jambolive::Feed::new();
+    let (first, rest) = card.split_at(feed::size(r, card.len()));
+    same(|| "jambolive::Feed::push".to_string(), feed.push(first), Ok(first.len().min(CARD_BYTES)))?;
+    same(|| "jambolive::Feed::push".to_string(), feed.push(rest), Ok(card.len().min(CARD_BYTES)))?;
+    same(|| "jambolive::Feed::finish".to_string(), &feed.finish(), &tour)?;
     same(|| "jambolive::tour".to_string(), tour.as_ref().map_or_else(|&r| code(r), |_| 0), fault)?;
     Ok(tour.ok().map(|t| (t.candidates, t.moves, t.length.to_bits())))
 }
@@ -129,6 +134,31 @@ fn fed(r: &Random, memory: &mut Memory, bytes: &[u8], room: &[u8]) -> Result<(u6
     Ok((code, tour.to_vec(), told(first), told(second)))
 }
 
+/// A piece and an asking in a state that perhaps no call gave, with a byte room of any size.
+fn in_any_state(r: &Random, memory: &mut Memory, bytes: &[u8]) -> Result<u64, String> {
+    let [piece, tour, first, second, held, lent_state] = memory;
+    let state = r.pick(&[r.next(), 4 * r.below(2 * CARD_BYTES as u64) + r.below(4), u64::MAX - r.below(8)]);
+    let mut room = bytes.to_vec();
+    room.resize(r.pick(&[0, CARD_BYTES - 1, CARD_BYTES, CARD_BYTES + 1, LARGEST]), UNTOUCHED as u8);
+    let what = || format!("state {state}, {} bytes of room, {} more", room.len(), bytes.len());
+    let edge = |r: &Random| r.one_in(2);
+    let held = held.lend(&room, edge(r));
+    let lent = lent_state.lend(&state.to_ne_bytes(), edge(r));
+    let piece = piece.lend(bytes, edge(r));
+    let lent_number = lent.as_mut_ptr().cast();
+    let code = unsafe { jl_feed(lent_number, held.as_mut_ptr(), held.len(), piece.as_ptr(), piece.len()) };
+    same(what, (code, told(lent), held.to_vec()), feed::fed_due(state, &room, bytes))?;
+
+    held.copy_from_slice(&room);
+    lent.copy_from_slice(&state.to_ne_bytes());
+    let tour = tour.lend(&[UNTOUCHED as u8; CONTOURS], edge(r));
+    let (first, second) = (first.lend(&number(), edge(r)), second.lend(&number(), edge(r)));
+    let (moves, length) = (first.as_mut_ptr().cast(), second.as_mut_ptr().cast());
+    let code = unsafe { jl_ask(lent_number, held.as_ptr(), held.len(), tour.as_mut_ptr(), tour.len(), moves, length) };
+    let left = Left { code, room: tour.to_vec(), moves: told(first), length: told(second) };
+    same(what, (told(lent), left), feed::asked_due(state, &room, CONTOURS)?)
+}
+
 /// What is lent: the card or a piece of it, the tour's room, two numbers, the byte room of a feed and its state.
 type Memory = [Guarded; 6];
 
@@ -159,7 +189,7 @@ fn ask(r: &Random, memory: &mut Memory, bytes: &[u8]) -> Result<bool, String> {
     let whole = (code, tour.to_vec(), told(first), told(second));
     let tour = (code == 0).then(|| (tour[..n].to_vec(), told(first), told(second)));
     same(|| "the card".to_string(), &*card, bytes)?;
-    let tours: Vec<Tour> = tour.into_iter().chain(safe(card, fault)?).collect();
+    let tours: Vec<Tour> = tour.into_iter().chain(safe(r, card, fault)?).collect();
     same(|| "the card".to_string(), &*card, bytes)?;
 
     first.copy_from_slice(&number());
@@ -175,6 +205,7 @@ fn ask(r: &Random, memory: &mut Memory, bytes: &[u8]) -> Result<bool, String> {
     };
     same(|| "the card".to_string(), &*card, bytes)?;
     same(what, fed(r, memory, bytes, &room)?, whole)?;
+    in_any_state(r, memory, bytes)?;
     Ok(due.is_ok())
 }
 

@@ -1,8 +1,8 @@
 -- Demand 1 at every door (the tour, the questions on a card, the end of a card that was fed, the list, the exports): it
 -- answers the card's own refusal with its number and its place, whatever else it is asked, and what it was lent is as
--- before, but for the list's page, which gets the refusal's line; and no door answers a sound card with a number of the
--- table's rows 1 to 12. A field is named after its function, and speaks of the definition that the function promises
--- (contracts/specs). Assumes nothing.
+-- before, but for the list's page, which gets the refusal's line, and a feed's state, which is ended; and no door answers
+-- a sound card with a number of the table's rows 1 to 12. A field is named after its function, and speaks of the
+-- definition that the function promises (contracts/specs). Assumes nothing.
 use mathlib.Core.Path.{_≡_}
 use mathlib.Core.Logic.{_⊎_}
 use mathlib.Core.List.{List, _++_}

@@ -59,14 +59,14 @@ module _ (s : List ℕ) where
     long : length (tableOn s) ≡ entries
     long = distances-length (candidatesOn s) (ownersOn s)
 
-    abbrev over : List Float
-    over = tableOn s ++ drop entries table
+    abbrev filled : List Float
+    filled = tableOn s ++ drop entries table
 
-    over-again : tableOn s ++ drop entries over ≡ over
-    over-again = ap (λ (r : List Float). tableOn s ++ r) (drop-at (tableOn s) (drop entries table) entries long)
+    filled-again : tableOn s ++ drop entries filled ≡ filled
+    filled-again = ap (λ (r : List Float). tableOn s ++ r) (drop-at (tableOn s) (drop entries table) entries long)
 
-    over-grows : length table ≤ length over
-    over-grows =
+    filled-grows : length table ≤ length filled
+    filled-grows =
         rw (length-append (tableOn s) (drop entries table), length-drop entries table, long) (omega arith)
 
     same : (c : Check) → tourCheck s (length room) (length table) ≡ c
@@ -75,11 +75,20 @@ module _ (s : List ℕ) where
     same (Refused r) e = ap (λ (c : Check). touredUnless c (toured s room table) room table) e
     same Fine e =
         let tour = tourOn s in
-        let fine = still-fine (length room) (length (placed tour room)) (length table) (length over)
-        (placed-grows tour room) over-grows e in
-        ap (λ (c : Check). touredUnless c (toured s (placed tour room) over) (placed tour room) over) fine
-        ∙ rw (placed-again tour room, over-again)
+        let fine = still-fine (length room) (length (placed tour room)) (length table) (length filled)
+        (placed-grows tour room) filled-grows e in
+        ap (λ (c : Check). touredUnless c (toured s (placed tour room) filled) (placed tour room) filled) fine
+        ∙ rw (placed-again tour room, filled-again)
 
     pub tour-again : let l = tourOf s room table in tourOf s (l .room) (l .table) ≡ l
     unfolding tourWithin
     tour-again = same (tourCheck s (length room) (length table)) refl
+
+    -- and no table gets smaller
+    pub table-grows : length table ≤ length (tourOf s room table .table)
+    unfolding tourWithin
+    table-grows = go (tourCheck s (length room) (length table))
+      where
+        go : (c : Check) → length table ≤ length (touredUnless c (toured s room table) room table .table)
+        go Fine = filled-grows
+        go (Refused r) = omega arith

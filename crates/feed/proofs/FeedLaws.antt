@@ -20,10 +20,9 @@ use Rattle.tour.specs.declared.Toured.the-variants as answer
 use Rattle.tour.specs.Tour.{Left, left, touredUnless, tourOf}
 use Rattle.feed.specs.declared.Feed.{Feed}
 use Rattle.feed.specs.declared.Fed.{Fed}
-use Rattle.feed.specs.Feed.{takenOf, pieceCheck, fed, filled, stored, storedUnless, addOf}
+use Rattle.feed.specs.Feed.{takenOf, pieceCheck, fed, filled, stored, unchanged, storedUnless, addOf}
 use Rattle.feed.specs.declared.Asked.{Asked}
-use Rattle.feed.specs.Feed.{askCheck, reply, ended, endOf, askOf}
-use Rattle.feed.specs.Whole.{unchanged, unasked}
+use Rattle.feed.specs.Feed.{askCheck, reply, ended, endOf, unasked, replyUnless, askOf}
 
 -- as many as there are, at most
 pub take-cut : (n : ℕ) (l : List ℕ) → take (min (length l) n) l ≡ take n l
@@ -205,3 +204,12 @@ module _ (f : Feed) (held room : List ℕ) (table : List Float) where
       let m : n ≡ min (length held) (f .kept) = omega arith in
       let same : take n held ≡ take (f .kept) held = ap (λ (k : ℕ). take k held) m ∙ take-cut (f .kept) held in
       ends h l (toured ∙ ap (λ (s : List ℕ). tourOf s room table) same ∙ sym (by-over false e))
+
+-- no asking after the end leads out of it
+pub ask-ended : (f : Feed) (held room : List ℕ) (table : List Float) → askOf (ended f) held room table .feed ≡ ended f
+unfolding askOf
+ask-ended f held room table = go (askCheck (length held))
+  where
+    go : (c : Check) → replyUnless c (ended f) held room table .feed ≡ ended f
+    go Fine = refl
+    go (Refused r) = refl

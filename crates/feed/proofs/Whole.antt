@@ -10,7 +10,7 @@ use borrow.Author.Tests.{lt-ltb, le-ltb, ltb-true, ltb-false}
 use lib.Dec.{ltb}
 use lib.Ieee.{Float}
 use lib.ListN.{length, take, drop, length-append, length-take}
-use lib.Seq.{take-all, drop-append-add, drop-drop}
+use lib.Seq.{take-all, take-at, drop-append-add, drop-drop}
 use Rattle.answer.specs.declared.Refusal.{Refusal}
 use Rattle.answer.specs.declared.Check.the-variants.{Fine}
 use Rattle.answer.specs.declared.Count.the-variants as count
@@ -25,10 +25,10 @@ use Rattle.tour.specs.Tour.{Left, tourOf, touredUnless}
 use Rattle.tour.proofs.DoorLaws.{tour-refused}
 use Rattle.feed.specs.declared.Feed.{Feed}
 use Rattle.feed.specs.Feed.{begun, ended, takenOf, fed, filled, Stored, storedUnless, addOf, Reply, endOf, askOf}
-use Rattle.feed.specs.Whole.{OfPieces, OfAsking, Intact, Run, begins, adds, idles, no-room, not-yet, Holds, Whole}
-use Rattle.feed.specs.Whole.{joined, poured, AnyCut, Claim}
+use Rattle.feed.specs.Whole.{OfPieces, OfAsking, Closed, Intact, Run, begins, adds, idles, no-room, not-yet}
+use Rattle.feed.specs.Whole.{Holds, Whole, joined, poured, AnyCut, Claim}
 use Rattle.feed.proofs.FeedLaws.{take-cut, add-late, add-small, add-none, add-taken}
-use Rattle.feed.proofs.FeedLaws.{ask-small, ask-end, by-over}
+use Rattle.feed.proofs.FeedLaws.{ask-small, ask-end, ask-ended, by-over}
 use Rattle.feed.proofs.AgainLaws.{placed-grows, tour-again}
 
 -- ---- the first bytes of two lists, one behind the other
@@ -178,8 +178,18 @@ module _ {s : List ℕ} {f : Feed} {was : List ℕ} (st : State s f was) (held r
       ∙ ap (λ (m : Left). record { feed = ended f; left = m }) (tour-again s room table)
       ∙ sym is
 
+-- so many bytes are there
+elsewhere : {s : List ℕ} {f : Feed} {was : List ℕ} → State s f was → (rest : List ℕ)
+    → cardBytes ≤ length (take (f .kept) was ++ rest) → Intact f was (take (f .kept) was ++ rest)
+elsewhere {s = s} {f = f} {was = was} st rest enough =
+    let long : length (take (f .kept) was) ≡ f .kept =
+    ap length (st .bytes) ∙ length-take cardBytes s ∙ (let k = st .kept in omega arith) in
+    record { enough = enough; same = take-at (take (f .kept) was) rest (f .kept) long }
+
 pub whole : (s : List ℕ) (f : Feed) (was : List ℕ) → Run s f was → Whole s f was
 whole s f was run = record {
+  kept = state run .kept;
+  elsewhere = elsewhere (state run);
   piece = holds (state run);
   end = end (state run);
   again = again (state run);
@@ -249,5 +259,11 @@ of-asking f held room table = record {
   end = λ h. ap (λ (a : Reply). a .feed) (ask-end f held room table h);
 }
 
+closed : (f : Feed) → Closed f
+closed f = record {
+  pieces = λ held piece. ap (λ (a : Stored). a .feed) (add-late (ended f) held piece refl);
+  askings = ask-ended f;
+}
+
 pub claim : Claim
-claim = (of-pieces, of-asking, whole, any-cut)
+claim = (of-pieces, of-asking, closed, whole, any-cut)

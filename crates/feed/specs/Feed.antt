@@ -6,6 +6,7 @@ use Prim.Native.Nat.{ℕ, _+_, _-_, min}
 use lib.Dec.{ltb}
 use lib.Ieee.{Float}
 use lib.ListN.{length, take, drop}
+use Rattle.answer.specs.declared.Refusal.{Refusal}
 use Rattle.answer.specs.declared.Check.{Check}
 use Rattle.answer.specs.declared.Check.the-variants.{Fine, Refused}
 use Rattle.answer.specs.declared.Count.{Count}
@@ -48,7 +49,7 @@ filled kept held piece =
     let n = takenOf kept (length piece) in
     take kept held ++ take n piece ++ drop (kept + n) held
 
--- what a piece leaves behind: the state, the answer and the byte room
+-- what a piece leaves behind: what was answered, with the state, and the byte room
 pub record Stored : Type 0 where
   pub feed : Feed
   pub answer : Count
@@ -57,14 +58,18 @@ pub record Stored : Type 0 where
 abbrev pub stored : Fed → List ℕ → Stored
 stored r held = record { feed = r .feed; answer = r .answer; held = held }
 
--- taken: only how many bytes are held is said; a refusal changes nothing
+-- refused: nothing changes
+abbrev pub unchanged : Feed → Refusal → List ℕ → Stored
+unchanged f r held = record { feed = f; answer = count.Refused r; held = held }
+
+-- taken: only how many bytes are held is said
 abbrev pub storedUnless : Check → Feed → List ℕ → List ℕ → Stored
 storedUnless Fine f held piece = record {
   feed = fed f (length piece);
   answer = count.Is (fed f (length piece) .kept);
   held = filled (f .kept) held piece;
 }
-storedUnless (Refused r) f held piece = record { feed = f; answer = count.Refused r; held = held }
+storedUnless (Refused r) f held piece = unchanged f r held
 
 -- a piece, whatever the state and the byte room
 unfoldable pub addOf : Feed → List ℕ → List ℕ → Stored
@@ -77,7 +82,7 @@ addOf f held piece = storedUnless (pieceCheck f (length piece) (length held)) f 
 unfoldable pub askCheck : ℕ → Check
 askCheck room = refuseIf (ltb room cardBytes) 13 cardBytes
 
--- what an asking leaves behind: the state, and what a tour does
+-- what an asking leaves behind: the state, and what a tour does; the byte room is lent to be read only
 pub record Reply : Type 0 where
   pub feed : Feed
   pub left : Left
@@ -94,10 +99,14 @@ abbrev pub endOf : Feed → List ℕ → List ℕ → List Float → Left
 endOf f held room table =
     touredUnless (refuseIf (f .over) 1 (cardBytes + 1)) (tourOf (take (f .kept) held) room table) room table
 
--- the end, unless the byte room is too small: then nothing changes
+-- refused for the byte room: nothing changes
+abbrev pub unasked : Feed → Refusal → List ℕ → List Float → Reply
+unasked f r room table = record { feed = f; left = left (answer.Refused r) room table }
+
+-- else it is the end
 abbrev pub replyUnless : Check → Feed → List ℕ → List ℕ → List Float → Reply
 replyUnless Fine f held room table = record { feed = ended f; left = endOf f held room table }
-replyUnless (Refused r) f held room table = record { feed = f; left = left (answer.Refused r) room table }
+replyUnless (Refused r) f held room table = unasked f r room table
 
 -- the asking, whatever the state and the rooms
 unfoldable pub askOf : Feed → List ℕ → List ℕ → List Float → Reply

@@ -6,23 +6,14 @@ use mathlib.Core.List.{List, [], _∷_, _++_}
 use Prim.Native.Nat.{ℕ, _+_, _≤_, _<_, min}
 use lib.Ieee.{Float}
 use lib.ListN.{length, take}
-use Rattle.answer.specs.declared.Refusal.{Refusal}
 use Rattle.answer.specs.declared.Count.the-variants as count
 use Rattle.answer.specs.Room.{placed}
 use Rattle.fields.specs.Limits.{cardBytes}
-use Rattle.tour.specs.declared.Toured.the-variants as answer
-use Rattle.tour.specs.Tour.{left, tourOf}
+use Rattle.tour.specs.Tour.{tourOf}
 use Rattle.feed.specs.declared.Feed.{Feed}
-use Rattle.feed.specs.Feed.{begun, takenOf, Stored, addOf, Reply, ended, askOf}
+use Rattle.feed.specs.Feed.{begun, takenOf, Stored, unchanged, addOf, ended, unasked, askOf}
 
 -- ---- the refusals, in words
-
--- nothing has changed
-abbrev pub unchanged : Feed → Refusal → List ℕ → Stored
-unchanged f r held = record { feed = f; answer = count.Refused r; held = held }
-
-abbrev pub unasked : Feed → Refusal → List ℕ → List Float → Reply
-unasked f r room table = record { feed = f; left = left (answer.Refused r) room table }
 
 -- of a piece: after the end 17 at 0, of no bytes too; then, if it has bytes, 13 under the longest card; no others
 pub record OfPieces (f : Feed) (held piece : List ℕ) : Type 0 where
@@ -39,6 +30,11 @@ pub record OfAsking (f : Feed) (held room : List ℕ) (table : List Float) : Typ
   pub small : length held < cardBytes
       → askOf f held room table ≡ unasked f (record { number = 13; place = cardBytes }) room table
   pub end : cardBytes ≤ length held → askOf f held room table .feed ≡ ended f
+
+-- the end is for good: no call, whatever it is lent, leads out of it
+pub record Closed (f : Feed) : Type 0 where
+  pub pieces : (held piece : List ℕ) → addOf (ended f) held piece .feed ≡ ended f
+  pub askings : (held room : List ℕ) (table : List Float) → askOf (ended f) held room table .feed ≡ ended f
 
 -- ---- a run
 
@@ -69,6 +65,10 @@ abbrev pub Holds : List ℕ → Stored → List ℕ → Type 0
 Holds s a held = (a .answer ≡ count.Is (min (length s) cardBytes)) × (a .held ≡ placed (take cardBytes s) held)
 
 pub record Whole (s : List ℕ) (f : Feed) (was : List ℕ) : Type 0 where
+  pub kept : f .kept ≡ min (length s) cardBytes
+  -- another room will do that begins with the bytes kept, whatever stands behind them
+  pub elsewhere : (rest : List ℕ) → cardBytes ≤ length (take (f .kept) was ++ rest)
+      → Intact f was (take (f .kept) was ++ rest)
   pub piece : (held piece : List ℕ) → Intact f was held → Holds (s ++ piece) (addOf f held piece) held
   -- the end: answer, tour and table are those of all bytes that were fed
   pub end : (held room : List ℕ) (table : List Float) → Intact f was held
@@ -76,7 +76,7 @@ pub record Whole (s : List ℕ) (f : Feed) (was : List ℕ) : Type 0 where
   -- asked again with the same rooms: the same
   pub again : (held room : List ℕ) (table : List Float) → Intact f was held
       → let a = askOf f held room table in askOf (a .feed) held (a .left .room) (a .left .table) ≡ a
-  -- and in any other rooms, at any later time, what these rooms get of the whole
+  -- and in any other rooms, after the end, what these rooms get of the whole
   pub later : (held room : List ℕ) (table : List Float) → Intact f was held
       → askOf (ended f) held room table ≡ record { feed = ended f; left = tourOf s room table }
 
@@ -108,5 +108,6 @@ abbrev pub Claim : Type 0
 Claim =
     ((f : Feed) (held piece : List ℕ) → OfPieces f held piece)
     × ((f : Feed) (held room : List ℕ) (table : List Float) → OfAsking f held room table)
+    × ((f : Feed) → Closed f)
     × ((s : List ℕ) (f : Feed) (was : List ℕ) → Run s f was → Whole s f was)
     × ((pieces : List (List ℕ)) (held : List ℕ) → cardBytes ≤ length held → AnyCut pieces held)

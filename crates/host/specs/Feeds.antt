@@ -15,11 +15,12 @@ use Rattle.feed.specs.Feed.{Stored, addOf, Reply, askOf}
 use Rattle.host.specs.Hosts.{Hosted}
 use Rattle.host.specs.Exports.{asTold}
 
--- a state as one number: four times the bytes kept, 2 if there were more, 1 if it was the end
+-- 1 for true
 abbrev pub bitOf : Bool → ℕ
 bitOf true = 1
 bitOf false = 0
 
+-- a state as one number: four times the bytes kept, 2 if there were more, 1 if it was the end
 abbrev pub numberOf : Feed → ℕ
 numberOf f = 4 * f .kept + 2 * bitOf (f .over) + bitOf (f .ended)
 
@@ -41,6 +42,7 @@ abbrev pub countTold : Count → ℕ
 countTold (count.Is k) = 0
 countTold (count.Refused r) = codeOf (check.Refused r)
 
+-- a piece, as a host is told of it
 abbrev pub fedAs : Stored → HostFed
 fedAs a = hostFed (countTold (a .answer)) (numberOf (a .feed)) (a .held)
 
@@ -55,6 +57,7 @@ pub record HostAsked : Type 0 where
 abbrev pub hostAsked : ℕ → Hosted → HostAsked
 hostAsked state told = record { state = state; told = told }
 
+-- an asking, as a host is told of it
 abbrev pub askedAs : Reply → ℕ → ℕ → HostAsked
 askedAs a moves bits = hostAsked (numberOf (a .feed)) (asTold (a .left .answer) (a .left .room) moves bits)
 

@@ -20,21 +20,26 @@ pub record Numbered : Type 0 where
 
 -- the refusals, which change nothing
 pub record Refuses (n : ℕ) (held piece room : List ℕ) (moves bits : ℕ) : Type 0 where
+  -- (no bytes, before the end, are no fault whatever the room)
+  pub none : n % 2 ≡ 0 → length piece ≡ 0 → hostFeed n held piece ≡ hostFed 0 n held
   pub late : n % 2 ≡ 1 → hostFeed n held piece ≡ hostFed (17 * 2 ^ 32) n held
   pub small : n % 2 ≡ 0 → 0 < length piece → length held < cardBytes
       → hostFeed n held piece ≡ hostFed (13 * 2 ^ 32 + cardBytes) n held
   pub ask-small : length held < cardBytes
       → hostAsk n held room moves bits ≡ hostAsked n (hosted (13 * 2 ^ 32 + cardBytes) room moves bits)
 
--- a run: after each piece 0, and the number says how many bytes are held; at the end, and whenever it is asked again,
--- what the whole gets, and an odd number
+-- a run: after each piece 0, and the number says how many bytes are held; at the end what the whole gets, and an odd
+-- number; asked again with the same rooms and numbers, the same, and with others what they get of the whole
 pub record Pieces (s : List ℕ) (f : Feed) (was : List ℕ) : Type 0 where
-  pub held : numberOf f / 4 ≡ min (length s) cardBytes
+  pub count : numberOf f / 4 ≡ min (length s) cardBytes
   pub piece : (held piece : List ℕ) → Intact f was held
       → hostFeed (numberOf f) held piece
       ≡ hostFed 0 (numberOf (addOf f held piece .feed)) (placed (take cardBytes (s ++ piece)) held)
   pub end : (held room : List ℕ) (moves bits : ℕ) → Intact f was held
       → hostAsk (numberOf f) held room moves bits ≡ hostAsked (numberOf (ended f)) (hostTour s room moves bits)
+  pub again : (held room : List ℕ) (moves bits : ℕ) → Intact f was held
+      → let a = hostAsk (numberOf f) held room moves bits in
+      hostAsk (a .state) held (a .told .room) (a .told .moves) (a .told .bits) ≡ a
   pub later : (held room : List ℕ) (moves bits : ℕ) → Intact f was held
       → hostAsk (numberOf (ended f)) held room moves bits ≡ hostAsked (numberOf (ended f)) (hostTour s room moves bits)
   pub closed : numberOf (ended f) % 2 ≡ 1

@@ -1,5 +1,6 @@
 // What C and Rust hosts call: the card's check, its tour, where a candidate is, and a card fed in pieces. Each answers one number, 0 or the
-// refusal's number times 2^32 plus its place, and tells the rest through lent numbers that a refusal keeps.
+// refusal's number times 2^32 plus its place, and tells the rest through lent numbers that a refusal keeps, but for a feed's state, which an
+// asking ends.
 ghost use mathlib.Core.Path.{_≡_};
 ghost use Prim.Native.Nat.{_^_, _≤_, _<_};
 ghost use Rattle.answer.specs.declared.Check.the-variants.{Refused};
@@ -118,7 +119,8 @@ pub extern "C" fn jl_feed(state: &mut u64, held: &mut [u8], piece: &[u8]) -> u64
     }
 }
 
-// The end of a card in pieces: the tour, as `jl_tour` gives it of the whole. A refusal keeps what `jl_tour` would.
+// The end of a card in pieces: the tour, as `jl_tour` gives it of the whole. A refusal keeps what `jl_tour` would, and one for the byte room the
+// state too.
 #[no_mangle]
 pub extern "C" fn jl_ask(
     state: &mut u64,

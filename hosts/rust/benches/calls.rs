@@ -19,16 +19,13 @@ fn main() {
         let card = std::fs::read(format!("{folder}/{name}.card")).unwrap();
         let check = shortest(|| _ = black_box(jambolive::check(black_box(&card))));
         let tour = shortest(|| _ = black_box(jambolive::tour(black_box(&card))));
-        let mut feed = jambolive::Feed::new();
-        let new = feed.clone();
         let fed = shortest(|| {
-            feed.clone_from(black_box(&new));
+            let mut feed = jambolive::Feed::new();
             card.chunks(jambolive::BLOCK).for_each(|piece| _ = feed.push(black_box(piece)));
             _ = black_box(feed.finish());
         });
-        let mut bytes = Vec::with_capacity(jambolive::CARD_BYTES);
         let collected = shortest(|| {
-            bytes.clear();
+            let mut bytes = Vec::with_capacity(jambolive::CARD_BYTES);
             card.chunks(jambolive::BLOCK).for_each(|piece| bytes.extend_from_slice(black_box(piece)));
             _ = black_box(jambolive::tour(black_box(&bytes)));
         });

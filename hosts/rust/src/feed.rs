@@ -3,16 +3,22 @@
 use crate::{CARD_BYTES, CONTOURS, Refusal, Tour, fields};
 
 unsafe extern "C" {
-    fn jl_feed(state: &mut u64, held: *mut u8, room: usize, piece: *const u8, bytes: usize) -> u64;
+    fn jl_feed(state: &mut u64, held: *mut u8, held_room: usize, piece: *const u8, bytes: usize) -> u64;
     fn jl_ask(
         state: &mut u64,
         held: *const u8,
-        bytes: usize,
+        held_room: usize,
         tour: *mut u8,
         room: usize,
         moves: &mut u64,
         length: &mut u64,
     ) -> u64;
+}
+
+/// The state of a new card, and the bytes that one says are held.
+const NEW: u64 = 0;
+const fn held(state: u64) -> usize {
+    (state / 4) as usize
 }
 
 /// A card that is fed as its bytes come, and asked about at the end. However it is cut, [`Feed::finish`] answers what
@@ -37,7 +43,7 @@ pub struct Feed {
 impl Feed {
     /// A new card.
     pub fn new() -> Feed {
-        Feed { state: 0, room: vec![0; CARD_BYTES] }
+        Feed { state: NEW, room: vec![0; CARD_BYTES] }
     }
 
     /// Takes the next bytes, and says how many are held: at most [`CARD_BYTES`], what comes behind them is not. After the
@@ -51,7 +57,7 @@ impl Feed {
 
     /// The bytes that are held.
     pub fn held(&self) -> &[u8] {
-        &self.room[..(self.state / 4) as usize]
+        &self.room[..held(self.state)]
     }
 
     /// The end: finds the tour of all bytes that were pushed. Asked again it answers the same.

@@ -70,7 +70,7 @@ pub enum Refusal {
         /// The first such contour.
         position: u32,
     },
-    /// A room that was lent is too small: the tour's or, where a card is fed, the byte room.
+    /// The room lent for the tour is too small.
     Room {
         /// The entries that it needs.
         needed: u32,
@@ -184,7 +184,7 @@ impl fmt::Display for Refusal {
             Refusal::UnknownId { pair } => write!(f, "pair {pair} names an id that no contour has"),
             Refusal::OtherTag { pair } => write!(f, "pair {pair} names a contour by another tag than its own"),
             Refusal::Cycle { position } => write!(f, "contour {position} would have to be cut before itself"),
-            Refusal::Room { needed } => write!(f, "a room is too small: it needs {needed} entries"),
+            Refusal::Room { needed } => write!(f, "the room for the tour is too small: it needs {needed} entries"),
             Refusal::Candidate { number } => write!(f, "the card has no candidate {number}"),
             Refusal::Ended => f.write_str("the card has ended: it was asked about before"),
         }
@@ -237,7 +237,7 @@ fn sentences() {
     says(10, 0, "pair 0 names an id that no contour has");
     says(11, 5, "pair 5 names a contour by another tag than its own");
     says(12, 3, "contour 3 would have to be cut before itself");
-    says(13, 3, "a room is too small: it needs 3 entries");
+    says(13, 3, "the room for the tour is too small: it needs 3 entries");
     says(15, 9, "the card has no candidate 9");
     says(17, 0, "the card has ended: it was asked about before");
 }
