@@ -18,7 +18,7 @@ unsafe extern "C" {
     ) -> u64;
 }
 
-/// What a call of `jl_tour` leaves: its answer, the whole tour room, and the two lent numbers.
+/// What a call of `jl_tour` or `jl_ask` leaves: its answer, the whole tour room, and the two lent numbers.
 #[derive(Clone, Debug, PartialEq)]
 pub struct Left {
     pub code: u64,
@@ -32,14 +32,19 @@ pub const UNTOUCHED: u64 = 0xa5a5_a5a5_a5a5_a5a5;
 const AROUND: usize = 64;
 
 impl Left {
+    /// What stands there before a call.
+    pub fn untouched(room: usize) -> Left {
+        Left { code: 0, room: vec![UNTOUCHED as u8; room], moves: UNTOUCHED, length: UNTOUCHED }
+    }
+
     /// What a refused call must leave.
     pub fn refused(code: u64, room: usize) -> Left {
-        Left { code, room: vec![UNTOUCHED as u8; room], moves: UNTOUCHED, length: UNTOUCHED }
+        Left { code, ..Left::untouched(room) }
     }
 
     /// What an accepted call must leave: the tour at the room's start, the rest kept.
     pub fn accepted(tour: &[usize], moves: u64, length: u64, room: usize) -> Left {
-        let mut left = Left { code: 0, moves, length, ..Left::refused(0, room) };
+        let mut left = Left { moves, length, ..Left::untouched(room) };
         for (entry, &candidate) in left.room.iter_mut().zip(tour) {
             *entry = candidate as u8;
         }

@@ -91,7 +91,7 @@ impl Host {
 
     /// Asks with a byte room that is too small, which changes nothing.
     fn asks_in_vain(&self, r: &Random) -> Result<u64, String> {
-        let before = Left::refused(0, CONTOURS);
+        let before = Left::untouched(CONTOURS);
         let due = (self.state(), Left { code: refused(13, CARD_BYTES as u64), ..before.clone() });
         same(|| "asked in a small room".to_string(), exports::ask(self.state(), self.small(r), &before)?, due)
     }
@@ -124,13 +124,13 @@ fn one(r: &Random, bytes: &[u8], met: &[Tally; 3]) -> Result<u64, String> {
 
     let room = r.pick(&[CONTOURS, CONTOURS + 3, r.index(CONTOURS)]);
     let whole = exports::tour(bytes, room)?;
-    let first = host.asks(&Left::refused(0, room))?;
+    let first = host.asks(&Left::untouched(room))?;
     same(|| "the end".to_string(), &first, &whole)?;
     let again = host.asks(&first)?;
     same(|| "the end, asked again".to_string(), &again, &whole)?;
     same(
         || "the end, in another room".to_string(),
-        host.asks(&Left::refused(0, CONTOURS))?,
+        host.asks(&Left::untouched(CONTOURS))?,
         exports::tour(bytes, CONTOURS)?,
     )?;
     host.asks_in_vain(r)?;
@@ -184,7 +184,7 @@ fn any_state(r: &Random, bytes: &[u8]) -> Result<u64, String> {
     let what = || format!("state {state}, {} bytes of room, {} more", held.len(), piece.len());
     same(what, exports::feed(state, &held, piece)?, fed_due(state, &held, piece))?;
     let room = r.pick(&[CONTOURS, r.index(CONTOURS)]);
-    same(what, exports::ask(state, &held, &Left::refused(0, room))?, asked_due(state, &held, room)?)
+    same(what, exports::ask(state, &held, &Left::untouched(room))?, asked_due(state, &held, room)?)
 }
 
 const ALL: u64 = 50_000;

@@ -111,26 +111,27 @@ fn fed(r: &Random, memory: &mut Memory, bytes: &[u8], room: &[u8]) -> Result<(u6
     let filled = vec![UNTOUCHED as u8; CARD_BYTES + r.pick(&[0, 0, 1, BLOCK])];
     let held = held.lend(&filled, edge(r));
     let state = state.lend(&[0; 8], edge(r));
-    let (mut at, mut pieces) = (0, r.index(6));
+    let (mut at, mut pieces, mut number_due) = (0, r.index(6), 0);
     while at < bytes.len() {
         let size = if pieces == 0 { bytes.len() - at } else { feed::size(r, bytes.len() - at) };
         let piece = piece.lend(&bytes[at..at + size], edge(r));
-        let number = state.as_mut_ptr().cast();
-        let code = unsafe { jl_feed(number, held.as_mut_ptr(), held.len(), piece.as_ptr(), piece.len()) };
+        let lent_number = state.as_mut_ptr().cast();
+        let code = unsafe { jl_feed(lent_number, held.as_mut_ptr(), held.len(), piece.as_ptr(), piece.len()) };
         same(|| format!("{size} bytes fed behind {at}"), code, 0)?;
         (at, pieces) = (at + size, pieces.saturating_sub(1));
         let kept = at.min(CARD_BYTES);
-        same(|| format!("held after {at} bytes"), told(state) / 4, kept as u64)?;
+        number_due = 4 * kept as u64 + 2 * u64::from(at > CARD_BYTES);
+        same(|| format!("the state after {at} bytes"), told(state), number_due)?;
         same(|| format!("the byte room after {at} bytes"), &*held, &[&bytes[..kept], &filled[kept..]].concat())?;
     }
     let tour = tour.lend(room, edge(r));
     let (first, second) = (first.lend(&number(), edge(r)), second.lend(&number(), edge(r)));
     let (moves, length) = (first.as_mut_ptr().cast(), second.as_mut_ptr().cast());
-    let kept = held.to_vec();
-    let number = state.as_mut_ptr().cast();
-    let code = unsafe { jl_ask(number, held.as_ptr(), held.len(), tour.as_mut_ptr(), tour.len(), moves, length) };
-    same(|| "the byte room at the end".to_string(), &*held, &kept)?;
-    same(|| "the end's state".to_string(), told(state) % 2, 1)?;
+    let before = held.to_vec();
+    let lent_number = state.as_mut_ptr().cast();
+    let code = unsafe { jl_ask(lent_number, held.as_ptr(), held.len(), tour.as_mut_ptr(), tour.len(), moves, length) };
+    same(|| "the byte room at the end".to_string(), &*held, &before)?;
+    same(|| "the end's state".to_string(), told(state), number_due + 1)?;
     Ok((code, tour.to_vec(), told(first), told(second)))
 }
 

@@ -59,14 +59,14 @@ module _ (s : List ℕ) where
     long : length (tableOn s) ≡ entries
     long = distances-length (candidatesOn s) (ownersOn s)
 
-    abbrev filled : List Float
-    filled = tableOn s ++ drop entries table
+    abbrev written : List Float
+    written = tableOn s ++ drop entries table
 
-    filled-again : tableOn s ++ drop entries filled ≡ filled
-    filled-again = ap (λ (r : List Float). tableOn s ++ r) (drop-at (tableOn s) (drop entries table) entries long)
+    written-again : tableOn s ++ drop entries written ≡ written
+    written-again = ap (λ (r : List Float). tableOn s ++ r) (drop-at (tableOn s) (drop entries table) entries long)
 
-    filled-grows : length table ≤ length filled
-    filled-grows =
+    written-grows : length table ≤ length written
+    written-grows =
         rw (length-append (tableOn s) (drop entries table), length-drop entries table, long) (omega arith)
 
     same : (c : Check) → tourCheck s (length room) (length table) ≡ c
@@ -75,10 +75,10 @@ module _ (s : List ℕ) where
     same (Refused r) e = ap (λ (c : Check). touredUnless c (toured s room table) room table) e
     same Fine e =
         let tour = tourOn s in
-        let fine = still-fine (length room) (length (placed tour room)) (length table) (length filled)
-        (placed-grows tour room) filled-grows e in
-        ap (λ (c : Check). touredUnless c (toured s (placed tour room) filled) (placed tour room) filled) fine
-        ∙ rw (placed-again tour room, filled-again)
+        let fine = still-fine (length room) (length (placed tour room)) (length table) (length written)
+        (placed-grows tour room) written-grows e in
+        ap (λ (c : Check). touredUnless c (toured s (placed tour room) written) (placed tour room) written) fine
+        ∙ rw (placed-again tour room, written-again)
 
     pub tour-again : let l = tourOf s room table in tourOf s (l .room) (l .table) ≡ l
     unfolding tourWithin
@@ -90,5 +90,5 @@ module _ (s : List ℕ) where
     table-grows = go (tourCheck s (length room) (length table))
       where
         go : (c : Check) → length table ≤ length (touredUnless c (toured s room table) room table .table)
-        go Fine = filled-grows
+        go Fine = written-grows
         go (Refused r) = omega arith

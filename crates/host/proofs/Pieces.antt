@@ -18,7 +18,7 @@ use Rattle.feed.specs.declared.Feed.{Feed}
 use Rattle.feed.specs.Feed.{ended, addOf, Reply, askOf}
 use Rattle.feed.specs.Whole.{Intact, Run, Whole}
 use Rattle.feed.proofs.AgainLaws.{tour-again, table-grows}
-use Rattle.feed.proofs.FeedLaws.{add-late, add-none, add-small, ask-small}
+use Rattle.feed.proofs.FeedLaws.{add-late, add-none, add-small, ask-small, ask-end}
 use Rattle.feed.proofs.Whole.{whole}
 use Rattle.host.specs.Hosts.{Hosted, hosted, hostTour}
 use Rattle.host.specs.Exports.{asTold}
@@ -59,6 +59,10 @@ module _ (n : ℕ) (held piece room : List ℕ) (moves bits : ℕ) where
   ask-refused h =
       ap (λ (a : Reply). askedAs a moves bits) (ask-small (stateOf n) held room own h)
       ∙ ap (λ (m : ℕ). hostAsked m (hosted (13 * 2 ^ 32 + cardBytes) room moves bits)) (number-back n)
+
+  ask-ends : cardBytes ≤ length held → hostAsk n held room moves bits .state ≡ numberOf (ended (stateOf n))
+  unfolding hostAsk
+  ask-ends h = ap (λ (a : Reply). numberOf (a .feed)) (ask-end (stateOf n) held room own h)
 
 -- ---- a run
 
@@ -146,6 +150,7 @@ refuses n held piece room moves bits = record {
   late = late n held piece room moves bits;
   small = small n held piece room moves bits;
   ask-small = ask-refused n held piece room moves bits;
+  ask-ends = ask-ends n held piece room moves bits;
 }
 
 pub claim : Claim

@@ -2,7 +2,7 @@
 -- tells of the whole. Assumes nothing.
 use mathlib.Core.Path.{_≡_}
 use mathlib.Core.List.{List, _++_}
-use Prim.Native.Nat.{ℕ, _+_, _*_, _^_, _/_, _%_, _<_, min}
+use Prim.Native.Nat.{ℕ, _+_, _*_, _^_, _/_, _%_, _≤_, _<_, min}
 use lib.ListN.{length, take}
 use Rattle.answer.specs.Room.{placed}
 use Rattle.fields.specs.Limits.{cardBytes}
@@ -18,15 +18,16 @@ pub record Numbered : Type 0 where
   pub number : (n : ℕ) → numberOf (stateOf n) ≡ n
   pub new : numberOf begun ≡ 0
 
--- the refusals, which change nothing
+-- in any state: no bytes before the end are no fault, whatever the room; the refusals, which change nothing; and every
+-- other asking is the end
 pub record Refuses (n : ℕ) (held piece room : List ℕ) (moves bits : ℕ) : Type 0 where
-  -- (no bytes, before the end, are no fault whatever the room)
   pub none : n % 2 ≡ 0 → length piece ≡ 0 → hostFeed n held piece ≡ hostFed 0 n held
   pub late : n % 2 ≡ 1 → hostFeed n held piece ≡ hostFed (17 * 2 ^ 32) n held
   pub small : n % 2 ≡ 0 → 0 < length piece → length held < cardBytes
       → hostFeed n held piece ≡ hostFed (13 * 2 ^ 32 + cardBytes) n held
   pub ask-small : length held < cardBytes
       → hostAsk n held room moves bits ≡ hostAsked n (hosted (13 * 2 ^ 32 + cardBytes) room moves bits)
+  pub ask-ends : cardBytes ≤ length held → hostAsk n held room moves bits .state ≡ numberOf (ended (stateOf n))
 
 -- a run: after each piece 0, and the number says how many bytes are held; at the end what the whole gets, and an odd
 -- number; asked again with the same rooms and numbers, the same, and with others what they get of the whole

@@ -1,6 +1,6 @@
 // What C and Rust hosts call: the card's check, its tour, where a candidate is, and a card fed in pieces. Each answers one number, 0 or the
 // refusal's number times 2^32 plus its place, and tells the rest through lent numbers that a refusal keeps, but for a feed's state, which an
-// asking ends.
+// asking ends unless it is refused for the byte room.
 ghost use mathlib.Core.Path.{_≡_};
 ghost use Prim.Native.Nat.{_^_, _≤_, _<_};
 ghost use Rattle.answer.specs.declared.Check.the-variants.{Refused};
