@@ -31,8 +31,8 @@ use Rattle.tour.specs.Tour.{Left, left, roomCheck, tourCheck, tourCheckWithin, 
 use Rattle.tour.proofs.DoorLaws.{tour-refused}
 use Rattle.feed.specs.declared.Feed.{Feed}
 use Rattle.feed.specs.Feed.{ended, Reply, askOf}
-use Rattle.feed.specs.Whole.{Intact, Run}
-use Rattle.feed.proofs.Whole.{whole}
+use Rattle.feed_laws.specs.Whole.{Intact, Run}
+use Rattle.feed_laws.proofs.Whole.{whole}
 use Rattle.questions.specs.declared.Located.{Located}
 use Rattle.questions.specs.declared.Located.the-variants as located
 use Rattle.questions.specs.declared.Picked.the-variants as picked

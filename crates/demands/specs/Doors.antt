@@ -1,8 +1,8 @@
 -- Demand 1 at every door (the tour, the questions on a card, the end of a card that was fed, the list, the exports): it
 -- answers the card's own refusal with its number and its place, whatever else it is asked, and what it was lent is as
--- before, but for the list's page, which gets the refusal's line, and a feed's state, which is ended; and no door answers
--- a sound card with a number of the table's rows 1 to 12. A field is named after its function, and speaks of the
--- definition that the function promises (contracts/specs). Assumes nothing.
+-- before, but for the list's page, which gets the refusal's line, and a feed's state, which is ended; and no door
+-- answers a sound card with a number of the table's rows 1 to 12. A field is named after its function, and speaks of
+-- the definition that the function promises (contracts/specs). Assumes nothing.
 use mathlib.Core.Path.{_≡_}
 use mathlib.Core.Logic.{_⊎_}
 use mathlib.Core.List.{List, _++_}
@@ -21,7 +21,7 @@ use Rattle.tour.specs.declared.Toured.the-variants as answer
 use Rattle.tour.specs.Tour.{left, tourOf}
 use Rattle.feed.specs.declared.Feed.{Feed}
 use Rattle.feed.specs.Feed.{ended, askOf}
-use Rattle.feed.specs.Whole.{Intact, Run}
+use Rattle.feed_laws.specs.Whole.{Intact, Run}
 use Rattle.questions.specs.declared.Located.the-variants as located
 use Rattle.questions.specs.declared.Picked.the-variants as picked
 use Rattle.questions.specs.Order.{evaluated}

@@ -1,3 +1,1 @@
 pub mod FeedLaws
-pub mod AgainLaws
-pub mod Whole

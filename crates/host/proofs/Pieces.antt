@@ -16,10 +16,10 @@ use Rattle.tour.specs.declared.Toured.the-variants as answer
 use Rattle.tour.specs.Tour.{Left, tourOf}
 use Rattle.feed.specs.declared.Feed.{Feed}
 use Rattle.feed.specs.Feed.{ended, addOf, Reply, askOf}
-use Rattle.feed.specs.Whole.{Intact, Run, Whole}
-use Rattle.feed.proofs.AgainLaws.{tour-again, table-grows}
+use Rattle.feed_laws.specs.Whole.{Intact, Run, Whole}
+use Rattle.feed_laws.proofs.AgainLaws.{tour-again, table-grows}
 use Rattle.feed.proofs.FeedLaws.{add-late, add-none, add-small, ask-small, ask-end}
-use Rattle.feed.proofs.Whole.{whole}
+use Rattle.feed_laws.proofs.Whole.{whole}
 use Rattle.host.specs.Hosts.{Hosted, hosted, hostTour}
 use Rattle.host.specs.Exports.{asTold}
 use Rattle.host.specs.Feeds.{numberOf, stateOf, hostFed, countTold, fedAs, hostFeed}

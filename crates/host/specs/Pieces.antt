@@ -8,7 +8,7 @@ use Rattle.answer.specs.Room.{placed}
 use Rattle.fields.specs.Limits.{cardBytes}
 use Rattle.feed.specs.declared.Feed.{Feed}
 use Rattle.feed.specs.Feed.{begun, ended, addOf}
-use Rattle.feed.specs.Whole.{Intact, Run}
+use Rattle.feed_laws.specs.Whole.{Intact, Run}
 use Rattle.host.specs.Hosts.{hosted, hostTour}
 use Rattle.host.specs.Feeds.{numberOf, stateOf, hostFed, hostFeed, hostAsked, hostAsk}
 

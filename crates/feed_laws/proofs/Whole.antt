@@ -23,13 +23,13 @@ use Rattle.card_laws.specs.Table.{one}
 use Rattle.card_laws.proofs.Verdicts.{exactly}
 use Rattle.tour.specs.Tour.{Left, tourOf, touredUnless}
 use Rattle.tour.proofs.DoorLaws.{tour-refused}
 use Rattle.feed.specs.declared.Feed.{Feed}
 use Rattle.feed.specs.Feed.{begun, ended, takenOf, fed, filled, Stored, storedUnless, addOf, Reply, endOf, askOf}
-use Rattle.feed.specs.Whole.{OfPieces, OfAsking, Closed, Intact, Run, begins, adds, idles, no-room, not-yet}
-use Rattle.feed.specs.Whole.{Holds, Whole, joined, poured, AnyCut, Claim}
+use Rattle.feed_laws.specs.Whole.{OfPieces, OfAsking, Closed, Intact, Run, begins, adds, idles, no-room, not-yet}
+use Rattle.feed_laws.specs.Whole.{Holds, Whole, joined, poured, AnyCut, Claim}
 use Rattle.feed.proofs.FeedLaws.{take-cut, add-late, add-small, add-none, add-taken}
 use Rattle.feed.proofs.FeedLaws.{ask-small, ask-end, ask-ended, by-over}
-use Rattle.feed.proofs.AgainLaws.{placed-grows, tour-again}
+use Rattle.feed_laws.proofs.AgainLaws.{placed-grows, tour-again}
 
 -- ---- the first bytes of two lists, one behind the other
 

@@ -1,0 +1,2 @@
+pub mod AgainLaws
+pub mod Whole
