@@ -10,7 +10,7 @@ use Rattle.answer.specs.declared.Check.the-variants.{Fine, Refused}
 use Rattle.answer.specs.declared.ContourType.{ContourType}
 use Rattle.answer.specs.declared.CutDirectionPreference.{CutDirectionPreference}
 use Rattle.answer.specs.Lowest.{refuseAt, refuseIf}
-use Rattle.answer.specs.Stage.{firstRefusal}
+use Rattle.answer.specs.Stage.{orElse, firstRefusal}
 use Rattle.fields.specs.Limits.{perContourLimit, vertexLimit}
 use Rattle.points.specs.Points.{points}
 use Rattle.points.specs.Bad.{firstBad}
@@ -23,12 +23,15 @@ use Rattle.candidates.specs.Generate.{candidatesOf, filled}
 abbrev pub outside : ℕ → ℕ → Bool
 outside most n = ltb n 1 || ltb most n
 
--- c out of range is 4 at 3; then v out of range, a part point counted, is 6 at v; then the first bad vertex is 8
-unfoldable pub oneContour : List Float → ℕ → Check
-oneContour numbers c =
+-- of a contour: v out of range, a part point counted, is 6 at v; then the first bad vertex is 8
+unfoldable pub contourCheck : List Float → Check
+contourCheck numbers =
     let v = (length numbers + 1) / 2 in
-    firstRefusal (refuseIf (outside perContourLimit c) 4 3 ∷ refuseIf (outside vertexLimit v) 6 v
-    ∷ refuseAt 8 (firstBad numbers v) ∷ [])
+    firstRefusal (refuseIf (outside vertexLimit v) 6 v ∷ refuseAt 8 (firstBad numbers v) ∷ [])
+
+-- c out of range is 4 at 3; then what is wrong with the contour
+unfoldable pub oneContour : List Float → ℕ → Check
+oneContour numbers c = orElse (refuseIf (outside perContourLimit c) 4 3) (contourCheck numbers)
 
 -- the candidates, unless the check refuses: then none
 abbrev pub offered : Check → Candidates → Offered

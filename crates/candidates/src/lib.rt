@@ -8,7 +8,7 @@ ghost use Rattle.points.specs.Points.{points, nowhere};
 ghost use Rattle.candidates.specs.Direction.{directionOf};
 ghost use Rattle.candidates.specs.Along.{edgeLength, perimeterOf, reaches, onEdge, spot, spotAt, lastSpot};
 ghost use Rattle.candidates.specs.Generate.{candidateAt, blank, target, spaced, candidatesOf, filled};
-ghost use Rattle.candidates.specs.Question.{outside, oneContour, offeredOf};
+ghost use Rattle.candidates.specs.Question.{outside, contourCheck, oneContour, offeredOf};
 use answer::Check;
 use answer::ContourType;
 use answer::CutDirection;
@@ -72,7 +72,7 @@ pub fn determine_direction(
 }
 
 // The length of an edge.
-fn length_of(e: Ends) -> f64
+pub fn length_of(e: Ends) -> f64
     ensures { λ r. ⌜ r ≡ edgeLength e ⌝ }
 {
     let a = e.start;
@@ -95,7 +95,7 @@ pub fn perimeter(numbers: &[f64]) -> f64
 }
 
 // Whether the distance d falls on an edge that begins and ends at these distances.
-fn on_the_way(d: f64, before: f64, after: f64) -> bool
+pub fn on_the_way(d: f64, before: f64, after: f64) -> bool
     ensures { λ r. ⌜ r ≡ reaches d before after ⌝ }
 {
     if before <= d {
@@ -123,7 +123,7 @@ fn on_edge(d: f64, i: usize, before: f64, e: Ends) -> Spot
 }
 
 // The last vertex of a contour.
-fn last_spot(numbers: &[f64]) -> Spot
+pub fn last_spot(numbers: &[f64]) -> Spot
     ensures { λ r. ⌜ r ≡ lastSpot (points (now (numbers .entry))) ⌝ }
 {
     let n = numbers.len() / 2;
@@ -278,13 +278,10 @@ fn outside(most: usize, n: usize) -> bool
     n > most
 }
 
-// What is wrong with a question about one contour.
-fn one_contour(numbers: &[f64], c: usize) -> Check
-    ensures { λ r. ⌜ r ≡ oneContour (now (numbers .entry)) c ⌝ }
+// What is wrong with a contour.
+pub fn contour_check(numbers: &[f64]) -> Check
+    ensures { λ r. ⌜ r ≡ contourCheck (now (numbers .entry)) ⌝ }
 {
-    if outside(PER_CONTOUR, c) {
-        return answer::refused(4, 3);
-    }
     let v = (numbers.len() + 1) / 2;
     if outside(VERTICES, v) {
         return answer::refused(6, v);
@@ -293,6 +290,16 @@ fn one_contour(numbers: &[f64], c: usize) -> Check
         Found::At(k) => answer::refused(8, k),
         Found::Absent => Check::Fine,
     }
+}
+
+// What is wrong with a question about one contour.
+fn one_contour(numbers: &[f64], c: usize) -> Check
+    ensures { λ r. ⌜ r ≡ oneContour (now (numbers .entry)) c ⌝ }
+{
+    if outside(PER_CONTOUR, c) {
+        return answer::refused(4, 3);
+    }
+    contour_check(numbers)
 }
 
 // The candidates of one contour, for whoever asks; what is out of range is refused.

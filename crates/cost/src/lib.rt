@@ -89,7 +89,7 @@ pub fn point_distance(a: Point, b: Point) -> Measured
 }
 
 // Brought into 0 to 1. What is neither below 0 nor above 1 stays as it is, -0 too.
-fn clamp(t: f64) -> f64
+pub fn clamp(t: f64) -> f64
     ensures { λ r. ⌜ r ≡ clampOf t ⌝ }
 {
     if t < 0.0 {

@@ -21,7 +21,7 @@ use Rattle.points.specs.Square.{square}
 use Rattle.cost.proofs.Starred.{closest-of-square}
 use Rattle.candidates.specs.Direction.{directionOf}
 use Rattle.candidates.specs.Generate.{blank, candidatesOf, filled}
-use Rattle.candidates.specs.Question.{oneContour, offeredOf}
+use Rattle.candidates.specs.Question.{contourCheck, oneContour, offeredOf}
 use Rattle.candidates.proofs.Starred.{two-of-square, second-of-four}
 use Rattle.fields.specs.Layout.{contoursOf}
 use Rattle.card.specs.Verdict.{checkOf}
@@ -60,7 +60,7 @@ of-roots = record {
 
 -- nothing is wrong with the square, two or four candidates wanted
 square-fine : (oneContour square 2 ≡ check.Fine) × (oneContour square 4 ≡ check.Fine)
-unfolding oneContour firstRefusal firstBad lowest lowestFrom badAt badPoint badNumber points
+unfolding oneContour contourCheck firstRefusal firstBad lowest lowestFrom badAt badPoint badNumber points
     ofBits ofFields odd size span climb round units trailingZeros
 square-fine = (refl, refl)
 

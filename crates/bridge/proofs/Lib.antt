@@ -1,0 +1,5 @@
+pub mod MarkLaws
+pub mod FillLaws
+pub mod QuestionLaws
+pub mod Words
+pub mod Square

@@ -1,0 +1,5 @@
+pub mod Limits
+pub mod Lookup
+pub mod Create
+pub mod Question
+pub mod Words
