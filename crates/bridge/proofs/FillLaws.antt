@@ -42,6 +42,12 @@ module _ (ps : List Point) (ms : List Float) (half : Float) (centres : List Floa
   unfolding bridgesAt
   bridges-length l = map-length (bridgeAt ps ms half) l
 
+  -- bridge i is centre i's
+  pub bridges-at : (i : ℕ) (b : Bridge) → i < length centres
+      → getD (bridgesAt ps ms half centres) i b ≡ bridgeAt ps ms half (getD centres i nan)
+  unfolding bridgesAt
+  bridges-at i b h = map-at (bridgeAt ps ms half) centres i nan b h
+
   pub room-more : (k : ℕ) → k < length centres → length centres ≤ bridgeLimit
       → set (room k) k (bridgeAt ps ms half (getD centres k nan)) ≡ room (k + 1)
   unfolding bridgesAt
@@ -86,14 +92,14 @@ within-front (x ∷ l) m zero a h = refl
 within-front (x ∷ l) m (suc i) a h = within-front l m i a (le-of-suc-le-suc h)
 
 pub places : (ps : List Point) (half : Float) (centres : List Float) → Places ps half centres
-unfolding filled bridgesAt
+unfolding filled
 places ps half centres =
-    let f = bridgeAt ps (marks ps) half in
-    let l = map f centres in
+    let l = bridgesAt ps (marks ps) half centres in
     let n = length l in
+    let long = bridges-length ps (marks ps) half centres centres in
     record {
-      count = map-length f centres;
-      bridge = λ i h. within-front l (replicate (bridgeLimit - n) blank) i blank (rw map-length h)
-      ∙ map-at f centres i nan blank h;
-      spare = λ i h. past-front l (bridgeLimit - n) i blank (rw map-length h);
+      count = long;
+      bridge = λ i h. within-front l (replicate (bridgeLimit - n) blank) i blank (rw long h)
+          ∙ bridges-at ps (marks ps) half centres i blank h;
+      spare = λ i h. past-front l (bridgeLimit - n) i blank (rw long h);
     }

@@ -31,6 +31,7 @@ use Rattle.bridge.specs.Words as words
 use Rattle.bridge.specs.Words.{vertexCount, wayOf, Sized, Good, Long, Fits, On}
 use Rattle.bridge.proofs.MarkLaws.{marks-length, mark-first, mark-next, whole-is, edge-is}
 use Rattle.bridge.proofs.FillLaws.{places}
+use Rattle.bridge.proofs.AnswerLaws.{accepted}
 use Rattle.bridge.proofs.QuestionLaws.{width-fits, too-wide, not-above, narrow-finite}
 
 abbrev told : ℕ → ℕ → Check
@@ -145,12 +146,6 @@ module _ (numbers : List Float) (width : Float) (centres : List Float) where
   unfolding bridgesOf
   refused number place e = rw e
 
-  accepted : bridgeCheck numbers width centres ≡ Fine
-      → bridgesOf numbers width centres
-      ≡ filled (bridgesAt (points numbers) (marks (points numbers)) (halfOf width) centres)
-  unfolding bridgesOf
-  accepted e = rw e
-
   answers : words.Answers numbers width centres
   answers = record {
     many = λ h. refused 13 bridgeLimit (too-many h);
@@ -160,7 +155,7 @@ module _ (numbers : List Float) (width : Float) (centres : List Float) where
     unfit = λ few s g h w. refused 18 1 (by-way few (none-bad numbers s g) ∙ way-unfit h (fits-not w));
     centre = λ few s g h f i l not-on on.
         refused 18 (2 + i) (by-way few (none-bad numbers s g) ∙ way-centre h f i l not-on on);
-    fine = λ few s g h f on. accepted (by-way few (none-bad numbers s g) ∙ way-fine h f on);
+    fine = λ few s g h f on. accepted numbers width centres (by-way few (none-bad numbers s g) ∙ way-fine h f on);
   }
 
 module _ (ps : List Point) (d : Float) where

@@ -2,3 +2,4 @@ pub mod Hosts
 pub mod Exports
 pub mod Feeds
 pub mod Pieces
+pub mod Bridges

@@ -1,21 +1,31 @@
-// What C and Rust hosts call: the card's check, its tour, where a candidate is, and a card fed in pieces. Each answers one number, 0 or the
+// What C and Rust hosts call: the card's check, its tour, where a candidate is, a card fed in pieces, and the bridges of a contour. Each answers one number, 0 or the
 // refusal's number times 2^32 plus its place, and tells the rest through lent numbers that a refusal keeps, but for a feed's state, which an
 // asking ends unless it is refused for the byte room.
 ghost use mathlib.Core.Path.{_≡_};
-ghost use Prim.Native.Nat.{_^_, _≤_, _<_};
+ghost use Prim.Native.Nat.{_*_, _^_, _≤_, _<_};
+ghost use lib.ListN.{length, take};
+ghost use lib.Seq.{sets};
 ghost use Rattle.answer.specs.declared.Check.the-variants.{Refused};
 ghost use Rattle.answer.specs.Code.{codeOf};
 ghost use Rattle.card.specs.Verdict.{checkOf};
 ghost use Rattle.questions.specs.Index.{locatedOf};
 ghost use Rattle.host.specs.Hosts.{hosted, hostTour, pointed, hostPlace};
+ghost use Rattle.bridge.specs.Limits.{bridgeLimit};
+ghost use Rattle.host.specs.Bridges.{eightOf, numbersOf, spanned, hostBridges};
 ghost use Rattle.host.specs.Feeds.{bitOf, numberOf, stateOf, hostFed, hostFeed, hostAsked, hostAsk};
 use answer::Check;
 use answer::Count;
 use answer::Refusal;
+use bridge::BRIDGES;
+use bridge::Bridge;
+use bridge::Bridges;
 use feed::Feed;
 use questions::Located;
 use table::ENTRIES;
 use tour::Toured;
+
+// The numbers of the most bridges, eight each.
+const NUMBERS: usize = 8 * BRIDGES;
 
 // A refusal as one number.
 fn told(r: Refusal) -> u64
@@ -142,6 +152,63 @@ pub extern "C" fn jl_ask(
         Toured::Done(found) => {
             *moves = found.moves;
             *length_bits = tour::bits_of(found.length);
+            0
+        }
+    }
+}
+
+// ---- bridges
+
+// A bridge's eight numbers, at its place in the room.
+fn write_bridge(b: Bridge, k: usize, room: &mut [f64; NUMBERS])
+    requires { ⌜ k < bridgeLimit ⌝ }
+    ensures { λ _. ⌜ now (room .exit) ≡ sets (now (room .entry)) (8 * k) (eightOf b) ⌝ }
+{
+    let at = 8 * k;
+    let start = b.start;
+    let end = b.end;
+    let middle = b.middle;
+    room[at] = start.x;
+    room[at + 1] = start.y;
+    room[at + 2] = end.x;
+    room[at + 3] = end.y;
+    room[at + 4] = middle.x;
+    room[at + 5] = middle.y;
+    room[at + 6] = std::num::nearest_u64_to_f64(b.edge as u64);
+    room[at + 7] = b.t;
+}
+
+// The numbers of all bridges, at the front of the room.
+fn write_bridges(found: Bridges, room: &mut [f64; NUMBERS])
+    requires { ⌜ (found .count ≤ bridgeLimit) × (length (found .items) ≡ bridgeLimit) ⌝ }
+    ensures { λ _. ⌜ now (room .exit) ≡ sets (now (room .entry)) 0 (numbersOf (take (found .count) (found .items))) ⌝ }
+{
+    let items = found.items;
+    let count = found.count;
+    let mut k = 0;
+    while k < count {
+        write_bridge(items[k], k, room);
+        k += 1;
+    }
+}
+
+// The bridges of a contour, eight numbers each at the front of a room for the most there are. A refusal keeps the room.
+#[no_mangle]
+pub extern "C" fn jl_bridges(
+    contour: &[f64],
+    width: f64,
+    centres: &[f64],
+    room: &mut [f64; NUMBERS],
+) -> u64
+    ensures { λ r. ⌜ spanned r (now (room .exit))
+        ≡ hostBridges (now (contour .entry)) width (now (centres .entry)) (now (room .entry)) ⌝ }
+{
+    let found = bridge::bridges_at(contour, width, centres);
+    let check = found.check;
+    match check {
+        Check::Refused(r) => told(r),
+        Check::Fine => {
+            write_bridges(found, room);
             0
         }
     }
