@@ -1,4 +1,4 @@
-/* In which order to cut a sheet: the calls of the proved library, target/staticlib/libhost.a (and -lm).
+/* In which order to cut a sheet, and where to leave bridges: the calls of the proved library, target/staticlib/libhost.a (and -lm).
  *
  * A card is any `bytes` bytes at `card`. Every call answers one number: 0, or why it refuses, as the refusal's
  * number times 2^32 plus its place; docs/CARD.md says what each number and place means. Nothing that is lent is kept,
@@ -23,12 +23,18 @@ extern "C" {
 #define JL_CONTOURS 80
 #define JL_PAIRS 248
 
+/* The most vertices of a contour, the most bridges of one, and the numbers of those, eight each. */
+#define JL_VERTICES 30
+#define JL_BRIDGES 16
+#define JL_BRIDGE_NUMBERS (8 * JL_BRIDGES)
+
 /* The stack that each call takes at most, in bytes, and so any of them (hosts/c/stack.c measures it, up to the largest card). */
 #define JL_CHECK_STACK_BYTES 16384
 #define JL_PLACE_STACK_BYTES 32768
 #define JL_TOUR_STACK_BYTES 98304
 #define JL_FEED_STACK_BYTES 8192
 #define JL_ASK_STACK_BYTES 98304
+#define JL_BRIDGES_STACK_BYTES 8192
 #define JL_STACK_BYTES JL_TOUR_STACK_BYTES
 
 /* The bytes of a block, and the pairs that one takes. */
@@ -39,13 +45,15 @@ extern "C" {
 #define JL_CARD_BYTES (JL_BLOCK * (1 + JL_CONTOURS + (JL_PAIRS + JL_PAIRS_A_BLOCK - 1) / JL_PAIRS_A_BLOCK))
 
 /* Where fields stand: in block 0 the job's number, how many contours there are, and the direction of each type; in block
- * 1 + k contour k's id, tag and type. */
+ * 1 + k contour k's id, tag, count of vertices and type, and its vertices, x and y of each. */
 #define JL_JOB_AT 8
 #define JL_CONTOURS_AT 12
 #define JL_DIRECTIONS_AT 40
 #define JL_ID_AT 8
 #define JL_TAG_AT 12
+#define JL_VERTEX_COUNT_AT 16
 #define JL_TYPE_AT 18
+#define JL_VERTICES_AT 20
 
 /* 0 exactly where the card is good; else refusal 1 to 12 (docs/CARD.md, "When a card goes back"). */
 uint64_t jl_check(const uint8_t *card, size_t bytes);
@@ -88,6 +96,19 @@ uint64_t jl_feed(uint64_t *state, uint8_t *held, size_t held_room, const uint8_t
  * same rooms it answers the same, and in other rooms what they get of the same card. */
 uint64_t jl_ask(uint64_t *state, const uint8_t *held, size_t held_room, uint8_t *tour, size_t room, uint64_t *moves,
                 uint64_t *length);
+
+/* The bridges of a contour: stretches that stay uncut and hold its part. `contour` has the x and y of each vertex, so
+ * `numbers` is twice their count; a bridge is `width` wide, and its centre is a distance along the way around the contour,
+ * from the first vertex on. Writes eight numbers for each of the `count` centres to the front of `room`: x and y where the
+ * bridge starts, where it ends and of its middle, the edge that the middle is on (by the vertex at which it starts), and the
+ * centre's place on that edge, 0 at its start and 1 at its end. The middle is never past the edge's ends; the place is told
+ * as it comes out, so it can be -0, or a little above 1. Refusals, the first that applies: 13 at JL_BRIDGES, more centres
+ * than that; 6, no vertex or more than JL_VERTICES, with their count as its place, a vertex without its y counted; 8, a
+ * coordinate of the vertex at its place is not finite or too large, or is missing; 18 at 0, the way is shorter than 1e-12;
+ * 18 at 1, the width is not finite, not above 0, or its half is not below the way's length; 18 at 2 + i, centre i is the first
+ * that is not from 0 up to the way's length, which itself is too far. No centres are fine. The rest of the room is kept. */
+uint64_t jl_bridges(const double *contour, size_t numbers, double width, const double *centres, size_t count,
+                    double room[JL_BRIDGE_NUMBERS]);
 
 #ifdef __cplusplus
 }

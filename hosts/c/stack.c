@@ -1,11 +1,12 @@
 /* What the header says of a call's surroundings: how much stack it takes, over the fixed list of cards, the largest that there is
- * among them, each asked about in a thread whose stack is small and was painted; and that no card needs no address. */
+ * among them, each asked about in a thread whose stack is small and was painted, with the most bridges beside it; and that no card
+ * and no centres need no address. */
 #include "cards.h"
 
 #include <pthread.h>
 #include <string.h>
 
-#define CALLS 5
+#define CALLS 6
 /* as little as a thread may have on AArch64 */
 #define SPACE (1 << 17)
 #define PAINT 0xa5
@@ -13,9 +14,14 @@
 static int call;
 static uintptr_t top;
 
+/* a contour with the most vertices and the most bridges, for jl_bridges */
+static double contour[2 * JL_VERTICES], centres[JL_BRIDGES], bridges[JL_BRIDGE_NUMBERS];
+
 /* a card that was fed whole, for jl_ask */
 static uint8_t held[JL_CARD_BYTES];
 static uint64_t fed;
+
+static uint64_t bridged;
 
 static void *ask(void *tour)
 {
@@ -29,8 +35,10 @@ static void *ask(void *tour)
         jl_place(card, bytes, 0, &a, &b);
     else if (call == 3)
         jl_feed(&fed, held, sizeof held, card, bytes);
-    else
+    else if (call == 4)
         jl_ask(&fed, held, sizeof held, tour, JL_CONTOURS, &a, &b);
+    else
+        bridged = jl_bridges(contour, 2 * JL_VERTICES, 1, centres, JL_BRIDGES, bridges);
     return NULL;
 }
 
@@ -55,11 +63,15 @@ static size_t taken(uint8_t *space)
 
 int main(void)
 {
-    static const char *const calls[CALLS] = {"jl_check", "jl_tour", "jl_place", "jl_feed", "jl_ask"};
+    static const char *const calls[CALLS] = {"jl_check", "jl_tour", "jl_place", "jl_feed", "jl_ask", "jl_bridges"};
     static const size_t due[CALLS] = {JL_CHECK_STACK_BYTES, JL_TOUR_STACK_BYTES, JL_PLACE_STACK_BYTES, JL_FEED_STACK_BYTES,
-                                      JL_ASK_STACK_BYTES};
+                                      JL_ASK_STACK_BYTES, JL_BRIDGES_STACK_BYTES};
     size_t most[CALLS] = {0}, largest = 0;
     uint8_t *space = aligned_alloc(1 << 16, SPACE);
+    for (int k = 0; k < 2 * JL_VERTICES; k++)
+        contour[k] = k % 2 ? k % 4 : k;
+    for (int k = 0; k < JL_BRIDGES; k++)
+        centres[k] = 3 * k;
     int cards = 0;
     for (; space && next_card(); cards++) {
         if (bytes > largest && jl_check(card, bytes) == 0)
@@ -76,7 +88,9 @@ int main(void)
     fed = JL_NEW;
     int kept = jl_check(NULL, 0) == empty && jl_tour(NULL, 0, NULL, 0, &a, &b) == empty
         && jl_place(NULL, 0, 0, &a, &b) == empty && jl_feed(&fed, NULL, 0, NULL, 0) == 0
-        && jl_ask(&fed, held, sizeof held, NULL, 0, &a, &b) == empty && a == 5 && b == 7;
+        && jl_ask(&fed, held, sizeof held, NULL, 0, &a, &b) == empty && a == 5 && b == 7
+        && bridged == 0 && jl_bridges(NULL, 0, 1, NULL, 0, bridges) == (uint64_t)6 << 32
+        && jl_bridges(contour, 2 * JL_VERTICES, 1, NULL, 0, bridges) == 0;
 
     printf("C host: stack over %d cards, of at most %zu bytes:", cards, largest);
     int fits = largest == JL_CARD_BYTES;

@@ -1,7 +1,7 @@
 #!/bin/sh
 # Builds list.c over the archive. What it prints, and what the program cutlist prints where it is built, is held against the
-# list of each example card, and against the refusal of no bytes and of more than any card has. Then feed.c, stack.c and
-# roots.c, over the cards of the fixed list, roots.c over an archive that counts.
+# list of each example card, and against the refusal of no bytes and of more than any card has. Then bridges.c on a contour of an
+# example, and feed.c, stack.c and roots.c over the cards of the fixed list, roots.c over an archive that counts.
 set -eu
 
 cd "$(dirname "$0")/../.."
@@ -9,6 +9,8 @@ command -v cc >/dev/null || { echo 'C host: left out, no cc on this machine'; ex
 list=target/staticlib/list
 # -lm: the remainder of two floats is the C library's fmod
 cc -std=c11 -O2 -Wall -Wextra -Werror -pedantic -o "$list" hosts/c/list.c target/staticlib/libhost.a -lm
+bridges=target/staticlib/bridges
+cc -std=c11 -O2 -Wall -Wextra -Werror -pedantic -o "$bridges" hosts/c/bridges.c target/staticlib/libhost.a -lm
 feed=target/staticlib/feed
 cc -std=gnu11 -O2 -Wall -Wextra -Werror -pedantic -pthread -o "$feed" hosts/c/feed.c target/staticlib/libhost.a -lm
 stack=target/staticlib/stack
@@ -33,6 +35,11 @@ prints() { # WORDS..: the program, run on every input
 over=$(($(echo 'JL_CARD_BYTES + 1' | cc -E -P -xc -include hosts/c/jambolive.h - | tail -n 1)))
 prints "$list"
 echo "C host: $cards cards print their lists, no bytes and a million are refused"
+# as samples.rs writes it
+"$bridges" 0 2 0 30.5 100 <examples/sheet.card | cmp - examples/sheet.bridges
+echo 'REFUSED 18 AT 4' >target/staticlib/due
+"$bridges" 0 2 0 30.5 1e6 <examples/sheet.card | cmp - target/staticlib/due
+echo 'C host: the bridges of a contour, and a centre that is refused'
 "$feed" <crates/replay/data/cards
 "$stack" <crates/replay/data/cards
 "$roots" <crates/replay/data/cards

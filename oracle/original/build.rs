@@ -59,6 +59,9 @@ fn main() {
         .swap("use u_nesting_core::SolveResult", "// SolveResult", 1)
         .write("contour");
 
+    // A bridge is asked for at a given centre.
+    File::read(&folder, "bridge").swap("fn create_bridge(", "pub fn create_bridge(", 1).write("bridge");
+
     // The pairs come from a card too, so the DAG gets a constructor from a count and pairs. Of its own rules the card has
     // the first; the second, about parts in other parts' holes, is left out.
     File::read(&folder, "hierarchy")

@@ -1,6 +1,8 @@
 //! The exports of the crate `host`, called as a host calls them, with a watch on every byte that they may
 //! not change: the card, and what stands around the rooms and the lent numbers.
 
+use crate::limits::BRIDGE_NUMBERS;
+
 unsafe extern "C" {
     pub fn jl_check(card: *const u8, bytes: usize) -> u64;
     pub fn jl_tour(card: *const u8, bytes: usize, tour: *mut u8, room: usize, moves: *mut u64, length: *mut u64)
@@ -15,6 +17,14 @@ unsafe extern "C" {
         room: usize,
         moves: *mut u64,
         length: *mut u64,
+    ) -> u64;
+    pub fn jl_bridges(
+        contour: *const f64,
+        numbers: usize,
+        width: f64,
+        centres: *const f64,
+        count: usize,
+        room: *mut f64,
     ) -> u64;
 }
 
@@ -136,6 +146,22 @@ pub fn ask(state: u64, held: &[u8], before: &Left) -> Result<(u64, Left), String
     })?;
     let room = tour.left(UNTOUCHED as u8)?.to_vec();
     Ok((told(&number)?, Left { code, room, moves: told(&moves)?, length: told(&length)? }))
+}
+
+/// The bits of numbers, which tell -0 from 0 and one not-a-number from another.
+fn bits(numbers: &[f64]) -> Vec<u64> {
+    numbers.iter().map(|x| x.to_bits()).collect()
+}
+
+/// Asks for bridges: the answer, and the bits of the whole room.
+pub fn bridges(contour: &[f64], width: f64, centres: &[f64]) -> Result<(u64, Vec<u64>), String> {
+    let (lent, asked) = (contour.to_vec(), centres.to_vec());
+    let mut room = Padded::of(BRIDGE_NUMBERS, UNTOUCHED);
+    let code = unsafe { jl_bridges(lent.as_ptr(), lent.len(), width, asked.as_ptr(), asked.len(), room.lent().cast()) };
+    if bits(&lent) != bits(contour) || bits(&asked) != bits(centres) {
+        return Err("the contour or the centres changed".to_string());
+    }
+    Ok((code, room.left(UNTOUCHED)?.to_vec()))
 }
 
 /// A byte that changed around what was lent is seen.

@@ -160,7 +160,42 @@ fn in_any_state(r: &Random, memory: &mut Memory, bytes: &[u8]) -> Result<u64, St
     same(what, (told(lent), left), feed::asked_due(state, &room, CONTOURS)?)
 }
 
-/// What is lent: the card or a piece of it, the tour's room, two numbers, the byte room of a feed and its state.
+/// Without the original there is nothing to hold bridges against.
+#[cfg(not(feature = "original"))]
+fn bridged(_: &Random, _: &mut Memory, _: &[u8]) -> Result<u64, String> {
+    Ok(0)
+}
+
+/// A question about bridges, now and then with the contour that stands in these bytes or with any bytes for numbers: the
+/// contour, the centres and the room each at the edge of a guard page.
+#[cfg(feature = "original")]
+fn bridged(r: &Random, memory: &mut Memory, bytes: &[u8]) -> Result<u64, String> {
+    use crate::bridge;
+    use crate::exports::jl_bridges;
+    use crate::limits::{BRIDGE_NUMBERS, VERTEX, VERTICES};
+    let numbers = |bytes: &[u8]| -> Vec<f64> {
+        bytes.chunks_exact(8).map(|b| f64::from_ne_bytes(b.try_into().unwrap())).collect()
+    };
+    let flat = |numbers: &[f64]| -> Vec<u8> { numbers.iter().flat_map(|x| x.to_ne_bytes()).collect() };
+    let mut q = bridge::any(r);
+    let at = r.pick(&[0, BLOCK + contour::VERTICES]);
+    if r.one_in(3) && at < bytes.len() {
+        let end = bytes.len().min(at + VERTEX * r.from(1, VERTICES + 1));
+        q.numbers = numbers(&bytes[at..end]);
+    }
+    let edge = |r: &Random| r.one_in(2);
+    let [outline, room, centres, ..] = memory;
+    let (outline, centres) = (outline.lend(&flat(&q.numbers), edge(r)), centres.lend(&flat(&q.centres), edge(r)));
+    let room = room.lend(&[UNTOUCHED as u8; 8 * BRIDGE_NUMBERS], edge(r));
+    let (contour, asked) = (outline.as_ptr().cast(), centres.as_ptr().cast());
+    let code =
+        unsafe { jl_bridges(contour, q.numbers.len(), q.width, asked, q.centres.len(), room.as_mut_ptr().cast()) };
+    same(|| "what was asked about".to_string(), (&*outline, &*centres), (&flat(&q.numbers), &flat(&q.centres)))?;
+    same(|| format!("{q:?}"), (code, room.chunks_exact(8).map(told).collect()), bridge::due(&q))
+}
+
+/// What is lent: the card or a piece of it, the tour's room, two numbers, the byte room of a feed and its state. A question
+/// about bridges is lent the first three.
 type Memory = [Guarded; 6];
 
 /// Asks every export, and the safe calls, about these bytes. Says whether they are a card, or what differs.
@@ -207,6 +242,7 @@ fn ask(r: &Random, memory: &mut Memory, bytes: &[u8]) -> Result<bool, String> {
     same(|| "the card".to_string(), &*card, bytes)?;
     same(what, fed(r, memory, bytes, &room)?, whole)?;
     in_any_state(r, memory, bytes)?;
+    bridged(r, memory, bytes)?;
     Ok(due.is_ok())
 }
 
@@ -236,7 +272,9 @@ pub fn run(seed: u64, seconds: u64, failed: &std::path::Path) -> bool {
     let (mut case, mut accepted) = (0u64, 0u64);
     println!("fuzz: seed {seed}, {seconds} s, {}", coverage.kind());
     if cfg!(not(feature = "original")) {
-        println!("fuzz: the original is not at hand: tours are held only against each other, places against nothing");
+        println!(
+            "fuzz: the original is not at hand: tours are held only against each other, places and bridges against nothing"
+        );
     }
     while began.elapsed().as_secs() < seconds {
         let r = Random::of(seed, "fuzz", case);

@@ -1,13 +1,16 @@
 //! A card's limits, which are the Rust host's, and where its fields stand, for all that makes cards, damages them and asks
 //! about them. The second reading (reading.rs) has its own.
 
-pub use jambolive::{BLOCK, CANDIDATES, CARD_BYTES, CONTOURS, PAIRS, PAIRS_A_BLOCK, PER_CONTOUR, VERTICES};
+pub use jambolive::{BLOCK, BRIDGES, CANDIDATES, CARD_BYTES, CONTOURS, PAIRS, PAIRS_A_BLOCK, PER_CONTOUR, VERTICES};
 
 /// The most passes of a search, as the card holds them.
 pub const PASSES: u16 = jambolive::PASSES as u16;
 
 /// The largest size of a coordinate.
 pub const REACH: f64 = 1_048_576.0;
+
+/// The numbers of the most bridges, eight each.
+pub const BRIDGE_NUMBERS: usize = 8 * BRIDGES;
 
 /// The last direction: by a contour's type.
 pub const AUTO: u8 = 2;

@@ -155,18 +155,18 @@ either-vertex : (b : Bool) (p q : Point) (i : ℕ) → cond b (spot p i) (spot q
 either-vertex true p q i = refl
 either-vertex false p q i = refl
 
+pub held-vertex : (d : Float) (i : ℕ) (before : Float) (e : Ends) → heldOn d i before e .vertex ≡ i
+unfolding heldOn
+held-vertex d i before e =
+    either-vertex (lt (edgeLength e) tiny) (e .start)
+    (alongOf e (clampOf (div binary64 (sub binary64 d before) (edgeLength e)))) i
+
 module _ (last : Spot) (d : Float) where
   edge-vertex : (i : ℕ) (before : Float) (e : Ends) → onEdge d i before e .vertex ≡ i
   unfolding onEdge
   edge-vertex i before e =
       either-vertex (lt (edgeLength e) tiny) (e .start)
       (alongOf e (div binary64 (sub binary64 d before) (edgeLength e))) i
-
-  held-vertex : (i : ℕ) (before : Float) (e : Ends) → heldOn d i before e .vertex ≡ i
-  unfolding heldOn
-  held-vertex i before e =
-      either-vertex (lt (edgeLength e) tiny) (e .start)
-      (alongOf e (clampOf (div binary64 (sub binary64 d before) (edgeLength e)))) i
 
   here-from : (i : ℕ) (sum : Float) (es : List Ends) (k : ℕ) → k < length es
       → fallsOn (marksFrom sum es) d k ≡ true → ((j : ℕ) → j < k → fallsOn (marksFrom sum es) d j ≡ false)
@@ -213,7 +213,7 @@ edge-is ps d = go (search-through (fallsOn ms d) (length ms - 1))
         ≡ spotFrom (lastSpot ps) d 0 zero64 (edges ps) .vertex
     go (inl (k, w)) =
         ap (λ (f : Found). spotBy ps ms d f .vertex) (at-is (fallsOn ms d) (length ms - 1) k w)
-        ∙ held-vertex (lastSpot ps) d k (markAt ms k) (getD (edges ps) k noEnds)
+        ∙ held-vertex d k (markAt ms k) (getD (edges ps) k noEnds)
         ∙ sym (here-from (lastSpot ps) d 0 zero64 (edges ps) k (inside k (w .within)) (w .holds) (w .before)
         ∙ zero-add k)
     go (inr none) =

@@ -8,28 +8,29 @@ use native.Mathlib.Omega.{arith}
 use borrow.Author.Tests.{lt-ltb, le-ltb}
 use lib.Dec.{ltb}
 use lib.ListN.{length, getD}
-use lib.Ieee.{Float, nan, lt, le}
+use lib.Ieee.{Float, nan, binary64, rem, lt, le}
 use Rattle.answer.specs.declared.Point.{Point}
 use Rattle.answer.specs.declared.Check.{Check}
 use Rattle.answer.specs.declared.Check.the-variants.{Fine, Refused}
 use Rattle.answer.specs.declared.Found.the-variants.{At, Absent}
 use Rattle.answer.specs.Lowest.{lowest, refuseAt, refuseIf}
 use Rattle.answer.specs.Stage.{orElse, firstRefusal}
-use Rattle.answer.proofs.LowestLaws.{LowestAt, Nowhere, at-is, absent-is}
+use Rattle.answer.proofs.LowestLaws.{LowestAt, Nowhere, at-is, absent-is, search-through}
 use Rattle.answer.proofs.Truth.{true-false, yes-or-no}
 use Rattle.fields.specs.Limits.{vertexLimit}
-use Rattle.points.specs.Points.{points}
+use Rattle.points.specs.Points.{noEnds, points, edges}
 use Rattle.points.specs.Numbers.{zero64, tiny}
 use Rattle.points.specs.Bad.{badAt, firstBad}
+use Rattle.candidates.specs.Along.{lastSpot}
 use Rattle.candidates.specs.Question.{outside, contourCheck}
 use Rattle.bridge.specs.Limits.{bridgeLimit}
-use Rattle.bridge.specs.Lookup.{marks, fallsOn, edgeOn}
+use Rattle.bridge.specs.Lookup.{marks, markAt, wholeOf, fallsOn, edgeOn, spotBy, spotOn}
 use Rattle.bridge.specs.Create.{bridgesAt}
 use Rattle.bridge.specs.Question.{halfOf, finite, badWidth, offTheWay, firstOff, afterWidth, wayCheck, bridgeCheck}
 use Rattle.bridge.specs.Question.{filled, bridgesOf}
 use Rattle.bridge.specs.Words as words
 use Rattle.bridge.specs.Words.{vertexCount, wayOf, Sized, Good, Long, Fits, On}
-use Rattle.bridge.proofs.MarkLaws.{marks-length, mark-first, mark-next, whole-is, edge-is}
+use Rattle.bridge.proofs.MarkLaws.{marks-length, mark-first, mark-next, whole-is, held-vertex, edge-is}
 use Rattle.bridge.proofs.FillLaws.{places}
 use Rattle.bridge.proofs.AnswerLaws.{accepted}
 use Rattle.bridge.proofs.QuestionLaws.{width-fits, too-wide, not-above, narrow-finite}
@@ -172,7 +173,22 @@ module _ (ps : List Point) (d : Float) where
   unfolding edgeOn
   found-off b = rw count (absent-is (fallsOn (marks ps) d) (length ps) b)
 
+  edge-within : 0 < length ps → spotBy ps (marks ps) d (edgeOn (marks ps) d) .vertex < length ps
+  unfolding edgeOn lastSpot
+  edge-within some = go (search-through (fallsOn (marks ps) d) (length (marks ps) - 1))
+    where
+      go : ((k : ℕ) × LowestAt (fallsOn (marks ps) d) (length (marks ps) - 1) k)
+          ⊎ Nowhere (fallsOn (marks ps) d) (length (marks ps) - 1)
+          → spotBy ps (marks ps) d (lowest (fallsOn (marks ps) d) (length (marks ps) - 1)) .vertex < length ps
+      go (inl (k, w)) =
+          rw (
+            at-is (fallsOn (marks ps) d) (length (marks ps) - 1) k w,
+            held-vertex d k (markAt (marks ps) k) (getD (edges ps) k noEnds),
+          ) (omega (arith, w .within, count))
+      go (inr none) = rw (absent-is (fallsOn (marks ps) d) (length (marks ps) - 1) none) (omega arith)
+
 looked : (ps : List Point) → words.Looked ps
+unfolding spotOn
 looked ps = record {
   long = marks-length ps;
   first = mark-first ps;
@@ -180,6 +196,7 @@ looked ps = record {
   whole = whole-is ps;
   on = found-on ps;
   off = found-off ps;
+  within = λ some distance. edge-within ps (rem binary64 distance (wholeOf (marks ps))) some;
   edge = edge-is ps;
 }
 

@@ -17,7 +17,7 @@ use Rattle.points.specs.Bad.{badAt}
 use Rattle.candidates.specs.Along.{edgeLength, perimeterOf, spotAt}
 use Rattle.bridge.specs.declared.Bridges.{Bridges}
 use Rattle.bridge.specs.Limits.{bridgeLimit}
-use Rattle.bridge.specs.Lookup.{marks, markAt, wholeOf, fallsOn, edgeOn, spotBy}
+use Rattle.bridge.specs.Lookup.{marks, markAt, wholeOf, fallsOn, edgeOn, spotBy, spotOn}
 use Rattle.bridge.specs.Create.{bridgeAt, bridgesAt, blank}
 use Rattle.bridge.specs.Question.{halfOf, finite, filled, without, bridgesOf}
 
@@ -107,7 +107,9 @@ pub record Looked (ps : List Point) : Type 0 where
   pub on : (d : Float) (k : ℕ) → k < length ps → fallsOn (marks ps) d k ≡ true
       → ((j : ℕ) → j < k → fallsOn (marks ps) d j ≡ false) → edgeOn (marks ps) d ≡ At k
   pub off : (d : Float) → ((j : ℕ) → j < length ps → fallsOn (marks ps) d j ≡ false) → edgeOn (marks ps) d ≡ Absent
-  -- it is the vertex that a candidate there would have
+  -- the edge told is one of the contour's, whatever the distance
+  pub within : 0 < length ps → (distance : Float) → spotOn ps (marks ps) distance .vertex < length ps
+  -- and it is the vertex that a candidate there would have
   pub edge : (d : Float) → spotBy ps (marks ps) d (edgeOn (marks ps) d) .vertex ≡ spotAt ps d .vertex
 
 abbrev pub Claim : Type 0

@@ -62,6 +62,9 @@ of-host = record {
       ap (λ z. z .told .room) (same p q) & ap (λ z. z .told .moves) (same p q) &
       ap (λ z. z .told .bits) (same p q) & refl)
       (λ κs a x. alike);
+  jl-bridges = lent
+      (λ κs a x y p q. ap (λ z. z .answer) (same p q) & refl & refl & refl & ap (λ z. z .room) (same p q) & refl)
+      (λ κs a x. alike);
 }
 
 pub claim : Claim

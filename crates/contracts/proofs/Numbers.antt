@@ -25,6 +25,7 @@ of-cost : OfCost
 of-cost = record {
   point-distance-sq = told _ (λ κs a u v. refl) (λ κs a x. alike);
   point-distance = told _ (λ κs a u v. refl) (λ κs a x. alike);
+  clamp = told _ (λ κs a u v. refl) (λ κs a x. alike);
   closest-to = told _ (λ κs a u v. refl) (λ κs a x. alike);
   closest-point-on-polygon = told _ (λ κs a u v. refl) (λ κs a x. alike);
   rapid-distance = told _ (λ κs a u v. refl) (λ κs a x. alike);

@@ -1,16 +1,23 @@
--- Each contract of the search's crates comes to its definition. Assumes nothing.
+-- Each contract of the search's crates and of `bridge` comes to its definition. Assumes nothing.
 use mathlib.Core.Path.{refl}
 use Rattle.contracts.proofs.Laws.{same, _&_, told, lent, alike}
-use Rattle.contracts.specs.Search.{OfCandidates, OfTable, OfStart, OfImprove, OfInstance, OfSolve, Claim}
+use Rattle.contracts.specs.Search.{OfCandidates, OfBridge, OfTable, OfStart, OfImprove, OfInstance, OfSolve, Claim}
 
 of-candidates : OfCandidates
 of-candidates = record {
   determine-direction = told _ (λ κs a u v. refl) (λ κs a x. alike);
+  length-of = told _ (λ κs a u v. refl) (λ κs a x. alike);
   perimeter = told _ (λ κs a u v. refl) (λ κs a x. alike);
+  on-the-way = told _ (λ κs a u v. refl) (λ κs a x. alike);
+  last-spot = told _ (λ κs a u v. refl) (λ κs a x. alike);
   spot-at = told _ (λ κs a u v. refl) (λ κs a x. alike);
   candidates-of = told _ (λ κs a u v. refl) (λ κs a x. alike);
+  contour-check = told _ (λ κs a u v. refl) (λ κs a x. alike);
   contour-candidates = told _ (λ κs a u v. refl) (λ κs a x. alike);
 }
+
+of-bridge : OfBridge
+of-bridge = record { bridges-at = told _ (λ κs a u v. refl) (λ κs a x. alike) }
 
 of-table : OfTable
 of-table = record {
@@ -57,4 +64,4 @@ of-solve = record {
 }
 
 pub claim : Claim
-claim = (of-candidates, of-table, of-start, of-improve, of-instance, of-solve)
+claim = (of-candidates, of-bridge, of-table, of-start, of-improve, of-instance, of-solve)

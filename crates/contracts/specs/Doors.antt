@@ -13,6 +13,7 @@ use Rattle.text.specs.Page.{over}
 use Rattle.list.specs.Lines.{listOf}
 use Rattle.answer.specs.Code.{codeOf}
 use Rattle.host.specs.Hosts.{hosted, hostTour, pointed, hostPlace}
+use Rattle.host.specs.Bridges.{spanned, hostBridges}
 use Rattle.host.specs.Feeds.{hostFed, hostFeed, hostAsked, hostAsk}
 use denote.Ref.{now}
 use Rattle.questions.proofs as Questions
@@ -80,6 +81,9 @@ pub record OfHost : Type 0 where
       (λ _ state held tour moves length-bits r state′ tour′ moves′ length-bits′.
       hostAsked state′ (hosted r tour′ moves′ length-bits′)
       ≡ hostAsk (now state) (now held) (now tour) (now moves) (now length-bits))
+  pub jl-bridges : Says Host.jl_bridges.ended Host.jl_bridges.Reads.Asked Host.jl_bridges.Reads.Learnt
+      (λ _ contour width centres room r room′.
+      spanned r room′ ≡ hostBridges (now contour) width (now centres) (now room))
 
 abbrev pub Claim : Type 0
 Claim = OfQuestions × OfTour × OfFeed × OfList × OfHost

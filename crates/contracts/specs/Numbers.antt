@@ -7,7 +7,7 @@ use Rattle.points.specs.Bad.{badNumber, badPoint, firstBad}
 use Rattle.points.specs.Distance.{distanceSqOf, distanceOf}
 use Rattle.points.specs.Along.{alongOf}
 use Rattle.cost.specs.Distance.{pointDistanceSqOf, pointDistanceOf}
-use Rattle.cost.specs.Closest.{closestTo, closestOnPolygonOf}
+use Rattle.cost.specs.Closest.{clampOf, closestTo, closestOnPolygonOf}
 use Rattle.cost.specs.Rapid.{rapidOf, totalRapidOf}
 use Rattle.cost.specs.Sequence.{sequenceCostOf}
 use denote.Ref.{now}
@@ -46,6 +46,7 @@ pub record OfCost : Type 0 where
       (λ _ a b r. r ≡ pointDistanceSqOf a b)
   pub point-distance : Says Cost.point_distance.ended Cost.point_distance.Reads.Asked Cost.point_distance.Reads.Learnt
       (λ _ a b r. r ≡ pointDistanceOf a b)
+  pub clamp : Says Cost.clamp.ended Cost.clamp.Reads.Asked Cost.clamp.Reads.Learnt (λ _ t r. r ≡ clampOf t)
   pub closest-to : Says Cost.closest_to.ended Cost.closest_to.Reads.Asked Cost.closest_to.Reads.Learnt
       (λ _ polygon p r. r ≡ closestTo p (points (now polygon)))
   pub closest-point-on-polygon : Says Cost.closest_point_on_polygon.ended Cost.closest_point_on_polygon.Reads.Asked

@@ -1,12 +1,13 @@
--- What the contracts of the search's crates come to: see Contract. Assumes nothing.
+-- What the contracts of the search's crates and of `bridge` come to: see Contract. Assumes nothing.
 use mathlib.Core.Path.{_≡_}
 use mathlib.Core.List.{[]}
 use lib.ListN.{getD, length}
 use Rattle.points.specs.Points.{points}
 use Rattle.candidates.specs.Direction.{directionOf}
-use Rattle.candidates.specs.Along.{perimeterOf, spotAt}
+use Rattle.candidates.specs.Along.{edgeLength, perimeterOf, reaches, lastSpot, spotAt}
 use Rattle.candidates.specs.Generate.{candidatesOf, filled}
-use Rattle.candidates.specs.Question.{offeredOf}
+use Rattle.candidates.specs.Question.{contourCheck, offeredOf}
+use Rattle.bridge.specs.Question.{bridgesOf}
 use lib.Ieee.{nan}
 use Rattle.table.specs.Evaluate.{homeAt, distanceAt, lengthOf}
 use Rattle.table.specs.Distances.{homed, tabled}
@@ -19,6 +20,7 @@ use Rattle.instance.specs.Prepared.{preparedOf}
 use Rattle.solve.specs.Solve.{endIn, Solved}
 use denote.Ref.{now}
 use Rattle.candidates.proofs as Candidates
+use Rattle.bridge.proofs as Bridge
 use Rattle.table.proofs as Table
 use Rattle.start.proofs as Start
 use Rattle.improve.proofs as Improve
@@ -31,17 +33,31 @@ pub record OfCandidates : Type 0 where
   pub determine-direction : Says Candidates.determine_direction.ended Candidates.determine_direction.Reads.Asked
       Candidates.determine_direction.Reads.Learnt
       (λ _ kind exterior interior r. r ≡ directionOf kind exterior interior)
+  pub length-of : Says Candidates.length_of.ended Candidates.length_of.Reads.Asked Candidates.length_of.Reads.Learnt
+      (λ _ e r. r ≡ edgeLength e)
   pub perimeter : Says Candidates.perimeter.ended Candidates.perimeter.Reads.Asked Candidates.perimeter.Reads.Learnt
       (λ _ numbers r. r ≡ perimeterOf (points (now numbers)))
+  pub on-the-way : Says Candidates.on_the_way.ended Candidates.on_the_way.Reads.Asked Candidates.on_the_way.Reads.Learnt
+      (λ _ d before after r. r ≡ reaches d before after)
+  pub last-spot : Says Candidates.last_spot.ended Candidates.last_spot.Reads.Asked Candidates.last_spot.Reads.Learnt
+      (λ _ numbers r. r ≡ lastSpot (points (now numbers)))
   pub spot-at : Says Candidates.spot_at.ended Candidates.spot_at.Reads.Asked Candidates.spot_at.Reads.Learnt
       (λ _ numbers d r. r ≡ spotAt (points (now numbers)) d)
   pub candidates-of : Says Candidates.candidates_of.ended Candidates.candidates_of.Reads.Asked
       Candidates.candidates_of.Reads.Learnt
       (λ _ numbers c kind exterior interior r.
       r ≡ filled (candidatesOf (directionOf kind exterior interior) (points (now numbers)) c))
+  pub contour-check : Says Candidates.contour_check.ended Candidates.contour_check.Reads.Asked
+      Candidates.contour_check.Reads.Learnt
+      (λ _ numbers r. r ≡ contourCheck (now numbers))
   pub contour-candidates : Says Candidates.contour_candidates.ended Candidates.contour_candidates.Reads.Asked
       Candidates.contour_candidates.Reads.Learnt
       (λ _ numbers c kind exterior interior r. r ≡ offeredOf (now numbers) c kind exterior interior)
+
+-- bridge
+pub record OfBridge : Type 0 where
+  pub bridges-at : Says Bridge.bridges_at.ended Bridge.bridges_at.Reads.Asked Bridge.bridges_at.Reads.Learnt
+      (λ _ numbers width centres r. r ≡ bridgesOf (now numbers) width (now centres))
 
 -- table
 pub record OfTable : Type 0 where
@@ -95,4 +111,4 @@ pub record OfSolve : Type 0 where
       Solved chart (endIn chart (length (now tour)) passes limit) (now tour) r tour′)
 
 abbrev pub Claim : Type 0
-Claim = OfCandidates × OfTable × OfStart × OfImprove × OfInstance × OfSolve
+Claim = OfCandidates × OfBridge × OfTable × OfStart × OfImprove × OfInstance × OfSolve

@@ -3,7 +3,7 @@
 //! A job comes as a card, a file of 512-byte blocks (docs/CARD.md). [`check`] says whether a card can be
 //! followed, [`tour`] finds its tour, [`list`] prints it as the machine reads it. A card of version 1 or 2 will do; in
 //! version 2 a hole is cut before the first outline of its part and instance without a pair that says so. A card that
-//! arrives in pieces goes into a [`Feed`]. The work is done by a library in which every function is proved: these calls
+//! arrives in pieces goes into a [`Feed`]. Of any contour [`bridges`] says where the stretches are that stay uncut. The work is done by a library in which every function is proved: these calls
 //! only hand slices over and make numbers into words. They take any bytes, never panic, and keep nothing but what a
 //! [`Feed`] holds. They may run side by side. hosts/c/jambolive.h says how much stack the library takes.
 //!
@@ -16,11 +16,13 @@
 //! assert_eq!(jambolive::check(&card).unwrap_err().to_string(), "the check of block 1 does not fit its bytes");
 //! ```
 
+mod bridge;
 mod feed;
 mod fields;
 mod limits;
 mod refusal;
 
+pub use bridge::{Bridge, bridges};
 pub use feed::Feed;
 pub use limits::*;
 pub use refusal::Refusal;

@@ -1,8 +1,9 @@
 //! A card's limits: the numbers that the proved code names, taken from its source, and what follows from them.
 
-/// Where the code names the limits on contours and pairs, those of a card, and the size of a block.
+/// Where the code names the limits on contours and pairs, those of a card, that on bridges, and the size of a block.
 const PAIRS_CODE: &str = include_str!("../../../crates/closure/src/lib.rt");
 const CARD_CODE: &str = include_str!("../../../crates/fields/src/lib.rt");
+const BRIDGE_CODE: &str = include_str!("../../../crates/bridge/src/lib.rt");
 const BLOCK_CODE: &str = include_str!("../../../crates/block/src/lib.rt");
 
 const fn stands_at(text: &[u8], at: usize, words: &[u8]) -> bool {
@@ -57,6 +58,8 @@ limits! {
     PAIRS_A_BLOCK in CARD_CODE;
     /// The most bytes that a card has.
     CARD_BYTES in CARD_CODE;
+    /// The most bridges that a contour has.
+    BRIDGES in BRIDGE_CODE;
     /// The bytes of a block.
     BLOCK in BLOCK_CODE;
 }

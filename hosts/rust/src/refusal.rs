@@ -1,9 +1,9 @@
-//! Why a card goes back, in words.
+//! Why a card or a question about bridges goes back, in words.
 
-use crate::limits::{BLOCK, BLOCKS, CANDIDATES, CARD_BYTES, CONTOURS, PAIRS, PASSES, PER_CONTOUR, VERTICES};
+use crate::limits::{BLOCK, BLOCKS, BRIDGES, CANDIDATES, CARD_BYTES, CONTOURS, PAIRS, PASSES, PER_CONTOUR, VERTICES};
 use std::fmt;
 
-/// Why a card goes back. Blocks, contours and pairs are counted from 0.
+/// Why a card goes back, or a question about bridges. Blocks, contours, pairs, vertices and centres are counted from 0.
 #[derive(Clone, Copy, Debug, PartialEq, Eq)]
 #[non_exhaustive]
 pub enum Refusal {
@@ -82,6 +82,27 @@ pub enum Refusal {
     },
     /// The card was asked about before: no more of it is taken.
     Ended,
+    /// Bridges were asked for at more than [`BRIDGES`] centres.
+    Centres,
+    /// The contour for which bridges were asked has no vertex, or more than [`VERTICES`].
+    VertexCount {
+        /// How many there are; any number above it is told as 2^32 - 1.
+        count: u32,
+    },
+    /// A vertex of that contour has a coordinate that is not finite or too large.
+    Vertex {
+        /// The first such vertex.
+        number: u32,
+    },
+    /// The way around that contour is shorter than 1e-12.
+    Way,
+    /// The bridges' width is not finite, not above 0, or its half is not below the way around the contour.
+    Width,
+    /// A bridge's centre is not from 0 up to the way around the contour, which itself is too far.
+    Centre {
+        /// The first such centre.
+        index: u32,
+    },
 }
 
 impl Refusal {
@@ -106,6 +127,21 @@ impl Refusal {
             15 => Refusal::Candidate { number: place },
             17 => Refusal::Ended,
             other => unreachable!("the library has no refusal {other}"),
+        })
+    }
+
+    /// The same of an answer about bridges, where 6, 8 and 13 speak of the one contour and of the centres.
+    pub(crate) fn of_bridges(code: u64) -> Result<(), Refusal> {
+        let place = code as u32;
+        Err(match (code >> 32, place) {
+            (0, _) => return Ok(()),
+            (6, _) => Refusal::VertexCount { count: place },
+            (8, _) => Refusal::Vertex { number: place },
+            (13, _) => Refusal::Centres,
+            (18, 0) => Refusal::Way,
+            (18, 1) => Refusal::Width,
+            (18, _) => Refusal::Centre { index: place - 2 },
+            (other, _) => unreachable!("the library has no refusal {other} of bridges"),
         })
     }
 
@@ -136,6 +172,12 @@ impl Refusal {
             Refusal::Room { needed } => (13, needed),
             Refusal::Candidate { number } => (15, number),
             Refusal::Ended => (17, 0),
+            Refusal::Centres => (13, BRIDGES as u32),
+            Refusal::VertexCount { count } => (6, count),
+            Refusal::Vertex { number } => (8, number),
+            Refusal::Way => (18, 0),
+            Refusal::Width => (18, 1),
+            Refusal::Centre { index } => (18, index.saturating_add(2)),
         }
     }
 }
@@ -187,6 +229,16 @@ impl fmt::Display for Refusal {
             Refusal::Room { needed } => write!(f, "the room for the tour is too small: it needs {needed} entries"),
             Refusal::Candidate { number } => write!(f, "the card has no candidate {number}"),
             Refusal::Ended => f.write_str("the card has ended: it was asked about before"),
+            Refusal::Centres => write!(f, "a contour has at most {BRIDGES} bridges"),
+            Refusal::VertexCount { count } => write!(f, "a contour has 1 to {VERTICES} vertices, not {count}"),
+            Refusal::Vertex { number } => write!(f, "vertex {number} has a coordinate that is too large or no number"),
+            Refusal::Way => f.write_str("the way around the contour is too short for bridges"),
+            Refusal::Width => {
+                f.write_str("a bridge's width is above 0, and its half is below the way around the contour")
+            }
+            Refusal::Centre { index } => {
+                write!(f, "centre {index} is not from 0 up to the way around the contour, which itself is too far")
+            }
         }
     }
 }
@@ -203,6 +255,13 @@ fn codes() {
             assert_eq!((u64::from(refusal.number()), u64::from(refusal.place())), (number, place));
         }
     }
+    for (number, places) in [(6, 0..80), (8, 0..30), (13, 16..17), (18, 0..18)] {
+        for place in places {
+            let refusal = Refusal::of_bridges((number << 32) + place).unwrap_err();
+            assert_eq!((u64::from(refusal.number()), u64::from(refusal.place())), (number, place));
+        }
+    }
+    assert_eq!(Refusal::of_bridges(0), Ok(()));
     let ended = Refusal::of(17 << 32).unwrap_err();
     assert_eq!((ended, ended.number(), ended.place()), (Refusal::Ended, 17, 0));
 }
@@ -240,4 +299,14 @@ fn sentences() {
     says(13, 3, "the room for the tour is too small: it needs 3 entries");
     says(15, 9, "the card has no candidate 9");
     says(17, 0, "the card has ended: it was asked about before");
+    let of_bridges = |number: u64, place: u64, sentence: &str| {
+        let refusal = Refusal::of_bridges((number << 32) + place).unwrap_err();
+        assert_eq!(refusal.to_string(), sentence, "{number} at {place}");
+    };
+    of_bridges(13, 16, &format!("a contour has at most {BRIDGES} bridges"));
+    of_bridges(6, 0, &format!("a contour has 1 to {VERTICES} vertices, not 0"));
+    of_bridges(8, 2, "vertex 2 has a coordinate that is too large or no number");
+    of_bridges(18, 0, "the way around the contour is too short for bridges");
+    of_bridges(18, 1, "a bridge's width is above 0, and its half is below the way around the contour");
+    of_bridges(18, 4, "centre 2 is not from 0 up to the way around the contour, which itself is too far");
 }

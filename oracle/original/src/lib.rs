@@ -12,7 +12,7 @@ macro_rules! copied {
         $(pub mod $name { include!(concat!(env!("OUT_DIR"), "/", stringify!($name), ".rs")); })*
     };
 }
-copied!(config contour cost result hierarchy given gtsp counted);
+copied!(config contour cost bridge result hierarchy given gtsp counted);
 
 pub type Result<T> = std::result::Result<T, Error>;
 

@@ -160,6 +160,46 @@ fn tour() {
     );
 }
 
+/// Bridges of regular outlines: four on one of few vertices, and the most on one of the most.
+#[cfg(feature = "original")]
+fn bridges() {
+    use oracle::limits::{BRIDGES, VERTICES};
+    use oracle::{bridge, exports};
+    use std::hint::black_box;
+    const CALLS: usize = 100;
+    for (v, count) in [(4, 4), (12, 4), (VERTICES, BRIDGES)] {
+        let vertex = |j: usize| {
+            let angle = std::f64::consts::TAU * j as f64 / v as f64;
+            [500.0 + 80.0 * angle.cos(), 400.0 + 80.0 * angle.sin()]
+        };
+        let numbers: Vec<f64> = (0..v).flat_map(vertex).collect();
+        let centres: Vec<f64> = (0..count).map(|k| 440.0 * (k as f64 + 0.5) / count as f64).collect();
+        let q = bridge::Asked { numbers, width: 2.0, centres };
+        let mut room = [0.0; 8 * BRIDGES];
+        let (ours, theirs) = both(
+            300,
+            || {
+                for _ in 0..CALLS {
+                    let (contour, centres) = (black_box(&q.numbers), black_box(&q.centres));
+                    let (outline, asked) = (contour.as_ptr(), centres.as_ptr());
+                    let code = unsafe {
+                        exports::jl_bridges(outline, contour.len(), q.width, asked, centres.len(), room.as_mut_ptr())
+                    };
+                    assert_eq!(code, 0);
+                }
+            },
+            || (0..CALLS).for_each(|_| _ = black_box(bridge::bridges(black_box(&q)))),
+        );
+        let each = |time: f64| time / 1e3 / CALLS as f64;
+        println!(
+            "bridges, {count} of {v} vertices: {:.2} µs, the original {:.2} µs, {:.1} times",
+            each(ours),
+            each(theirs),
+            ours / theirs
+        );
+    }
+}
+
 fn main() {
     root();
     check();
@@ -167,7 +207,8 @@ fn main() {
     {
         search();
         tour();
+        bridges();
     }
     #[cfg(not(feature = "original"))]
-    println!("search, tour: left out, the original is not at hand");
+    println!("search, tour, bridges: left out, the original is not at hand");
 }

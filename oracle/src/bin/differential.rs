@@ -3,16 +3,17 @@
 //! where an answer differs or a name is no part's. With a time it goes on from seed to seed until the time is over.
 
 use oracle::run::Wanted;
-use oracle::{candidates, check, cost, feed, hierarchy, large, root, rules, search, start, table, tour};
+use oracle::{bridge, candidates, check, cost, feed, hierarchy, large, root, rules, search, start, table, tour};
 
 /// A part's name, how it is compared, and whether that is quick: in full size a few seconds.
 type Part = (&'static str, fn(Wanted) -> bool, bool);
 
-const PARTS: [Part; 12] = [
+const PARTS: [Part; 13] = [
     ("root", root::compare, true),
     ("cost", cost::compare, true),
     ("hierarchy", hierarchy::compare, true),
     ("candidates", candidates::compare, true),
+    ("bridge", bridge::compare, true),
     ("table", table::compare, true),
     ("rules", rules::compare, false),
     ("start", start::compare, false),

@@ -1,7 +1,8 @@
-//! `samples [FOLDER]`: writes the cards of examples/ and, from the mended original's answers, their lists; with the folder of
+//! `samples [FOLDER]`: writes the cards of examples/ and, from the mended original's answers, their lists and bridges; with the folder of
 //! the crate `replay` also its cards and what it must print.
 
 use oracle::answer::printed;
+use oracle::bridge;
 use oracle::card::{Card, Contour};
 use oracle::edges::{Edge, edges, edges_of_parts, edges_of_size};
 use oracle::generate;
@@ -54,7 +55,13 @@ fn refused() -> Card {
     card
 }
 
-/// The examples: each card beside its list.
+/// The original's bridges of a card's first contour, 2 wide, at three centres: the first goes on over the end of the way.
+fn bridges(card: &Card) -> String {
+    let numbers = card.contours[0].vertices.iter().flat_map(|p| [p.0, p.1]).collect();
+    bridge::printed(&bridge::Asked { numbers, width: 2.0, centres: vec![0.0, 30.5, 100.0] })
+}
+
+/// The examples: each card beside its list, and the bridges of a contour of the sheet.
 fn examples() {
     fs::create_dir_all("examples").unwrap();
     let cards = [
@@ -69,6 +76,7 @@ fn examples() {
         fs::write(format!("examples/{name}.card"), card.bytes()).unwrap();
         fs::write(format!("examples/{name}.list"), printed(&card.bytes())).unwrap();
     }
+    fs::write("examples/sheet.bridges", bridges(&plates())).unwrap();
 }
 
 /// Cards from the generator within the limits from before request 2026-04, by turns good and damaged, in version 2 by turns
