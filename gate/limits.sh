@@ -1,6 +1,6 @@
 #!/bin/sh
-# limits.sh [TOP]: the limits of a card and of bridges where they are said once more for those who cannot take them from the code, the C header
-# and docs/CARD.md, are the numbers that the code names.
+# limits.sh [TOP]: the limits of a card and of bridges where they are said once more for those who cannot take them from the
+# code, the C header and docs/CARD.md, are the numbers that the code names.
 set -eu
 
 cd "${1:-$(dirname "$0")/..}"
@@ -28,6 +28,7 @@ longer="its length; $((bytes + 1)) for all that is longer than $bytes |"
 due $card "| 1 | the file is empty, has a broken block or more than $blocks | $longer"
 due $card "| 13 | then: a piece with bytes, or the asking, with a byte room that is smaller than the longest card | $bytes |"
 due $card "| 13 | there are more than $(code BRIDGES) centres | $(code BRIDGES) |"
+due $card "up to $(code BRIDGES) centres, each a distance"
 due $card "| 6 | the contour has no vertex, or more than $(code VERTICES);"
 # what the header works out from its own
 if [ "$bytes" -ne $(($(code BLOCK) * (1 + $(code CONTOURS) + ($(code PAIRS) + $(code PAIRS_A_BLOCK) - 1) / $(code PAIRS_A_BLOCK)))) ]; then

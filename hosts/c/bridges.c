@@ -27,6 +27,8 @@ int main(int words, char **word)
 {
     static uint8_t card[JL_CARD_BYTES + 1];
     size_t bytes = fread(card, 1, sizeof card, stdin);
+    while (getchar() != EOF)
+        continue;
     uint64_t code = jl_check(card, bytes);
     if (code != 0)
         return refused(code);

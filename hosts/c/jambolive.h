@@ -8,7 +8,7 @@
  * Calls may run side by side: the library has no memory of its own.
  * A call takes at most JL_STACK_BYTES of stack.
  * It asks for memcpy, memset and fmod of the C library (-lm), and is right if they are.
- * No bytes and no room need no address: NULL with 0 behind it will do. */
+ * No bytes, numbers or centres, and no room for a tour or a card, need no address: NULL with 0 behind it will do. */
 #ifndef JAMBOLIVE_H
 #define JAMBOLIVE_H
 
@@ -97,16 +97,18 @@ uint64_t jl_feed(uint64_t *state, uint8_t *held, size_t held_room, const uint8_t
 uint64_t jl_ask(uint64_t *state, const uint8_t *held, size_t held_room, uint8_t *tour, size_t room, uint64_t *moves,
                 uint64_t *length);
 
-/* The bridges of a contour: stretches that stay uncut and hold its part. `contour` has the x and y of each vertex, so
- * `numbers` is twice their count; a bridge is `width` wide, and its centre is a distance along the way around the contour,
- * from the first vertex on. Writes eight numbers for each of the `count` centres to the front of `room`: x and y where the
- * bridge starts, where it ends and of its middle, the edge that the middle is on (by the vertex at which it starts), and the
- * centre's place on that edge, 0 at its start and 1 at its end. The middle is never past the edge's ends; the place is told
- * as it comes out, so it can be -0, or a little above 1. Refusals, the first that applies: 13 at JL_BRIDGES, more centres
- * than that; 6, no vertex or more than JL_VERTICES, with their count as its place, a vertex without its y counted; 8, a
- * coordinate of the vertex at its place is not finite or too large, or is missing; 18 at 0, the way is shorter than 1e-12;
- * 18 at 1, the width is not finite, not above 0, or its half is not below the way's length; 18 at 2 + i, centre i is the first
- * that is not from 0 up to the way's length, which itself is too far. No centres are fine. The rest of the room is kept. */
+/* The bridges of a contour: stretches that stay uncut and hold its part (docs/CARD.md, "Bridges"). `contour` has the x and
+ * y of each vertex, so `numbers` is twice their count; a bridge is `width` wide, and its centre is a distance along the way
+ * around the contour, from the first vertex on. Writes eight numbers for each of the `count` centres to the front of `room`:
+ * x and y where the bridge starts, where it ends and of its middle, the edge that the middle is on (by the vertex at which
+ * it starts), and the centre's place on that edge, 0 at its start and 1 at its end. The middle is never past the edge's
+ * ends. The place is told as it comes out: -0 for a centre of -0, above 1 where the centre is up to 1e-12 past the edge's
+ * end; on an edge not longer than 1e-12 it is 0. The rest of the room is kept.
+ * Refusals, the first that applies: 13 at JL_BRIDGES, more centres than that; 6, no vertex or more than JL_VERTICES, with
+ * their count as its place (2^32 - 1 for any above it), a vertex without its y counted; 8, a coordinate of the vertex at its
+ * place is not finite or too large, or is missing; 18 at 0, the way is shorter than 1e-12; 18 at 1, the width is not finite,
+ * not above 0, or its half is not below the way's length; 18 at 2 + i, centre i is the first that is not from 0 up to the
+ * way's length, which itself is too far. No centres are fine. */
 uint64_t jl_bridges(const double *contour, size_t numbers, double width, const double *centres, size_t count,
                     double room[JL_BRIDGE_NUMBERS]);
 

@@ -21,7 +21,7 @@ static double contour[2 * JL_VERTICES], centres[JL_BRIDGES], bridges[JL_BRIDGE_N
 static uint8_t held[JL_CARD_BYTES];
 static uint64_t fed;
 
-static uint64_t bridged;
+static uint64_t bridged = 1;
 
 static void *ask(void *tour)
 {

@@ -170,6 +170,7 @@ fn centre(r: &Random, marks: &[f64], half: f64) -> f64 {
         half.next_down(),
         whole - half,
         corner + half,
+        corner - half,
         f64::from_bits(1),
     ]);
     match r.below(80) {
@@ -196,19 +197,28 @@ pub fn any(r: &Random) -> Asked {
 
 /// What a run must meet often enough.
 struct Met {
-    refused: Tally,
+    refused: [Tally; 6],
     around: Tally,
     several: Tally,
     past: Tally,
     minus: Tally,
     short: Tally,
+    tiny: Tally,
+}
+
+/// The refusals: each number, and of 18 each place, the centres' together.
+const REFUSALS: [u64; 6] = [13 << 32, 6 << 32, 8 << 32, 18 << 32, (18 << 32) + 1, (18 << 32) + 2];
+
+/// Which of the refusals an answer is.
+fn which(code: u64) -> usize {
+    let place = if code >> 32 == 18 { (code & 0xffff_ffff).min(2) } else { 0 };
+    REFUSALS.iter().position(|&r| r == (code >> 32 << 32) + place).unwrap()
 }
 
 impl Met {
     fn count(&self, q: &Asked, due: &Left) {
-        self.refused.count(due.0 != 0);
         if due.0 != 0 {
-            return;
+            return self.refused[which(due.0)].count(true);
         }
         let (lengths, marks) = way(&points(&q.numbers));
         let (half, whole) = (q.width / 2.0, whole(&marks));
@@ -222,6 +232,8 @@ impl Met {
         self.past.count(any(&|b| b.edge_t > 1.0));
         self.minus.count(any(&|b| b.edge_t.to_bits() == (-0.0f64).to_bits()));
         self.short.count(any(&|b| (0.4 * TINY..2.5 * TINY).contains(&lengths[b.edge_index])));
+        // within an edge of just that length: the two tests against it tell it apart
+        self.tiny.count(any(&|b| lengths[b.edge_index] == TINY && b.perimeter_distance > marks[b.edge_index]));
     }
 }
 
@@ -241,15 +253,23 @@ fn one(r: &Random, met: &Met) -> Result<u64, String> {
 pub fn compare(wanted: Wanted) -> bool {
     const FULL: u64 = 1_000_000;
     let met = Met {
-        refused: Tally::of("of them refused", 20),
+        refused: [
+            Tally::of("refused 13", 500),
+            Tally::of("refused 6", 500),
+            Tally::of("refused 8", 500),
+            Tally::of("refused 18 at 0", 500),
+            Tally::of("refused 18 at 1", 500),
+            Tally::of("refused 18 at a centre", 500),
+        ],
         around: Tally::of("with a bridge over the end of the way", 20),
         several: Tally::of("with a bridge over several corners", 20),
         past: Tally::of("with a place above 1", 100),
         minus: Tally::of("with the place -0", 100),
         short: Tally::of("with a middle on an edge of about 1e-12", 1000),
+        tiny: Tally::of("with a middle within an edge of just 1e-12", 10_000),
     };
     let agreed = cases(wanted, "bridges of a contour", FULL, |r| one(r, &met));
-    let Met { refused, around, several, past, minus, short } = met;
-    let count = wanted.of(FULL);
-    [refused, around, several, past, minus, short].into_iter().fold(agreed, |all, tally| tally.enough(count) & all)
+    let Met { refused, around, several, past, minus, short, tiny } = met;
+    let tallies = refused.into_iter().chain([around, several, past, minus, short, tiny]);
+    tallies.fold(agreed, |all, tally| tally.enough(wanted.of(FULL)) & all)
 }

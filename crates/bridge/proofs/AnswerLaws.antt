@@ -1,7 +1,7 @@
 -- What an answer about bridges holds. Assumes nothing.
 use mathlib.Core.Path.{_≡_, refl, sym, ap, _∙_}
 use mathlib.Core.List.{List}
-use Prim.Native.Nat.{ℕ, _≤_}
+use Prim.Native.Nat.{_≤_}
 use lib.ListN.{length, take}
 use lib.Ieee.{Float}
 use Rattle.answer.specs.declared.Check.{Check}

@@ -2,12 +2,12 @@
 use mathlib.Core.Path.{_≡_, refl, sym, ap, _∙_}
 use mathlib.Core.Bool.{Bool, true, false, cond}
 use mathlib.Core.Logic.{_⊎_, inl, inr}
-use mathlib.Core.List.{List, [], _∷_, _++_}
+use mathlib.Core.List.{List, [], _∷_}
 use Prim.Native.Nat.{ℕ, zero, suc, _+_, _-_, _/_, _≤_, _<_, suc-le-suc}
 use native.Mathlib.Nat.{not-suc-le-zero, le-of-suc-le-suc, zero-lt-suc, add-zero, add-suc, suc-add, zero-add}
 use native.Mathlib.Numerals.{add-one}
 use native.Mathlib.Omega.{arith}
-use lib.ListN.{length, getD, take, set, replicate, length-take}
+use lib.ListN.{length, getD, take, set, replicate}
 use lib.Seq.{take-suc, take-all, length-take-le}
 use lib.Ieee.{Float, nan, binary64, add, sub, div, lt}
 use Rattle.answer.specs.declared.Point.{Point}
@@ -70,7 +70,8 @@ mark-next ps k h = from-next zero64 (edges ps) k (rw edges-length h)
 pub whole-is : (ps : List Point) → wholeOf (marks ps) ≡ perimeterOf ps
 unfolding perimeterOf marks
 whole-is ps =
-    let e : length (marksFrom zero64 (edges ps)) - 1 ≡ length (edges ps) = omega (arith, from-length zero64 (edges ps)) in
+    let e : length (marksFrom zero64 (edges ps)) - 1 ≡ length (edges ps) =
+    omega (arith, from-length zero64 (edges ps)) in
     ap (λ (k : ℕ). markAt (marksFrom zero64 (edges ps)) k) e ∙ from-last zero64 (edges ps)
 
 -- without marks the last one is none

@@ -1,13 +1,13 @@
 -- Which of its cases a question's check is in. Assumes nothing.
-use mathlib.Core.Path.{_≡_, refl, sym, ap, _∙_}
-use mathlib.Core.Bool.{Bool, true, false, not, _&&_, _||_}
+use mathlib.Core.Path.{_≡_, refl}
+use mathlib.Core.Bool.{Bool, true, false, not, _||_}
 use mathlib.Core.List.{List}
 use Prim.Native.Nat.{ℕ, _+_, _/_, _≤_, _<_}
 use native.Mathlib.Omega.{arith}
 use borrow.Author.Tests.{ltb-false}
 use lib.Dec.{ltb}
-use lib.ListN.{length, getD}
-use lib.Ieee.{Float, nan, inf, fin, binary64, div, lt, le, ofBits}
+use lib.ListN.{length}
+use lib.Ieee.{Float, nan, inf, fin, div, lt, ofBits}
 use Rattle.answer.specs.declared.Check.{Check}
 use Rattle.answer.specs.declared.Check.the-variants.{Fine, Refused}
 use Rattle.answer.specs.declared.Found.the-variants.{At}
@@ -22,7 +22,7 @@ use Rattle.points.specs.Numbers.{zero64}
 use Rattle.candidates.specs.Along.{perimeterOf}
 use Rattle.candidates.specs.Question.{outside, contourCheck}
 use Rattle.bridge.specs.Limits.{bridgeLimit}
-use Rattle.bridge.specs.Question.{halfOf, finite, badWidth, offTheWay, firstOff, wayCheck, bridgeCheck}
+use Rattle.bridge.specs.Question.{halfOf, finite, badWidth, firstOff, wayCheck, bridgeCheck}
 
 -- ---- widths
 

@@ -1,9 +1,10 @@
--- Bridges of the scope document's square, computed from the definition: no premise of the claim is empty, and the place
--- on the edge is told as it comes out. Assumes nothing.
+-- Bridges of the scope document's square, computed from the definition: the place on the edge is told as it comes out, and
+-- each refusal of the claim, and none, is met. Assumes nothing.
 use mathlib.Core.Path.{_≡_, refl}
 use mathlib.Core.List.{[], _∷_}
 use lib.Count.{trailingZeros}
-use lib.Ieee.{Float, binary64, add, sub, mul, div, rem, neg, lt, eq, le, ofBits, ofFields, odd, size, span, climb}
+use lib.ListN.{replicate}
+use lib.Ieee.{Float, nan, binary64, add, sub, mul, div, rem, neg, lt, eq, le, ofBits, ofFields, odd, size, span, climb}
 use lib.Ieee.{round, units, sum}
 use Rattle.answer.specs.Lowest.{lowest, lowestFrom}
 use Rattle.answer.specs.Stage.{firstRefusal}
@@ -12,7 +13,7 @@ use Rattle.root.specs.Root.{rootFinite, sqrtOf}
 use Rattle.points.specs.Points.{point, points, closing, edges}
 use Rattle.points.specs.Bad.{badNumber, badPoint, badAt, firstBad}
 use Rattle.points.specs.Distance.{squares, distanceSqOf, distanceOf}
-use Rattle.points.specs.Numbers.{zero64, one64}
+use Rattle.points.specs.Numbers.{zero64, one64, tiny}
 use Rattle.points.specs.Along.{alongOf}
 use Rattle.points.specs.Square.{four64, square}
 use Rattle.cost.specs.Closest.{clampOf}
@@ -34,6 +35,10 @@ sixteen64 = ofBits binary64 0x4030_0000_0000_0000
 abbrev thirty-two64 : Float
 thirty-two64 = ofBits binary64 0x4040_0000_0000_0000
 
+-- half of 1e-12
+abbrev half-tiny64 : Float
+half-tiny64 = ofBits binary64 0x3d61_9799_812d_ea11
+
 abbrev half64 : Float
 half64 = ofBits binary64 0x3fe0_0000_0000_0000
 
@@ -47,7 +52,7 @@ above-four64 = ofBits binary64 0x4010_0000_0000_0001
 abbrev above-one64 : Float
 above-one64 = ofBits binary64 0x3ff0_0000_0000_0001
 
--- 2 wide: in the middle of an edge; at -0, from the closing edge on, with -0 as its place; and just past a corner, which
+-- 2 wide: in the middle of an edge; at -0, from the closing edge on, with -0 as its place; and just past a corner, where
 -- the edge before it still reaches: the middle is the corner, and the place is above 1
 pub three-of-square : bridgesOf square two64 (two64 ∷ minus-zero64 ∷ above-four64 ∷ [])
     ≡ filled
@@ -80,11 +85,32 @@ unfolding bridgesOf bridgeCheck contourCheck wayCheck firstOff offTheWay badWidt
     units sum trailingZeros
 three-of-square = refl
 
--- the whole way is no centre, and its double no width; no centres are fine
-pub edges-of-square : (bridgesOf square two64 (zero64 ∷ sixteen64 ∷ []) ≡ back 18 3)
-    × (bridgesOf square thirty-two64 [] ≡ back 18 1) × (bridgesOf square two64 [] ≡ filled [])
+-- an edge of just 1e-12 and back: a point is looked for along it, and its place is told as +0
+pub one-of-tiny : bridgesOf (zero64 ∷ zero64 ∷ tiny ∷ zero64 ∷ []) tiny (half-tiny64 ∷ [])
+    ≡ filled
+    (record {
+      start = point zero64 zero64;
+      end = point tiny zero64;
+      middle = point half-tiny64 zero64;
+      edge = 0;
+      t = zero64;
+    }
+    ∷ [])
+unfolding bridgesOf bridgeCheck contourCheck wayCheck firstOff offTheWay badWidth halfOf filled bridgesAt bridgeAt
+    startsAt endsAt placeOn spotOn heldOn edgeOn marks marksFrom lowest lowestFrom firstRefusal firstBad badAt badPoint
+    badNumber points edges closing reaches lastSpot clampOf perimeterOf around alongOf distanceOf distanceSqOf squares
+    sqrtOf rootFinite halves wholeRoot digits add sub mul div rem neg lt eq le ofBits ofFields odd size span climb round
+    units sum trailingZeros
+one-of-tiny = refl
+
+-- seventeen centres; no vertex; a vertex that is no place; a contour of one point; twice the whole way for a width; the
+-- whole way for a centre; and no centres, which are fine
+pub each-answer : (bridgesOf [] zero64 (replicate 17 zero64) ≡ back 13 16) × (bridgesOf [] zero64 [] ≡ back 6 0)
+    × (bridgesOf (zero64 ∷ zero64 ∷ nan ∷ zero64 ∷ []) zero64 [] ≡ back 8 1)
+    × (bridgesOf (one64 ∷ one64 ∷ []) zero64 [] ≡ back 18 0) × (bridgesOf square thirty-two64 [] ≡ back 18 1)
+    × (bridgesOf square two64 (zero64 ∷ sixteen64 ∷ []) ≡ back 18 3) × (bridgesOf square two64 [] ≡ filled [])
 unfolding bridgesOf bridgeCheck contourCheck wayCheck firstOff offTheWay badWidth halfOf filled bridgesAt without
     lowest lowestFrom firstRefusal firstBad badAt badPoint badNumber points edges closing perimeterOf around distanceOf
     distanceSqOf squares sqrtOf rootFinite halves wholeRoot digits add sub mul div neg lt eq le ofBits ofFields odd size
     span climb round units sum trailingZeros
-edges-of-square = (refl, refl, refl)
+each-answer = (refl, refl, refl, refl, refl, refl, refl)

@@ -1,9 +1,9 @@
--- The refusals of a question about bridges, in words. Assumes nothing.
-use mathlib.Core.Path.{_≡_, refl, sym, ap, _∙_}
+-- The refusals of a question about bridges in words, the places of an answer, and what the lookups find. Assumes nothing.
+use mathlib.Core.Path.{_≡_, _∙_}
 use mathlib.Core.Bool.{Bool, true, false, not, _&&_}
 use mathlib.Core.Logic.{_⊎_, inl, inr}
-use mathlib.Core.List.{List, [], _∷_}
-use Prim.Native.Nat.{ℕ, _+_, _-_, _/_, _≤_, _<_}
+use mathlib.Core.List.{List}
+use Prim.Native.Nat.{ℕ, _+_, _-_, _≤_, _<_}
 use native.Mathlib.Omega.{arith}
 use borrow.Author.Tests.{lt-ltb, le-ltb}
 use lib.Dec.{ltb}
@@ -13,21 +13,19 @@ use Rattle.answer.specs.declared.Point.{Point}
 use Rattle.answer.specs.declared.Check.{Check}
 use Rattle.answer.specs.declared.Check.the-variants.{Fine, Refused}
 use Rattle.answer.specs.declared.Found.the-variants.{At, Absent}
-use Rattle.answer.specs.Lowest.{lowest, refuseAt, refuseIf}
-use Rattle.answer.specs.Stage.{orElse, firstRefusal}
+use Rattle.answer.specs.Lowest.{lowest}
+use Rattle.answer.specs.Stage.{firstRefusal}
 use Rattle.answer.proofs.LowestLaws.{LowestAt, Nowhere, at-is, absent-is, search-through}
-use Rattle.answer.proofs.Truth.{true-false, yes-or-no}
+use Rattle.answer.proofs.Truth.{yes-or-no}
 use Rattle.fields.specs.Limits.{vertexLimit}
-use Rattle.points.specs.Points.{noEnds, points, edges}
+use Rattle.points.specs.Points.{noEnds, edges}
 use Rattle.points.specs.Numbers.{zero64, tiny}
 use Rattle.points.specs.Bad.{badAt, firstBad}
 use Rattle.candidates.specs.Along.{lastSpot}
 use Rattle.candidates.specs.Question.{outside, contourCheck}
 use Rattle.bridge.specs.Limits.{bridgeLimit}
 use Rattle.bridge.specs.Lookup.{marks, markAt, wholeOf, fallsOn, edgeOn, spotBy, spotOn}
-use Rattle.bridge.specs.Create.{bridgesAt}
-use Rattle.bridge.specs.Question.{halfOf, finite, badWidth, offTheWay, firstOff, afterWidth, wayCheck, bridgeCheck}
-use Rattle.bridge.specs.Question.{filled, bridgesOf}
+use Rattle.bridge.specs.Question.{halfOf, badWidth, offTheWay, firstOff, wayCheck, bridgeCheck, without, bridgesOf}
 use Rattle.bridge.specs.Words as words
 use Rattle.bridge.specs.Words.{vertexCount, wayOf, Sized, Good, Long, Fits, On}
 use Rattle.bridge.proofs.MarkLaws.{marks-length, mark-first, mark-next, whole-is, held-vertex, edge-is}
@@ -42,7 +40,8 @@ told number place = Refused (record { number = number; place = place })
 
 module _ (numbers : List Float) where
   -- the number of vertices is out of range
-  sized-no : (vertexCount numbers < 1) ⊎ (vertexLimit < vertexCount numbers) → contourCheck numbers ≡ told 6 (vertexCount numbers)
+  sized-no : (vertexCount numbers < 1) ⊎ (vertexLimit < vertexCount numbers)
+      → contourCheck numbers ≡ told 6 (vertexCount numbers)
   unfolding contourCheck firstRefusal
   sized-no (inl h) = rw (lt-ltb (vertexCount numbers) 1 h)
   sized-no (inr h) =
@@ -144,7 +143,7 @@ module _ (numbers : List Float) (width : Float) (centres : List Float) where
 
   refused : (number place : ℕ) → bridgeCheck numbers width centres ≡ told number place
       → bridgesOf numbers width centres ≡ words.back number place
-  unfolding bridgesOf
+  unfolding bridgesOf without
   refused number place e = rw e
 
   answers : words.Answers numbers width centres

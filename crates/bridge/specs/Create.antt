@@ -1,7 +1,6 @@
 -- A bridge from its centre's distance along the way and half of its width. Assumes nothing.
 use mathlib.Core.Bool.{cond}
 use mathlib.Core.List.{List, map}
-use Prim.Native.Nat.{ℕ}
 use lib.ListN.{getD}
 use lib.Ieee.{Float, binary64, add, sub, div, rem, lt}
 use Rattle.answer.specs.declared.Point.{Point}

@@ -1,7 +1,7 @@
 -- The bridges of a contour, for whoever asks. Assumes nothing.
 use mathlib.Core.Bool.{Bool, true, false, not, _&&_, _||_}
 use mathlib.Core.List.{List, [], _∷_}
-use Prim.Native.Nat.{ℕ, _+_}
+use Prim.Native.Nat.{_+_}
 use lib.Dec.{ltb}
 use lib.ListN.{length, getD}
 use lib.Ieee.{Float, nan, inf, fin, binary64, div, lt, le, ofBits}
@@ -42,7 +42,7 @@ badWidth whole width = not (finite width) || (not (lt zero64 width) || not (lt (
 unfoldable pub offTheWay : Float → Float → Bool
 offTheWay whole c = not (le zero64 c && lt c whole)
 
--- the first centre that is
+-- the first centre that is off the way
 unfoldable pub firstOff : Float → List Float → Found
 firstOff whole centres = lowest (λ k. offTheWay whole (getD centres k nan)) (length centres)
 
@@ -57,7 +57,7 @@ wayCheck whole width centres =
     firstRefusal (refuseIf (lt whole tiny) 18 0 ∷ refuseIf (badWidth whole width) 18 1
     ∷ refuseAt 18 (afterWidth (firstOff whole centres)) ∷ [])
 
--- too many centres are 13 at the most; then what is wrong with the contour, 6 or 8; then 18
+-- more centres than there may be are 13 at that limit; then what is wrong with the contour, 6 or 8; then 18
 unfoldable pub bridgeCheck : List Float → Float → List Float → Check
 bridgeCheck numbers width centres =
     orElse (refuseIf (ltb bridgeLimit (length centres)) 13 bridgeLimit)

@@ -3,12 +3,12 @@
 use mathlib.Core.Path.{_≡_}
 use mathlib.Core.Bool.{true, false}
 use mathlib.Core.Logic.{_⊎_}
-use mathlib.Core.List.{List, []}
+use mathlib.Core.List.{List}
 use Prim.Native.Nat.{ℕ, suc, _+_, _/_, _≤_, _<_}
-use lib.ListN.{length, getD}
+use lib.ListN.{length, getD, replicate}
 use lib.Ieee.{Float, nan, binary64, add, lt, le}
 use Rattle.answer.specs.declared.Point.{Point}
-use Rattle.answer.specs.declared.Check.the-variants.{Refused}
+use Rattle.answer.specs.declared.Check.the-variants.{Fine, Refused}
 use Rattle.answer.specs.declared.Found.the-variants.{At, Absent}
 use Rattle.fields.specs.Limits.{vertexLimit}
 use Rattle.points.specs.Points.{noEnds, points, edges}
@@ -19,7 +19,7 @@ use Rattle.bridge.specs.declared.Bridges.{Bridges}
 use Rattle.bridge.specs.Limits.{bridgeLimit}
 use Rattle.bridge.specs.Lookup.{marks, markAt, wholeOf, fallsOn, edgeOn, spotBy, spotOn}
 use Rattle.bridge.specs.Create.{bridgeAt, bridgesAt, blank}
-use Rattle.bridge.specs.Question.{halfOf, finite, filled, without, bridgesOf}
+use Rattle.bridge.specs.Question.{halfOf, finite, filled, bridgesOf}
 
 -- ---- what is asked of a question
 
@@ -30,7 +30,7 @@ vertexCount numbers = (length numbers + 1) / 2
 abbrev pub wayOf : List Float → Float
 wayOf numbers = perimeterOf (points numbers)
 
--- as many vertices as there may be
+-- neither too few vertices nor too many
 abbrev pub Sized : List Float → Type 0
 Sized numbers = (1 ≤ vertexCount numbers) × (vertexCount numbers ≤ vertexLimit)
 
@@ -55,9 +55,14 @@ pub record On (numbers : List Float) (c : Float) : Type 0 where
 
 -- ---- the refusals
 
--- no bridges, and this refusal
+-- this refusal, and all places blank
 abbrev pub back : ℕ → ℕ → Bridges
-back number place = without (Refused (record { number = number; place = place }))
+back number place =
+    record {
+      check = Refused (record { number = number; place = place });
+      items = replicate bridgeLimit blank;
+      count = 0;
+    }
 
 pub record Answers (numbers : List Float) (width : Float) (centres : List Float) : Type 0 where
   -- more centres than there may be: 13, whatever else
@@ -86,8 +91,11 @@ pub record Answers (numbers : List Float) (width : Float) (centres : List Float)
 
 -- ---- the places of an answer
 
--- place i has centre i's bridge, and from the count on the places are blank
+-- nothing is wrong; place i has centre i's bridge, and from the count on the places, as many as there may be bridges,
+-- are blank
 pub record Places (ps : List Point) (half : Float) (centres : List Float) : Type 0 where
+  pub check : filled (bridgesAt ps (marks ps) half centres) .check ≡ Fine
+  pub size : length centres ≤ bridgeLimit → length (filled (bridgesAt ps (marks ps) half centres) .items) ≡ bridgeLimit
   pub count : filled (bridgesAt ps (marks ps) half centres) .count ≡ length centres
   pub bridge : (i : ℕ) → i < length centres
       → getD (filled (bridgesAt ps (marks ps) half centres) .items) i blank

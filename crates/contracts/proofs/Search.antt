@@ -1,7 +1,8 @@
 -- Each contract of the search's crates and of `bridge` comes to its definition. Assumes nothing.
 use mathlib.Core.Path.{refl}
 use Rattle.contracts.proofs.Laws.{same, _&_, told, lent, alike}
-use Rattle.contracts.specs.Search.{OfCandidates, OfBridge, OfTable, OfStart, OfImprove, OfInstance, OfSolve, Claim}
+use Rattle.contracts.specs.Search.{OfCandidates, OfBridge, OfTable, OfStart, OfImprove, OfInstance, OfSolve}
+use Rattle.contracts.specs.Search.{Claim}
 
 of-candidates : OfCandidates
 of-candidates = record {

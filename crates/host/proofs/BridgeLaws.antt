@@ -1,11 +1,10 @@
 -- How bridges come to stand in a host's room, one at a time. Assumes nothing.
 use mathlib.Core.Path.{_≡_, refl, sym, ap, _∙_}
 use mathlib.Core.List.{List, [], _∷_, _++_, append-nil, append-assoc}
-use Prim.Native.Nat.{ℕ, zero, suc, _+_, _*_, _≤_, _<_}
-use native.Mathlib.Nat.{add-zero, add-suc, suc-add, zero-add}
+use Prim.Native.Nat.{ℕ, suc, _+_, _*_, _<_}
 use native.Mathlib.Numerals.{add-one}
 use native.Mathlib.Omega.{arith}
-use lib.ListN.{length, getD, set, take, length-append}
+use lib.ListN.{length, getD, set, take}
 use lib.Seq.{sets, take-suc, length-take-le}
 use lib.Ieee.{Float, nan}
 use Rattle.answer.specs.declared.Refusal.{Refusal}
@@ -19,8 +18,8 @@ use Rattle.host.specs.Bridges.{eightOf, numbersOf, spanned, hostBridges}
 
 -- eight stores in a row
 pub eight-stores : (l : List Float) (at : ℕ) (a b c d e f g h : Float)
-    → set (set (set (set (set (set (set (set l at a) (at + 1) b) (at + 2) c) (at + 3) d) (at + 4) e) (at + 5) f) (at + 6) g)
-    (at + 7) h
+    → set (set (set (set (set (set (set (set l at a) (at + 1) b) (at + 2) c) (at + 3) d) (at + 4) e) (at + 5) f)
+    (at + 6) g) (at + 7) h
     ≡ sets l at (a ∷ b ∷ c ∷ d ∷ e ∷ f ∷ g ∷ h ∷ [])
 eight-stores l at a b c d e f g h =
     let e1 : at + 1 ≡ suc at = omega arith in
@@ -49,7 +48,8 @@ pub numbers-more : (l : List Bridge) (b : Bridge) → numbersOf (l ++ (b ∷ [])
 unfolding numbersOf
 numbers-more [] b = append-nil (eightOf b)
 numbers-more (x ∷ l) b =
-    ap (λ (r : List Float). eightOf x ++ r) (numbers-more l b) ∙ sym (append-assoc (eightOf x) (numbersOf l) (eightOf b))
+    ap (λ (r : List Float). eightOf x ++ r) (numbers-more l b)
+    ∙ sym (append-assoc (eightOf x) (numbersOf l) (eightOf b))
 
 -- never read: all places are there
 abbrev noBridge : Bridge
@@ -86,7 +86,8 @@ module _ (numbers : List Float) (width : Float) (centres room : List Float) (a :
   unfolding hostBridges
   bridges-refused r x c e = rw (← is, c, e)
 
-  pub bridges-fine : (after : List Float) → a .check ≡ Fine → after ≡ sets room 0 (numbersOf (take (a .count) (a .items)))
+  pub bridges-fine : (after : List Float) → a .check ≡ Fine
+      → after ≡ sets room 0 (numbersOf (take (a .count) (a .items)))
       → spanned 0 after ≡ hostBridges numbers width centres room
   unfolding hostBridges
   bridges-fine after c e = rw (← is, c, e)

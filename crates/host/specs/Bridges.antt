@@ -1,5 +1,6 @@
 -- What a host is told of bridges, eight numbers each, at the front of a room for the most there are. Assumes nothing.
 use mathlib.Core.Path.{_≡_}
+use mathlib.Core.Logic.{_↔_}
 use mathlib.Core.List.{List, [], _∷_, _++_}
 use Prim.Native.Nat.{ℕ, _+_, _*_, _<_}
 use lib.IntN.{pos}
@@ -29,7 +30,7 @@ eightOf b =
     b .start .x ∷ b .start .y ∷ b .end .x ∷ b .end .y ∷ b .middle .x ∷ b .middle .y ∷ ofInt binary64 (pos (b .edge))
     ∷ b .t ∷ []
 
--- those of one after another
+-- the numbers of all, one bridge after another
 unfoldable pub numbersOf : List Bridge → List Float
 numbersOf [] = []
 numbersOf (b ∷ more) = eightOf b ++ numbersOf more
@@ -60,6 +61,7 @@ hostBridges numbers width centres room = bridgesTold (bridgesOf numbers width ce
 -- in a room for the most bridges: 0 exactly where nothing is wrong, with a bridge for each centre at the front and the
 -- rest as it was; a refusal keeps all of it
 pub record Told (numbers : List Float) (width : Float) (centres room : List Float) : Type 0 where
+  pub good : (hostBridges numbers width centres room .answer ≡ 0) ↔ (bridgeCheck numbers width centres ≡ Fine)
   pub fine : bridgeCheck numbers width centres ≡ Fine
       → hostBridges numbers width centres room
       ≡ spanned 0 (placed (numbersOf (bridgesAt (points numbers) (marks (points numbers)) (halfOf width) centres)) room)

@@ -1,6 +1,6 @@
-// What C and Rust hosts call: the card's check, its tour, where a candidate is, a card fed in pieces, and the bridges of a contour. Each answers one number, 0 or the
-// refusal's number times 2^32 plus its place, and tells the rest through lent numbers that a refusal keeps, but for a feed's state, which an
-// asking ends unless it is refused for the byte room.
+// What C and Rust hosts call: the card's check, its tour, where a candidate is, a card fed in pieces, and the bridges of a contour. Each
+// answers one number, 0 or the refusal's number times 2^32 plus its place, and tells the rest through lent numbers that a refusal keeps, but
+// for a feed's state, which an asking ends unless it is refused for the byte room.
 ghost use mathlib.Core.Path.{_≡_};
 ghost use Prim.Native.Nat.{_*_, _^_, _≤_, _<_};
 ghost use lib.ListN.{length, take};
@@ -8,9 +8,9 @@ ghost use lib.Seq.{sets};
 ghost use Rattle.answer.specs.declared.Check.the-variants.{Refused};
 ghost use Rattle.answer.specs.Code.{codeOf};
 ghost use Rattle.card.specs.Verdict.{checkOf};
+ghost use Rattle.bridge.specs.Limits.{bridgeLimit};
 ghost use Rattle.questions.specs.Index.{locatedOf};
 ghost use Rattle.host.specs.Hosts.{hosted, hostTour, pointed, hostPlace};
-ghost use Rattle.bridge.specs.Limits.{bridgeLimit};
 ghost use Rattle.host.specs.Bridges.{eightOf, numbersOf, spanned, hostBridges};
 ghost use Rattle.host.specs.Feeds.{bitOf, numberOf, stateOf, hostFed, hostFeed, hostAsked, hostAsk};
 use answer::Check;

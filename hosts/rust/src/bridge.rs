@@ -28,8 +28,8 @@ pub struct Bridge {
     pub middle: [f64; 2],
     /// The edge that the middle is on, by the vertex at which the edge starts.
     pub edge: usize,
-    /// How far along that edge the centre is, from 0 to 1; it is told as it comes out, so it may be -0, or a little above 1
-    /// where the middle is the edge's end.
+    /// How far along that edge the centre is, 0 at its start and 1 at its end. It is told as it comes out: -0 for a centre of
+    /// -0, above 1 where the centre is up to 1e-12 past the edge's end; on an edge not longer than 1e-12 it is 0.
     pub place: f64,
 }
 

@@ -1,4 +1,4 @@
-//! A card's limits: the numbers that the proved code names, taken from its source, and what follows from them.
+//! The limits of a card and of bridges: the numbers that the proved code names, taken from its source, and what follows from them.
 
 /// Where the code names the limits on contours and pairs, those of a card, that on bridges, and the size of a block.
 const PAIRS_CODE: &str = include_str!("../../../crates/closure/src/lib.rt");

@@ -86,7 +86,7 @@ pub enum Refusal {
     Centres,
     /// The contour for which bridges were asked has no vertex, or more than [`VERTICES`].
     VertexCount {
-        /// How many there are; any number above it is told as 2^32 - 1.
+        /// How many there are; 2^32 - 1 where there are more.
         count: u32,
     },
     /// A vertex of that contour has a coordinate that is not finite or too large.
@@ -255,7 +255,7 @@ fn codes() {
             assert_eq!((u64::from(refusal.number()), u64::from(refusal.place())), (number, place));
         }
     }
-    for (number, places) in [(6, 0..80), (8, 0..30), (13, 16..17), (18, 0..18)] {
+    for (number, places) in [(6, 0..80), (8, 0..30), (13, BRIDGES as u64..BRIDGES as u64 + 1), (18, 0..18)] {
         for place in places {
             let refusal = Refusal::of_bridges((number << 32) + place).unwrap_err();
             assert_eq!((u64::from(refusal.number()), u64::from(refusal.place())), (number, place));

@@ -160,10 +160,10 @@ fn tour() {
     );
 }
 
-/// Bridges of regular outlines: four on one of few vertices, and the most on one of the most.
+/// Bridges of regular outlines: four on those of few vertices, and the most on one of the most.
 #[cfg(feature = "original")]
 fn bridges() {
-    use oracle::limits::{BRIDGES, VERTICES};
+    use oracle::limits::{BRIDGE_NUMBERS, BRIDGES, VERTICES};
     use oracle::{bridge, exports};
     use std::hint::black_box;
     const CALLS: usize = 100;
@@ -175,7 +175,7 @@ fn bridges() {
         let numbers: Vec<f64> = (0..v).flat_map(vertex).collect();
         let centres: Vec<f64> = (0..count).map(|k| 440.0 * (k as f64 + 0.5) / count as f64).collect();
         let q = bridge::Asked { numbers, width: 2.0, centres };
-        let mut room = [0.0; 8 * BRIDGES];
+        let mut room = [0.0; BRIDGE_NUMBERS];
         let (ours, theirs) = both(
             300,
             || {

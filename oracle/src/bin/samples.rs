@@ -1,5 +1,5 @@
-//! `samples [FOLDER]`: writes the cards of examples/ and, from the mended original's answers, their lists and bridges; with the folder of
-//! the crate `replay` also its cards and what it must print.
+//! `samples [FOLDER]`: writes the cards of examples/ and, from the mended original's answers, their lists and the bridges of
+//! a contour; with the folder of the crate `replay` also its cards and what it must print.
 
 use oracle::answer::printed;
 use oracle::bridge;

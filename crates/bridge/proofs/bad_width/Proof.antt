@@ -1,5 +1,5 @@
 -- `bridge::bad_width` meets its contract: each way out is a law of widths. Assumes nothing.
-use mathlib.Core.Path.{sym, _∙_, ap}
+use mathlib.Core.Path.{sym}
 use borrow.Author.Needs.{needs}
 use Rattle.bridge.proofs.QuestionLaws.{width-fits, too-wide, not-above}
 use Rattle.bridge.proofs.bad_width.Statement.{statement}

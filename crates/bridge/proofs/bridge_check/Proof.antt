@@ -1,7 +1,6 @@
 -- `bridge::bridge_check` meets its contract: how many centres, else the contour, else the way. Assumes nothing.
 use borrow.Author.Needs.{needs}
 use borrow.Author.Tests.{lt-ltb, le-ltb}
-use native.Mathlib.Omega.{arith}
 use Rattle.bridge.specs.Question.{bridgeCheck}
 use Rattle.bridge.proofs.bridge_check.Statement.{statement}
 use Rattle.bridge.proofs.bridge_check.Tie as tie

@@ -33,7 +33,8 @@ each-centre-requires c κs = let p = c .before .before .before .before .before i
 returns : tie.Need-returns
 unfolding bridgesOf
 returns c =
-    rw (← (c .before .before .before .bridge-check .ensures)) (c .without .ensures ∙ rw (c .before .enum-told .given .1))
+    rw (← (c .before .before .before .bridge-check .ensures))
+    (c .without .ensures ∙ rw (c .before .enum-told .given .1))
 
 returns-2 : tie.Need-returns-2
 unfolding bridgesOf

@@ -3,7 +3,6 @@
 use mathlib.Core.Path.{_≡_}
 use Prim.Native.Nat.{_≤_, _-_}
 use native.Mathlib.Omega.{arith}
-use borrow.Author.Needs.{needs}
 use lib.ListN.{length}
 use Rattle.points.specs.Points.{points}
 use Rattle.bridge.specs.Create.{bridgesAt}
@@ -36,7 +35,8 @@ returns : tie.Need-returns Inv-loop μ-loop
 returns c =
     let s = c .before .before .before .before .before .before .args in
     rw (c .before .loop .inv .1)
-    (room-full (points (s .numbers .now)) (s .marks .now) (s .half) (s .centres .now) (c .before .loop .k) (omega arith))
+    (room-full (points (s .numbers .now)) (s .marks .now) (s .half) (s .centres .now) (c .before .loop .k)
+    (omega arith))
 
 pub each-centre-spec : {M : Type 1} → statement M
 each-centre-spec =

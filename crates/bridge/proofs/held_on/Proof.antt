@@ -19,4 +19,6 @@ returns-2 c =
     )
 
 pub held-on-spec : {M : Type 1} → statement M
-held-on-spec = tie.close (tie.spec (λ c κs. search needs) returns (λ c κs. search needs) (λ c κs. search needs) returns-2)
+held-on-spec =
+    tie.close
+    (tie.spec (λ c κs. search needs) returns (λ c κs. search needs) (λ c κs. search needs) returns-2)

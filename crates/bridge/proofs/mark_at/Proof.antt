@@ -1,4 +1,4 @@
--- `bridge::mark_at` meets its contract: past the end a list reads 0. Assumes nothing.
+-- `bridge::mark_at` meets its contract: past the end it is no number. Assumes nothing.
 use borrow.Author.Needs.{needs}
 use lib.ListN.{List·getD-eq-default}
 use lib.Ieee.{nan, div, ofBits}

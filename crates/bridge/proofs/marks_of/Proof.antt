@@ -2,7 +2,6 @@
 -- room. Assumes nothing.
 use Prim.Native.Nat.{_≤_, _-_, _/_}
 use native.Mathlib.Omega.{arith}
-use borrow.Author.Needs.{needs}
 use lib.ListN.{length}
 use Rattle.bridge.proofs.MarkLaws.{Marked, marked-start, marked-step, marked-all}
 use Rattle.bridge.proofs.marks_of.Statement.{statement}

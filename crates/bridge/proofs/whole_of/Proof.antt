@@ -1,4 +1,4 @@
--- `bridge::whole_of` meets its contract: the last mark, 0 where there is none. Assumes nothing.
+-- `bridge::whole_of` meets its contract: the last mark, no number where there is none. Assumes nothing.
 use mathlib.Core.Path.{_∙_}
 use borrow.Author.Needs.{needs}
 use Rattle.bridge.proofs.MarkLaws.{no-marks}

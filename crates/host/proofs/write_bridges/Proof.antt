@@ -1,8 +1,8 @@
--- `host::write_bridges` meets its contract. The loop's invariant: the first k bridges stand in the room. Assumes nothing.
+-- `host::write_bridges` meets its contract. The loop's invariant: the first k bridges stand in the room. Assumes
+-- nothing.
 use mathlib.Core.Path.{_≡_, refl}
 use Prim.Native.Nat.{_≤_, _-_}
 use native.Mathlib.Omega.{arith}
-use borrow.Author.Needs.{needs}
 use Rattle.host.proofs.BridgeLaws.{Stood, stood-none, stood-more}
 use Rattle.host.proofs.write_bridges.Statement.{statement}
 use Rattle.host.proofs.write_bridges.Tie as tie
