@@ -1,5 +1,5 @@
--- Bridges of the scope document's square, computed from the definition: the place on the edge is told as it comes out, and
--- each refusal of the claim, and none, is met. Assumes nothing.
+-- Bridges of the scope document's square, computed from the definition: the place on the edge is told as it comes out,
+-- and each refusal of the claim, and none, is met. Assumes nothing.
 use mathlib.Core.Path.{_≡_, refl}
 use mathlib.Core.List.{[], _∷_}
 use lib.Count.{trailingZeros}
@@ -52,8 +52,8 @@ above-four64 = ofBits binary64 0x4010_0000_0000_0001
 abbrev above-one64 : Float
 above-one64 = ofBits binary64 0x3ff0_0000_0000_0001
 
--- 2 wide: in the middle of an edge; at -0, from the closing edge on, with -0 as its place; and just past a corner, where
--- the edge before it still reaches: the middle is the corner, and the place is above 1
+-- 2 wide: in the middle of an edge; at -0, from the closing edge on, with -0 as its place; and past a corner by no more
+-- than the edge before it reaches: the middle is the corner, and the place is above 1
 pub three-of-square : bridgesOf square two64 (two64 ∷ minus-zero64 ∷ above-four64 ∷ [])
     ≡ filled
     (record {

@@ -1,4 +1,4 @@
--- The refusals of a question about bridges in words, the places of an answer, and what the lookups find. Assumes nothing.
+-- The refusals of a question about bridges in words, an answer's places, and what the lookups find. Assumes nothing.
 use mathlib.Core.Path.{_≡_, _∙_}
 use mathlib.Core.Bool.{Bool, true, false, not, _&&_}
 use mathlib.Core.Logic.{_⊎_, inl, inr}
@@ -25,7 +25,8 @@ use Rattle.candidates.specs.Along.{lastSpot}
 use Rattle.candidates.specs.Question.{outside, contourCheck}
 use Rattle.bridge.specs.Limits.{bridgeLimit}
 use Rattle.bridge.specs.Lookup.{marks, markAt, wholeOf, fallsOn, edgeOn, spotBy, spotOn}
-use Rattle.bridge.specs.Question.{halfOf, badWidth, offTheWay, firstOff, wayCheck, bridgeCheck, without, bridgesOf}
+use Rattle.bridge.specs.Question.{halfOf, badWidth, offTheWay, firstOff, wayCheck, bridgeCheck, without}
+use Rattle.bridge.specs.Question.{bridgesOf}
 use Rattle.bridge.specs.Words as words
 use Rattle.bridge.specs.Words.{vertexCount, wayOf, Sized, Good, Long, Fits, On}
 use Rattle.bridge.proofs.MarkLaws.{marks-length, mark-first, mark-next, whole-is, held-vertex, edge-is}

@@ -56,8 +56,8 @@ pub record CardRead (s : List ℕ) : Type 0 where
       → Decodes (hostPlace (locatedOf s candidate) contour within .answer) r
 
 -- a candidate's number, asked on a fine card: 0 where there is such a candidate, else 15 with the number asked for as
--- its place. That can be any number of 64 bits, so of what is asked on a card here alone a place can be cut: one of more
--- than 32 bits is told as the largest of 32
+-- its place. That can be any number of 64 bits, so of what is asked on a card here alone a place can be cut: one of
+-- more than 32 bits is told as the largest of 32
 pub record NumberRead (s : List ℕ) (candidate contour within : ℕ) : Type 0 where
   pub good : candidate < countOn s → hostPlace (locatedOf s candidate) contour within .answer ≡ 0
   pub none : countOn s ≤ candidate
