@@ -1,5 +1,5 @@
 /* bridges CONTOUR WIDTH CENTRE..: prints the bridges of a contour of the card on standard input, a line for each centre: the
- * points at which it starts, ends and has its middle, the edge that the middle is on, and its place on that edge. */
+ * points at which it starts, ends and has its middle, the edge that the middle is on, and the centre's place on that edge. */
 #include "jambolive.h"
 
 #include <inttypes.h>

@@ -1,4 +1,5 @@
-/* In which order to cut a sheet, and where to leave bridges: the calls of the proved library, target/staticlib/libhost.a (and -lm).
+/* In which order to cut a sheet, and where to leave bridges: the calls of the proved library, target/staticlib/libhost.a
+ * (and -lm).
  *
  * A card is any `bytes` bytes at `card`. Every call answers one number: 0, or why it refuses, as the refusal's
  * number times 2^32 plus its place; docs/CARD.md says what each number and place means. Nothing that is lent is kept,
@@ -101,9 +102,10 @@ uint64_t jl_ask(uint64_t *state, const uint8_t *held, size_t held_room, uint8_t 
  * y of each vertex, so `numbers` is twice their count; a bridge is `width` wide, and its centre is a distance along the way
  * around the contour, from the first vertex on. Writes eight numbers for each of the `count` centres to the front of `room`:
  * x and y where the bridge starts, where it ends and of its middle, the edge that the middle is on (by the vertex at which
- * it starts), and the centre's place on that edge, 0 at its start and 1 at its end. The middle is never past the edge's
- * ends. The place is told as it comes out: -0 for a centre of -0, above 1 where the centre is up to 1e-12 past the edge's
- * end; on an edge not longer than 1e-12 it is 0. The rest of the room is kept.
+ * it starts), and the centre's place on that edge, 0 at its start and 1 at its end. A point is taken at a share of its edge
+ * that is held to 0 to 1. The place is told as it comes out: -0 for a centre of -0, and it can be above 1 where the centre is
+ * at the edge's end, or past it by no more than the 1e-12 by which the end is taken further; on an edge not longer than
+ * 1e-12 it is 0. The rest of the room is kept.
  * Refusals, the first that applies: 13 at JL_BRIDGES, more centres than that; 6, no vertex or more than JL_VERTICES, with
  * their count as its place (2^32 - 1 for any above it), a vertex without its y counted; 8, a coordinate of the vertex at its
  * place is not finite or too large, or is missing; 18 at 0, the way is shorter than 1e-12; 18 at 1, the width is not finite,

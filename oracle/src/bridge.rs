@@ -224,7 +224,7 @@ impl Met {
         let (half, whole) = (q.width / 2.0, whole(&marks));
         let all = bridges(q);
         let any = |test: &dyn Fn(&Bridge) -> bool| all.iter().any(test);
-        self.around.count(any(&|b| b.perimeter_distance < half || b.perimeter_distance + half >= whole));
+        self.around.count(any(&|b| b.perimeter_distance < half || b.perimeter_distance + half > whole));
         self.several.count(any(&|b| {
             let (from, to) = (b.perimeter_distance - half, b.perimeter_distance + half);
             marks.iter().filter(|&&m| from < m && m < to).count() > 1
@@ -232,7 +232,7 @@ impl Met {
         self.past.count(any(&|b| b.edge_t > 1.0));
         self.minus.count(any(&|b| b.edge_t.to_bits() == (-0.0f64).to_bits()));
         self.short.count(any(&|b| (0.4 * TINY..2.5 * TINY).contains(&lengths[b.edge_index])));
-        // within an edge of just that length: the two tests against it tell it apart
+        // there the two tests against that length differ
         self.tiny.count(any(&|b| lengths[b.edge_index] == TINY && b.perimeter_distance > marks[b.edge_index]));
     }
 }

@@ -1,5 +1,5 @@
--- Bridges of the scope document's square, computed from the definition: the place on the edge is told as it comes out,
--- and each refusal of the claim, and none, is met. Assumes nothing.
+-- Bridges computed from the definition, most of them of the square of points' Square: the place on the edge is told as
+-- it comes out, and each refusal of the claim, and none, is met. Assumes nothing.
 use mathlib.Core.Path.{_≡_, refl}
 use mathlib.Core.List.{[], _∷_}
 use lib.Count.{trailingZeros}
@@ -103,8 +103,8 @@ unfolding bridgesOf bridgeCheck contourCheck wayCheck firstOff offTheWay badWidt
     units sum trailingZeros
 one-of-tiny = refl
 
--- seventeen centres; no vertex; a vertex that is no place; a contour of one point; twice the whole way for a width; the
--- whole way for a centre; and no centres, which are fine
+-- seventeen centres; no vertex; a coordinate that is no number; a contour of one point; twice the whole way for a width;
+-- the whole way for a centre; and no centres, which are fine
 pub each-answer : (bridgesOf [] zero64 (replicate 17 zero64) ≡ back 13 16) × (bridgesOf [] zero64 [] ≡ back 6 0)
     × (bridgesOf (zero64 ∷ zero64 ∷ nan ∷ zero64 ∷ []) zero64 [] ≡ back 8 1)
     × (bridgesOf (one64 ∷ one64 ∷ []) zero64 [] ≡ back 18 0) × (bridgesOf square thirty-two64 [] ≡ back 18 1)

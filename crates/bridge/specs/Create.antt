@@ -23,7 +23,7 @@ startsAt whole half c = rem binary64 (add binary64 (sub binary64 c half) whole) 
 unfoldable pub endsAt : Float → Float → Float → Float
 endsAt whole half c = rem binary64 (add binary64 c half) whole
 
--- the bridge with its centre at the distance c: the edge is the middle's, and so is the place on it
+-- the bridge with its centre at the distance c: the edge is the middle's, and the place is the centre's on it
 unfoldable pub bridgeAt : List Point → List Float → Float → Float → Bridge
 bridgeAt ps ms half c =
     let middle = spotOn ps ms c in

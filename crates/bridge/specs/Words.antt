@@ -91,8 +91,8 @@ pub record Answers (numbers : List Float) (width : Float) (centres : List Float)
 
 -- ---- the places of an answer
 
--- nothing is wrong; place i has centre i's bridge, and from the count on the places, as many as there may be bridges,
--- are blank
+-- nothing is wrong; there are as many places as there may be bridges; place i has centre i's bridge, and from the count
+-- on they are blank
 pub record Places (ps : List Point) (half : Float) (centres : List Float) : Type 0 where
   pub check : filled (bridgesAt ps (marks ps) half centres) .check ≡ Fine
   pub size : length centres ≤ bridgeLimit → length (filled (bridgesAt ps (marks ps) half centres) .items) ≡ bridgeLimit

@@ -1,5 +1,5 @@
 // Holding bridges: stretches of a contour that stay uncut, so that its part does not tip up. From a contour, a width and the centres along its
-// way, each bridge's start, end and middle, the edge that the middle is on, and the middle's place on that edge.
+// way, each bridge's start, end and middle, the edge that the middle is on, and the centre's place on that edge.
 ghost use mathlib.Core.Path.{_≡_};
 ghost use Prim.Native.Nat.{_/_, _≤_};
 ghost use lib.ListN.{length};
@@ -25,7 +25,7 @@ pub const BRIDGES: usize = 16;
 // A mark for each vertex, and one for the end of the way.
 const MARKS: usize = VERTICES + 1;
 
-// A stretch that stays uncut: where it starts, ends and has its middle, the edge that the middle is on, and how far along that edge it is.
+// A stretch that stays uncut: where it starts, ends and has its middle, the edge that the middle is on, and how far along that edge the centre is.
 pub struct Bridge {
     pub start: Point,
     pub end: Point,
@@ -94,7 +94,7 @@ fn edge_on(marks: &[f64], d: f64) -> Found
     Found::Absent
 }
 
-// The place at the distance d on edge k, which begins at `before`, and not past the edge's ends.
+// The place at the distance d on edge k, which begins at `before`: at a share of the edge that is held to 0 to 1.
 fn held_on(d: f64, k: usize, before: f64, e: Ends) -> Spot
     ensures { λ r. ⌜ r ≡ heldOn d k before e ⌝ }
 {

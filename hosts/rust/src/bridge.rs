@@ -29,7 +29,8 @@ pub struct Bridge {
     /// The edge that the middle is on, by the vertex at which the edge starts.
     pub edge: usize,
     /// How far along that edge the centre is, 0 at its start and 1 at its end. It is told as it comes out: -0 for a centre of
-    /// -0, above 1 where the centre is up to 1e-12 past the edge's end; on an edge not longer than 1e-12 it is 0.
+    /// -0, and it can be above 1 where the centre is at the edge's end, or past it by no more than the 1e-12 by which the end
+    /// is taken further; on an edge not longer than 1e-12 it is 0.
     pub place: f64,
 }
 
