@@ -103,8 +103,8 @@ unfolding bridgesOf bridgeCheck contourCheck wayCheck firstOff offTheWay badWidt
     units sum trailingZeros
 one-of-tiny = refl
 
--- seventeen centres; no vertex; a coordinate that is no number; a contour of one point; twice the whole way for a width;
--- the whole way for a centre; and no centres, which are fine
+-- seventeen centres; no vertex; a coordinate that is no number; a contour of one point; twice the whole way for a
+-- width; the whole way for a centre; and no centres, which are fine
 pub each-answer : (bridgesOf [] zero64 (replicate 17 zero64) ≡ back 13 16) × (bridgesOf [] zero64 [] ≡ back 6 0)
     × (bridgesOf (zero64 ∷ zero64 ∷ nan ∷ zero64 ∷ []) zero64 [] ≡ back 8 1)
     × (bridgesOf (one64 ∷ one64 ∷ []) zero64 [] ≡ back 18 0) × (bridgesOf square thirty-two64 [] ≡ back 18 1)
