@@ -121,7 +121,8 @@ says 1 'crates/contracts/proofs has no OfBlock'
 # ---- limits.sh
 script=limits.sh
 says_limits() { # STATUS TEXT WHERE OLD NEW: how it ends where a file of the tree says another number
-    for file in crates/closure/src/lib.rt crates/fields/src/lib.rt crates/block/src/lib.rt hosts/c/jambolive.h docs/CARD.md; do
+    for file in crates/closure/src/lib.rt crates/fields/src/lib.rt crates/block/src/lib.rt crates/bridge/src/lib.rt \
+        hosts/c/jambolive.h docs/CARD.md; do
         mkdir -p "$(dirname "$tree/$file")"
         cp "$here/../$file" "$tree/$file"
     done
@@ -133,5 +134,6 @@ says_limits 0 "say the code's" hosts/c/jambolive.h none none
 says_limits 1 "hosts/c/jambolive.h: no line begins «#define JL_CONTOURS $most" hosts/c/jambolive.h "JL_CONTOURS $most" 'JL_CONTOURS 79'
 says_limits 1 "docs/CARD.md: no line begins «| 4 | n, contours" docs/CARD.md "at most $most |" 'at most 79 |'
 says_limits 1 'docs/CARD.md: no line begins «| 13 | then' docs/CARD.md 'the longest card | [0-9]*' 'the longest card | 1'
+says_limits 1 'docs/CARD.md: no line begins «up to 17 centres' crates/bridge/src/lib.rt 'BRIDGES: usize = 16' 'BRIDGES: usize = 17'
 says_limits 1 'docs/CARD.md: no line begins' crates/fields/src/lib.rt 'PASSES: usize = 1' 'PASSES: usize = 2'
 says_limits 1 'the longest card is not the one with the most' crates/closure/src/lib.rt 'PAIRS: usize = ' 'PAIRS: usize = 9'
