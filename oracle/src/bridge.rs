@@ -1,6 +1,7 @@
 //! The bridges of a contour against the original's `create_bridge`; the refusals against the request.
 
-use crate::cost::{first_bad, points};
+use crate::candidates::contour_refusal;
+use crate::cost::points;
 use crate::doors::refused;
 use crate::exports::{self, UNTOUCHED};
 use crate::generate::outline;
@@ -45,18 +46,10 @@ fn refusal(q: &Asked) -> Option<u64> {
     if q.centres.len() > BRIDGES {
         return Some(refused(13, BRIDGES as u64));
     }
-    let v = q.numbers.len().div_ceil(2);
-    if !(1..=VERTICES).contains(&v) {
-        return Some(refused(6, v as u64));
+    if let Some(code) = contour_refusal(&q.numbers) {
+        return Some(code);
     }
-    let vertices = points(&q.numbers);
-    if let Some(k) = first_bad(&vertices) {
-        return Some(refused(8, k));
-    }
-    if vertices.len() < v {
-        return Some(refused(8, vertices.len() as u64));
-    }
-    let whole = whole(&way(&vertices).1);
+    let whole = whole(&way(&points(&q.numbers)).1);
     if whole < TINY {
         return Some(refused(18, 0));
     }

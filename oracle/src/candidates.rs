@@ -64,21 +64,24 @@ fn told(c: &PierceCandidate) -> Told {
     (place.map(f64::to_bits), c.vertex_index, u64::from(c.direction == CutDirection::Cw))
 }
 
+/// The refusal that is due for a contour alone, if one is: its count of vertices, a part of one counted, or the first bad one.
+pub fn contour_refusal(numbers: &[f64]) -> Option<u64> {
+    let (v, vertices) = (numbers.len().div_ceil(2), points(numbers));
+    if !(1..=VERTICES).contains(&v) {
+        return Some(refused(6, v as u64));
+    }
+    let part = (vertices.len() < v).then_some(vertices.len() as u64);
+    first_bad(&vertices).or(part).map(|k| refused(8, k))
+}
+
 fn theirs(q: &Asked) -> Result<Vec<Told>, u64> {
-    let v = q.numbers.len().div_ceil(2);
-    let vertices = points(&q.numbers);
     if !(1..=PER_CONTOUR).contains(&q.c) {
         return Err(refused(4, 3));
     }
-    if !(1..=VERTICES).contains(&v) {
-        return Err(refused(6, v as u64));
+    if let Some(code) = contour_refusal(&q.numbers) {
+        return Err(code);
     }
-    if let Some(k) = first_bad(&vertices) {
-        return Err(refused(8, k));
-    }
-    if vertices.len() < v {
-        return Err(refused(8, vertices.len() as u64));
-    }
+    let vertices = points(&q.numbers);
     let contour = Contour { interior: q.interior, vertices, ..Contour::default() };
     let config = CuttingConfig {
         exterior_direction: crate::answer::preference(q.preferences[0]),

@@ -58,6 +58,10 @@ pub marks-length : (ps : List Point) → length (marks ps) ≡ suc (length ps)
 unfolding marks
 marks-length ps = from-length zero64 (edges ps) ∙ ap suc (edges-length ps)
 
+-- of a contour's numbers
+marks-long : (n : List Float) → length (marks (points n)) ≡ suc (length n / 2)
+marks-long n = marks-length (points n) ∙ ap suc (points-length n)
+
 pub mark-first : (ps : List Point) → markAt (marks ps) 0 ≡ zero64
 unfolding marks
 mark-first ps = from-first zero64 (edges ps)
@@ -111,7 +115,7 @@ module _ (n : List Float) where
   marked-step sum room k h few (s, r) =
       let ms = marks (points n) in
       let e = edgeLength (getD (edges (points n)) k noEnds) in
-      let long : length ms ≡ suc (length n / 2) = marks-length (points n) ∙ ap suc (points-length n) in
+      let long = marks-long n in
       let here : add binary64 sum e ≡ markAt ms (suc k) =
       ap (λ (x : Float). add binary64 x e) s ∙ sym (mark-next (points n) k (rw points-length h)) in
       let there : length (take (suc k) ms) ≡ suc k = length-take-le (suc k) ms (omega arith) in
@@ -126,7 +130,7 @@ module _ (n : List Float) where
       → room ≡ padded markLimit zero64 (marks (points n))
   marked-all sum room k e (s, r) =
       let ms = marks (points n) in
-      let long : length ms ≡ suc (length n / 2) = marks-length (points n) ∙ ap suc (points-length n) in
+      let long = marks-long n in
       r ∙ ap (λ (l : List Float). padded markLimit zero64 l) (take-all (suc k) ms (omega arith))
 
 -- ---- how they are lent
@@ -135,18 +139,18 @@ module _ (n room : List Float) (few : length n / 2 ≤ vertexLimit)
     (is : room ≡ padded markLimit zero64 (marks (points n))) where
   pub marks-held : length n / 2 + 1 ≤ length room
   marks-held =
-      let long : length (marks (points n)) ≡ suc (length n / 2) = marks-length (points n) ∙ ap suc (points-length n) in
+      let long = marks-long n in
       rw (is, padded-length markLimit zero64 (marks (points n)) (omega arith)) (omega arith)
 
   -- as many as there are
   pub marks-lent : take (length n / 2 + 1) room ≡ marks (points n)
   marks-lent =
-      let long : length (marks (points n)) ≡ suc (length n / 2) = marks-length (points n) ∙ ap suc (points-length n) in
+      let long = marks-long n in
       rw is (padded-front markLimit zero64 (marks (points n)) (length n / 2 + 1) (omega arith))
 
   pub marks-count : length n / 2 + 1 ≡ length (take (length n / 2 + 1) room)
   marks-count =
-      let long : length (marks (points n)) ≡ suc (length n / 2) = marks-length (points n) ∙ ap suc (points-length n) in
+      let long = marks-long n in
       rw marks-lent (omega arith)
 
 -- ---- the edge found is a candidate's

@@ -1,6 +1,6 @@
 -- Which of its cases a question's check is in. Assumes nothing.
 use mathlib.Core.Path.{_≡_, refl}
-use mathlib.Core.Bool.{Bool, true, false, not, _||_}
+use mathlib.Core.Bool.{Bool, true, false, not, or-true}
 use mathlib.Core.List.{List}
 use Prim.Native.Nat.{ℕ, _+_, _/_, _≤_, _<_}
 use native.Mathlib.Omega.{arith}
@@ -45,20 +45,11 @@ width-fits whole width a h = rw (narrow-finite whole width a h, a, h)
 
 pub too-wide : (whole width : Float) → lt (halfOf width) whole ≡ false → badWidth whole width ≡ true
 unfolding badWidth
-too-wide whole width h = rw h (at-last (not (finite width)) (not (lt zero64 width)))
-  where
-    at-last : (a b : Bool) → (a || (b || true)) ≡ true
-    at-last true b = refl
-    at-last false true = refl
-    at-last false false = refl
+too-wide whole width h = rw (h, or-true (not (lt zero64 width)), or-true (not (finite width)))
 
 pub not-above : (whole width : Float) → lt zero64 width ≡ false → badWidth whole width ≡ true
 unfolding badWidth
-not-above whole width h = rw h (in-the-middle (not (finite width)))
-  where
-    in-the-middle : (a : Bool) → (a || true) ≡ true
-    in-the-middle true = refl
-    in-the-middle false = refl
+not-above whole width h = rw (h, or-true (not (finite width)))
 
 -- ---- centres
 
