@@ -45,11 +45,13 @@ extern "C" {
 /* The most bytes of a card: the head's block, its contours' and its pairs'. */
 #define JL_CARD_BYTES (JL_BLOCK * (1 + JL_CONTOURS + (JL_PAIRS + JL_PAIRS_A_BLOCK - 1) / JL_PAIRS_A_BLOCK))
 
-/* Where fields stand: in block 0 the job's number, how many contours there are, and the direction of each type; in block
- * 1 + k contour k's id, tag, count of vertices and type, and its vertices, x and y of each. */
+/* Where fields stand: in block 0 the job's number, how many contours there are, the direction of each type and, in version
+ * 2, whether the grid is asked for; in block 1 + k contour k's id, tag, count of vertices and type, and its vertices, x and
+ * y of each. */
 #define JL_JOB_AT 8
 #define JL_CONTOURS_AT 12
 #define JL_DIRECTIONS_AT 40
+#define JL_GRID_AT 42
 #define JL_ID_AT 8
 #define JL_TAG_AT 12
 #define JL_VERTEX_COUNT_AT 16
@@ -68,7 +70,10 @@ uint64_t jl_check(const uint8_t *card, size_t bytes);
  * request 2026-02 refuses, each hole of a part is cut before the first outline with its part and instance, besides what
  * the pairs say; pairs against that are refusal 12. A card with more contours or pairs than a library from before
  * request 2026-04 takes is refused by it with 1 or 4 (docs/CARD.md, "Larger cards"); that request changed no tour of a
- * card that it takes. JL_CONTOURS entries are room enough for any tour. */
+ * card that it takes. Where byte JL_GRID_AT of a card of version 2 is 1, candidates found along a contour are moved to the
+ * nearest point of a grid of 1/1024 mm before a distance is taken (docs/CARD.md, "The grid"); above 1 it is refusal 4 at 8.
+ * A library from before request 2026-07 that knows version 2, and takes a card of that size, refuses a good card that asks
+ * with 7 at 0. JL_CONTOURS entries are room enough for any tour. */
 uint64_t jl_tour(const uint8_t *card, size_t bytes, uint8_t *tour, size_t room, uint64_t *moves, uint64_t *length);
 
 /* Writes the position of the contour that a candidate belongs to, and its number within that contour. A card that is not

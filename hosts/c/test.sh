@@ -1,7 +1,8 @@
 #!/bin/sh
 # Builds list.c over the archive. What it prints, and what the program cutlist prints where it is built, is held against the
-# list of each example card, and against the refusal of no bytes and of more than any card has. Then bridges.c on a contour of an
-# example, and feed.c, stack.c and roots.c over the cards of the fixed list, roots.c over an archive that counts.
+# list of each example card, and against the refusal of no bytes and of more than any card has; list.c also on the card that asks
+# for the grid with other bytes there. Then bridges.c on a contour of an example, and feed.c, stack.c and roots.c over the cards of
+# the fixed list, roots.c over an archive that counts.
 set -eu
 
 cd "$(dirname "$0")/../.."
@@ -35,6 +36,28 @@ prints() { # WORDS..: the program, run on every input
 over=$(($(echo 'JL_CARD_BYTES + 1' | cc -E -P -xc -include hosts/c/jambolive.h - | tail -n 1)))
 prints "$list"
 echo "C host: $cards cards print their lists, no bytes and a million are refused"
+# the card that asks for the grid, with another byte where it asks, and the check that its head then has: byte p counts p + 1
+# times
+grid_at=$(($(echo JL_GRID_AT | cc -E -P -xc -include hosts/c/jambolive.h - | tail -n 1)))
+asking() { # BYTE
+    sum=$(($(od -An -tu4 -j508 -N4 examples/grid.card) + (grid_at + 1) * ($1 - 1)))
+    head -c $grid_at examples/grid.card
+    printf "\\$(printf %o "$1")"
+    head -c 508 examples/grid.card | tail -c +$((grid_at + 2))
+    for shift in 0 8 16 24; do printf "\\$(printf %o $((sum >> shift & 255)))"; done
+    tail -c +513 examples/grid.card
+}
+asking 1 | cmp - examples/grid.card
+asking 2 | "$list" >target/staticlib/printed
+echo 'REFUSED 4 AT 8' | cmp - target/staticlib/printed
+asking 0 | "$list" >target/staticlib/printed
+if cmp -s target/staticlib/printed examples/grid.list; then
+    echo 'C host: the same length where the grid is not asked for'
+    exit 1
+fi
+grep -v RAPID examples/grid.list >target/staticlib/lines
+grep -v RAPID target/staticlib/printed | cmp - target/staticlib/lines
+echo 'C host: another length where the grid is not asked for, and a byte above 1 is refused'
 # as samples.rs writes it
 "$bridges" 0 2 0 30.5 100 <examples/sheet.card | cmp - examples/sheet.bridges
 echo 'REFUSED 18 AT 4' >target/staticlib/due

@@ -77,12 +77,15 @@ fn main() {
 
     // The search as it is given shows the fault that request 2026-01 mends: a rejected candidate gives back the
     // one held when its turn began. In the copies that ours is held against it gives back what stood there before
-    // it: the last one accepted in the turn, or with none the one held.
+    // it: the last one accepted in the turn, or with none the one held. And a point that they find at a perimeter
+    // distance goes on to the grid where request 2026-07 asks for it (grid::moved in lib.rs), before anything uses it.
     File::read(&folder, "gtsp").write("given");
+    const FOUND: &str = "point_at_distance(vertices, &cumulative, &edge_lengths, target_dist);";
     let mended = || {
         File::read(&folder, "gtsp")
             .swap("solution[pos] = alt_global;", "let before = solution[pos]; solution[pos] = alt_global;", 1)
             .swap("solution[pos] = current_global; // Undo", "solution[pos] = before;", 1)
+            .swap(FOUND, &format!("{FOUND} let point = crate::grid::moved(point);"), 1)
     };
     mended().write("gtsp");
 

@@ -1,14 +1,16 @@
-//! The original's answers to a good card, with the rule for a rejected candidate mended (oracle/original/build.rs).
+//! The original's answers to a good card, with the rule for a rejected candidate mended and the move to the grid where a card
+//! asks for it (oracle/original/build.rs).
 
 use crate::card::{Card, Contour};
+use crate::reading::moved;
 use original::config::{CutDirectionPreference, CuttingConfig};
 use original::contour::{ContourType, CutContour};
 use original::hierarchy::CuttingDag;
 use original::result::CutDirection;
-use original::{count, counted, given, gtsp};
+use original::{count, counted, given, grid, gtsp};
 
-/// A card as the original has it. `instance` is of the original with the rule for a rejected candidate mended,
-/// `counted` of the copy with the counted limit; both are made by the same code.
+/// A card as the original has it. `instance` is of the original with the rule for a rejected candidate mended and the move
+/// to the grid, `counted` of the copy with the counted limit; both are made by the same code.
 pub struct Problem {
     pub instance: gtsp::GtspInstance,
     pub counted: counted::GtspInstance,
@@ -66,11 +68,28 @@ fn asked(card: &Card) -> (Vec<CutContour>, CuttingDag, CuttingConfig) {
     (contours, dag, config)
 }
 
-/// A card's instance, as a copy of the original makes it.
+/// A card's instance, as a copy of the original makes it: with the move to the grid where the card asks for it.
 macro_rules! instance_by {
-    ($copy:ident, $card:expr, $contours:expr, $config:expr) => {
-        $copy::build_gtsp_instance($copy::discretize_contours($contours, $config).unwrap(), $card.home)
+    ($copy:ident, $card:expr, $contours:expr, $config:expr) => {{
+        let clusters = grid::with($card.asks_grid(), || $copy::discretize_contours($contours, $config).unwrap());
+        $copy::build_gtsp_instance(clusters, $card.home)
+    }};
+}
+
+/// The points of each contour's candidates once more: as the original finds them that is given, which knows no grid, then
+/// moved by the second reading where the card asks for it. A contour has more than one candidate just where c is above 1 and
+/// its perimeter not under 1e-12: only those are found at a distance.
+pub fn stops(card: &Card) -> Vec<Vec<(f64, f64)>> {
+    let (contours, _, config) = asked(card);
+    let clusters = given::discretize_contours(&contours, &config).unwrap();
+    let points = |cluster: &given::GtspCluster| -> Vec<(f64, f64)> {
+        let found = cluster.candidates.iter().map(|candidate| candidate.point);
+        match card.asks_grid() && cluster.candidates.len() > 1 {
+            true => found.map(|(x, y)| (moved(x), moved(y))).collect(),
+            false => found.collect(),
+        }
     };
+    clusters.iter().map(points).collect()
 }
 
 /// A copy of the original, from a card's fields to the tour and its length.
@@ -203,7 +222,8 @@ fn holes() {
     assert_eq!(printed(&against.bytes()), "REFUSED 12 AT 1\n");
 }
 
-/// A card of version 2 without a part is answered as the same card of version 1, whatever its instances.
+/// A card of version 2 without a part that does not ask for the grid is answered as the same card of version 1, whatever its
+/// instances.
 #[test]
 fn no_part_no_difference() {
     for case in 0..300 {
@@ -213,6 +233,39 @@ fn no_part_no_difference() {
         twin.contours.iter_mut().for_each(|contour| contour.instance = r.next() as u32 % 3);
         assert_eq!(printed(&twin.bytes()), printed(&card.bytes()), "case {case}");
         assert_eq!(jambolive::list(&twin.bytes()), jambolive::list(&card.bytes()), "case {case}");
+    }
+}
+
+/// A square's thirds are moved to the grid, its other candidate is a vertex on it; the dots stay off it, and so does what
+/// another byte, or version 1, asks for.
+#[test]
+fn grid() {
+    let card = crate::generate::moved_square();
+    let (third, dots) = (3413.0 / 1024.0, [vec![(20.3, 0.0)], vec![(20.3, 3.3)]]);
+    let square = vec![(0.0, 0.0), (10.0, third), (third, 10.0)];
+    assert_eq!(stops(&card), [&[square][..], &dots].concat());
+    for plain in [Card { grid: 0, ..card.clone() }, Card { version: 1, ..card.clone() }] {
+        let [(x, y), (z, w)] = [1, 2].map(|k| stops(&plain)[0][k]);
+        assert_eq!((x, w), (10.0, 10.0));
+        assert!([y, z].iter().all(|v| (v - 10.0 / 3.0).abs() < 1e-14), "{y} {z}");
+        assert_ne!(solved(&plain), solved(&card));
+    }
+}
+
+/// Where a card asks for the move, the copies of the original make it as the second reading does.
+#[test]
+fn both_moves_agree() {
+    for case in 0..3000 {
+        let card = crate::generate::gridded(&crate::random::Random::of(1, "moves", case), case % 2 == 0);
+        let Problem { instance, counted, .. } = Problem::of(&card);
+        let all = stops(&card).concat();
+        for (g, &stop) in all.iter().enumerate() {
+            let (one, other) = (instance.candidate(g), counted.candidate(g));
+            let points = [one.point, one.end_point, other.point, other.end_point];
+            let bits = |p: (f64, f64)| (p.0.to_bits(), p.1.to_bits());
+            assert_eq!(points.map(bits), [bits(stop); 4], "case {case}");
+        }
+        assert_eq!((all.len(), all.len()), (instance.total_candidates, counted.total_candidates), "case {case}");
     }
 }
 

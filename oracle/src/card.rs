@@ -12,6 +12,8 @@ pub struct Card {
     pub home: (f64, f64),
     pub exterior: u8,
     pub interior: u8,
+    /// Version 2 alone writes it: 1 asks that candidates be moved to the grid. In version 1 it is 0.
+    pub grid: u8,
     pub contours: Vec<Contour>,
     pub pairs: Vec<Pair>,
 }
@@ -46,6 +48,7 @@ impl Default for Card {
             home: (0.0, 0.0),
             exterior: 0,
             interior: 0,
+            grid: 0,
             contours: Vec::new(),
             pairs: Vec::new(),
         }
@@ -82,7 +85,15 @@ impl Card {
         block.extend(self.home.0.to_le_bytes());
         block.extend(self.home.1.to_le_bytes());
         block.extend([self.exterior, self.interior]);
+        if self.version == 2 {
+            block.push(self.grid);
+        }
         padded(block)
+    }
+
+    /// Whether the card asks that candidates be moved to the grid.
+    pub fn asks_grid(&self) -> bool {
+        self.version == 2 && self.grid == 1
     }
 
     /// The pair of two contours, by their positions.

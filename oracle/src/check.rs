@@ -4,11 +4,11 @@
 use crate::card::seal;
 use crate::doors::refused;
 use crate::exports::{self, Left, UNTOUCHED};
-use crate::generate::{damaged, mutated, relabelled};
-use crate::limits::{BLOCK, CHECK_AT, CONTOURS, VERSION_AT, contour};
+use crate::generate::{damaged, mutated, regridded, relabelled};
+use crate::limits::{BLOCK, CHECK_AT, CONTOURS, VERSION_AT, contour, head};
 use crate::random::Random;
 use crate::reading::{Refusal, refusal};
-use crate::run::{Tally, Wanted, by_version, same};
+use crate::run::{Kinds, Wanted, by_version, same};
 use std::sync::atomic::{AtomicU64, Ordering};
 
 unsafe extern "C" {
@@ -23,19 +23,42 @@ pub fn check(card: &[u8]) -> u64 {
 /// How often each number was met: 0 for a good card, then those of a check.
 type Seen = [AtomicU64; 13];
 
-/// What a run meets: each number in cards that say version 2 and in others, and cycles that the written pairs alone do not
-/// make.
-struct Met {
-    seen: [Seen; 2],
-    by_rule: Tally,
+/// A card's bytes: whether they say version 2, the byte by which that asks for the grid, and the refusal that is due.
+struct Case {
+    bytes: Vec<u8>,
+    two: bool,
+    grid: u8,
+    due: Option<Refusal>,
 }
 
-impl Met {
-    fn count(&self, bytes: &[u8], due: Option<Refusal>) {
-        let (number, two) = (due.map_or(0, |r| r.0), bytes.get(VERSION_AT) == Some(&2));
-        self.seen[usize::from(two)][number as usize].fetch_add(1, Ordering::Relaxed);
-        self.by_rule.count(number == 12 && refusal(&without_parts(bytes)) != due);
+impl Case {
+    fn of(bytes: Vec<u8>) -> Case {
+        let byte = |at: usize| bytes.get(at).copied().unwrap_or(0);
+        let (two, grid, due) = (byte(VERSION_AT) == 2, byte(head::GRID), refusal(&bytes));
+        Case { bytes, two, grid, due }
     }
+
+    /// The number that is due, 0 for a good card.
+    fn number(&self) -> u64 {
+        self.due.map_or(0, |due| due.0)
+    }
+}
+
+/// What a run meets besides each number: cycles that the written pairs alone do not make, and of the byte that asks for the
+/// grid good cards with it, a wrong one told, a wrong one that another field before it hides, and one where version 1 has none.
+fn kinds() -> Kinds<Case> {
+    Kinds::none()
+        .and("cards refused with 12 that are not, or elsewhere, without the pairs by rule", 1000, |case: &Case| {
+            case.number() == 12 && refusal(&without_parts(&case.bytes)) != case.due
+        })
+        .and("good cards that ask for the grid", 20, |case| case.two && case.grid == 1 && case.due.is_none())
+        .and("cards refused with 4 at 8", 100, |case| case.due == Some((4, 8)))
+        .and("cards refused with another 4 before that", 1000, |case| {
+            case.two && case.grid > 1 && case.number() == 4 && case.due != Some((4, 8))
+        })
+        .and("cards of version 1 refused with 7 at 0 for asking", 100, |case| {
+            !case.two && case.grid > 0 && case.due == Some((7, 0))
+        })
 }
 
 /// A card without its parts: no pair of it is by rule.
@@ -48,12 +71,13 @@ fn without_parts(bytes: &[u8]) -> Vec<u8> {
     bytes
 }
 
-fn one(bytes: &[u8], met: &Met) -> Result<u64, String> {
-    let due = refusal(bytes);
-    met.count(bytes, due);
-    let code = due.map_or(0, |(number, place)| refused(number, place));
-    same(|| "check".to_string(), check(bytes), code)?;
-    exported(bytes, code)
+fn one(bytes: Vec<u8>, seen: &[Seen; 2], kinds: &Kinds<Case>) -> Result<u64, String> {
+    let case = Case::of(bytes);
+    seen[usize::from(case.two)][case.number() as usize].fetch_add(1, Ordering::Relaxed);
+    kinds.count(&case);
+    let code = case.due.map_or(0, |(number, place)| refused(number, place));
+    same(|| "check".to_string(), check(&case.bytes), code)?;
+    exported(&case.bytes, code)
 }
 
 /// The exports answer the same, and what is refused leaves everything as it was. A good card has no candidate of the
@@ -86,14 +110,16 @@ const DAMAGED: u64 = 200_000;
 
 /// Compares, and fails too where a number was not met at all: even one percent meets each some dozen times.
 pub fn compare(wanted: Wanted) -> bool {
-    let by_rule = Tally::of("cards refused with 12 that are not, or elsewhere, without the pairs by rule", 1000);
-    let met = Met { seen: Default::default(), by_rule };
-    let any = |r: &Random, version| if r.one_in(4) { relabelled(r, version) } else { damaged(r, version) };
-    let agreed = by_version(wanted, "damaged cards", DAMAGED, |r, version| one(&any(r, version), &met))
-        & by_version(wanted, "cards with one byte changed", 150_000, |r, version| one(&mutated(r, version), &met));
-    let [others, two] = met.seen;
-    agreed
-        & each_met("version 1 and others", others)
-        & each_met("version 2", two)
-        & met.by_rule.enough(wanted.of(DAMAGED))
+    let (seen, kinds): ([Seen; 2], _) = (Default::default(), kinds());
+    let any = |r: &Random, version| match r.below(8) {
+        0 => regridded(r, version),
+        1 | 2 => relabelled(r, version),
+        _ => damaged(r, version),
+    };
+    let agreed = by_version(wanted, "damaged cards", DAMAGED, |r, version| one(any(r, version), &seen, &kinds))
+        & by_version(wanted, "cards with one byte changed", 150_000, |r, version| {
+            one(mutated(r, version), &seen, &kinds)
+        });
+    let [others, two] = seen;
+    agreed & each_met("version 1 and others", others) & each_met("version 2", two) & kinds.enough(wanted.of(DAMAGED))
 }

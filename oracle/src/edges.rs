@@ -1,12 +1,12 @@
 //! The cards at the edges that the paper names ("Both sides of each edge") and at further limits of its table, with what
-//! it says of each; then those of requests 2026-02 and 2026-04. The first stand where the paper's limits stood before
+//! it says of each; then those of requests 2026-02, 2026-04 and 2026-07. The first stand where the paper's limits stood before
 //! request 2026-04.
 
 use crate::card::{Card, Contour, Pair, seal};
-use crate::generate::sheet;
+use crate::generate::{holes, moved_square, sheet, slit};
 use crate::limits::{
-    BLOCK, CANDIDATES, CARD_BYTES, CHECK_AT, CONTOURS, Limits, PAIRS, PAIRS_A_BLOCK, PER_CONTOUR, REACH, VERSION_AT,
-    VERTICES, contour, head, shared,
+    AUTO, BLOCK, CANDIDATES, CARD_BYTES, CHECK_AT, CONTOURS, GRID_REACH, Limits, PAIRS, PAIRS_A_BLOCK, PASSES,
+    PER_CONTOUR, PER_MM, REACH, VERSION_AT, VERTICES, contour, head, shared,
 };
 use crate::random::Random;
 use crate::reading::Refusal;
@@ -148,6 +148,16 @@ fn of_the_rule() -> Vec<(Card, Option<Refusal>)> {
     ]
 }
 
+/// A card with other bytes at these places, its checks made good.
+fn with(card: &Card, changes: &[(usize, u8)]) -> Vec<u8> {
+    let mut bytes = card.bytes();
+    for &(at, byte) in changes {
+        bytes[at] = byte;
+    }
+    seal(&mut bytes);
+    bytes
+}
+
 /// The edges of the version: a card's limits with it, and single bytes of a card, given by their places.
 fn of_the_version() -> Vec<Edge> {
     let mut all = written(vec![
@@ -158,12 +168,7 @@ fn of_the_version() -> Vec<Edge> {
         (Card { version: 0, ..row(2, &[]) }, Some((3, 0))),
         (Card { version: 3, ..row(2, &[]) }, Some((3, 0))),
     ]);
-    let changed = |version: u8, at: usize, byte: u8| {
-        let mut bytes = Card { version, ..row(2, &[(0, 1)]) }.bytes();
-        bytes[at] = byte;
-        seal(&mut bytes);
-        bytes
-    };
+    let changed = |version: u8, at: usize, byte: u8| with(&Card { version, ..row(2, &[(0, 1)]) }, &[(at, byte)]);
     let start = |block: usize| block * BLOCK + VERSION_AT;
     let in_contour = |at: usize| BLOCK + at;
     all.extend([
@@ -174,7 +179,7 @@ fn of_the_version() -> Vec<Edge> {
         (changed(2, start(3), 3), Some((3, 3))),
         (changed(1, in_contour(contour::PART - 1), 1), Some((7, 1))),
         (changed(2, in_contour(contour::PART - 1), 1), Some((7, 1))),
-        (changed(2, head::END, 1), Some((7, 0))),
+        (changed(2, head::GRID, 1), None),
     ]);
     // each byte of a part and an instance is a field in version 2 alone
     for at in contour::PART..CHECK_AT {
@@ -225,11 +230,142 @@ pub fn edges_of_size() -> Vec<Edge> {
     [of(1), of(2), written(vec![(all_by_rule(Limits::TODAY), None)])].concat()
 }
 
+/// The edges of the byte that asks for the move to the grid: what it may be, what is told before it and what after it.
+fn of_the_byte() -> Vec<Edge> {
+    const WRONG: Option<Refusal> = Some((4, 8));
+    let one = row(2, &[(0, 1)]);
+    let two = |grid| Card { version: 2, grid, ..one.clone() };
+    let mut all: Vec<Edge> = [0, 1].map(|grid| (two(grid).bytes(), None)).into();
+    all.extend([2, 3, 128, 255].map(|grid| (two(grid).bytes(), WRONG)));
+    all.extend([1, 2, 255].map(|byte| (with(&one, &[(head::GRID, byte)]), Some((7, 0)))));
+    // what stands behind it is spare in either version
+    all.extend([
+        (with(&one, &[(head::GRID + 1, 1)]), Some((7, 0))),
+        (with(&two(0), &[(head::GRID + 1, 1)]), Some((7, 0))),
+        (with(&two(1), &[(head::GRID + 1, 1)]), Some((7, 0))),
+        (with(&two(1), &[(CHECK_AT - 1, 255)]), Some((7, 0))),
+        (with(&two(2), &[(head::GRID + 1, 1)]), WRONG),
+    ]);
+    // every other field is told first, with whatever byte
+    let many = |grid| with(&Card { c: PER_CONTOUR as u16, ..two(grid) }, &[(head::CONTOURS, 11)]);
+    all.extend([
+        (with(&two(2), &[(head::CONTOURS, CONTOURS as u8 + 1)]), Some((4, 1))),
+        (with(&two(2), &[(head::PAIRS, PAIRS as u8 + 1)]), Some((4, 2))),
+        (Card { c: 0, ..two(2) }.bytes(), Some((4, 3))),
+        (Card { c: PER_CONTOUR as u16 + 1, ..two(2) }.bytes(), Some((4, 3))),
+        (Card { passes: PASSES + 1, ..two(2) }.bytes(), Some((4, 4))),
+        (Card { exterior: AUTO + 1, ..two(2) }.bytes(), Some((4, 5))),
+        (Card { interior: AUTO + 1, ..two(255) }.bytes(), Some((4, 6))),
+        (many(0), Some((4, 7))),
+        (many(1), Some((4, 7))),
+        (many(2), Some((4, 7))),
+        (many(255), Some((4, 7))),
+    ]);
+    // and so is what is wrong with the length, a check or the head's start
+    let unsealed = |at: usize| {
+        let mut bytes = two(1).bytes();
+        bytes[at] += 1;
+        bytes
+    };
+    all.extend([
+        (two(2).bytes()[..BLOCK - 1].to_vec(), Some((1, BLOCK as u64 - 1))),
+        (unsealed(head::GRID), Some((2, 0))),
+        (unsealed(BLOCK + CHECK_AT), Some((2, 1))),
+        (with(&two(2), &[(0, 2)]), Some((3, 0))),
+        (with(&two(2), &[(VERSION_AT, 0)]), Some((3, 0))),
+        (with(&two(2), &[(VERSION_AT, 3)]), Some((3, 0))),
+        // by the head's version it is spare, and that is told behind the other blocks' versions
+        (with(&two(1), &[(VERSION_AT, 1)]), Some((3, 1))),
+    ]);
+    // all else is told behind it
+    let behind = |grid: u8| {
+        let changed = |at: usize, byte: u8| with(&two(grid), &[(at, byte)]);
+        [
+            (changed(head::CONTOURS, 3), (5, 4)),
+            (changed(BLOCK + VERSION_AT, 1), (3, 1)),
+            (changed(BLOCK + contour::COUNT, 0), (6, 0)),
+            (Card { home: (f64::NAN, 0.0), ..two(grid) }.bytes(), (8, 0)),
+            (Card { version: 2, grid, ..row(2, &[(0, 1), (1, 0)]) }.bytes(), (12, 0)),
+        ]
+    };
+    all.extend(behind(1).map(|(bytes, due)| (bytes, Some(due))));
+    all.extend(behind(2).map(|(bytes, _)| (bytes, WRONG)));
+    all
+}
+
+/// A card that asks for the move: contours by their vertices, and two dots, so that there is something to search.
+fn moving(c: usize, outlines: &[&[(f64, f64)]]) -> Card {
+    let dots: [&[(f64, f64)]; 2] = [&[(4.0, 0.0)], &[(0.0, 4.0)]];
+    let contour = |(id, vertices): (u32, &&[(f64, f64)])| Contour {
+        id,
+        tag: 10 * id,
+        vertices: vertices.to_vec(),
+        ..Contour::default()
+    };
+    let contours = (5..).zip(outlines.iter().chain(&dots)).map(contour).collect();
+    Card { job: 49, c: c as u16, home: (3.0 / PER_MM, 1.0), contours, ..moved_square() }
+}
+
+/// The edges of the move itself: where it goes, what it leaves alone, and the same without it.
+fn of_the_move() -> Vec<Card> {
+    let square = |x: f64, y: f64, side: f64| [(x, y), (x + side, y), (x + side, y + side), (x, y + side)];
+    let in_steps = |outline: &[(f64, f64)]| -> Vec<(f64, f64)> {
+        outline.iter().map(|&(x, y)| (x / PER_MM, y / PER_MM)).collect()
+    };
+    let stepping = |c: usize, outline: &[(f64, f64)]| moving(c, &[&in_steps(outline)]);
+    let mut all: Vec<Card> = (1..=PER_CONTOUR).map(|c| moving(c, &[&square(1.0, 2.0, 10.0)])).collect();
+    for way in [1.0, -1.0] {
+        let half = 0.5 * way;
+        all.extend([
+            // halfway between zero and the next point, and further out, along and across
+            stepping(4, &[(0.0, 0.0), (way, 0.0)]),
+            stepping(4, &[(0.0, 0.0), (0.0, way)]),
+            stepping(4, &[(way, 3.0), (4.0 * way, 3.0)]),
+            stepping(8, &[(0.0, way), (0.0, 7.0 * way)]),
+            // vertices that are there themselves, the first one too
+            stepping(2, &square(half, half, way)),
+            stepping(2, &square(3.0 * half, 0.0, 4.0 * way)),
+            // the last before halfway goes to zero, the next does not
+            stepping(2, &[(way * 0.5f64.next_down(), 1.0), (2.0 * way, 1.0)]),
+            stepping(2, &[(way * 0.5f64.next_up(), 1.0), (2.0 * way, 1.0)]),
+            // to zero from all around it
+            stepping(4, &square(-0.5 * half, -0.5 * half, half)),
+            stepping(2, &[(way * f64::MIN_POSITIVE, way * 1e-300), (way, 0.0)]),
+            stepping(2, &[(0.0 * way, 0.0 * way), (way, way)]),
+            // at the grid's reach and at the largest coordinate, halfway to it too
+            moving(4, &[&square(way * GRID_REACH, way * GRID_REACH, -5.0 * way / PER_MM)]),
+            moving(4, &[&square(way * REACH, 0.0, -5.0 * way / PER_MM)]),
+            moving(2, &[&square(way * (REACH - 0.5 / PER_MM), 0.0, -way)]),
+        ]);
+    }
+    // a dot stays where it is, with one candidate or more, and a way about as short as it may be
+    let off = (0.3 / PER_MM, 0.7 / PER_MM);
+    all.extend([1, 2, 8].map(|c| moving(c, &[&[off]])));
+    const SHORT: f64 = 5e-13;
+    all.extend([SHORT.next_down(), SHORT, SHORT.next_up()].map(|there| moving(2, &[&[(0.0, off.1), (there, off.1)]])));
+    // edges of no length: what is found at their vertex is found on the edge before
+    all.push(moving(2, &[&[(off.0, 0.0), (off.0 + 1.0, 0.0), (off.0 + 1.0, 0.0), (off.0 + 1.0, 0.0)]]));
+    let sheet = |n, c| Card { version: 2, grid: 1, ..parts(n, c, 0) };
+    all.extend([sheet(CANDIDATES / 3, 3), sheet(CANDIDATES / PER_CONTOUR, PER_CONTOUR), sheet(CONTOURS, 1)]);
+    all.extend([moved_square(), Card { grid: 1, ..holes() }, Card { version: 2, grid: 1, ..slit() }]);
+    let plain = [&all[2], &all[8], &all[12], &moved_square()].map(|card| Card { grid: 0, ..card.clone() });
+    all.extend(plain);
+    all.push(Card { version: 1, grid: 0, ..moved_square() });
+    all
+}
+
+/// The edges of request 2026-07.
+pub fn edges_of_grid() -> Vec<Edge> {
+    let moved = of_the_move().into_iter().map(|card| (card.bytes(), None));
+    of_the_byte().into_iter().chain(moved).collect()
+}
+
 /// The second reading, the check and the export say what the paper says.
 #[test]
 fn each_edge_is_as_the_paper_says() {
     use crate::{check, doors::refused, exports, reading};
-    for (k, (bytes, due)) in [edges(), edges_of_parts(), edges_of_size()].concat().into_iter().enumerate() {
+    let all = [edges(), edges_of_parts(), edges_of_size(), edges_of_grid()].concat();
+    for (k, (bytes, due)) in all.into_iter().enumerate() {
         let code = due.map_or(0, |(number, place)| refused(number, place));
         assert_eq!(reading::refusal(&bytes), due, "edge {k}");
         assert_eq!((check::check(&bytes), exports::check(&bytes)), (code, Ok(code)), "edge {k}");

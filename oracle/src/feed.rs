@@ -4,7 +4,7 @@
 
 use crate::doors::refused;
 use crate::exports::{self, Left, UNTOUCHED};
-use crate::generate::{damaged, good, mutated, relabelled};
+use crate::generate::{damaged, good, mutated, regridded, relabelled};
 use crate::limits::{BLOCK, CARD_BYTES, CONTOURS};
 use crate::random::Random;
 use crate::run::{Tally, Wanted, by_version, same};
@@ -14,7 +14,7 @@ pub fn any(r: &Random, version: u8) -> Vec<u8> {
     let mut bytes = match r.below(4) {
         0 | 1 => good(r, version).bytes(),
         2 => damaged(r, version),
-        _ => r.pick(&[mutated, relabelled])(r, version),
+        _ => r.pick(&[mutated, relabelled, regridded])(r, version),
     };
     match r.below(16) {
         0 => bytes.resize(r.pick(&[CARD_BYTES, CARD_BYTES + 1, CARD_BYTES + BLOCK, 2 * CARD_BYTES]), r.next() as u8),

@@ -7,7 +7,7 @@ use crate::coverage::Coverage;
 use crate::doors::refused;
 use crate::exports::{Left, UNTOUCHED, jl_ask, jl_check, jl_feed, jl_place, jl_tour};
 use crate::feed;
-use crate::generate::{damaged, good, mutated, relabelled};
+use crate::generate::{damaged, good, gridded, mutated, regridded, relabelled};
 use crate::guard::Guarded;
 use crate::limits::{BLOCK, CANDIDATES, CARD_BYTES, CONTOURS, PAIRS, PAYLOAD_AT, REACH, contour, head};
 use crate::random::Random;
@@ -22,12 +22,14 @@ const ROOM: usize = CONTOURS + 10;
 /// A card mutated by structure: from the generator, or one that was kept.
 fn structured(r: &Random, kept: &[Vec<u8>]) -> Vec<u8> {
     let version = r.pick(&[1, 2]);
-    match r.below(if kept.is_empty() { 4 } else { 7 }) {
+    match r.below(if kept.is_empty() { 6 } else { 10 }) {
         0 => good(r, version).bytes(),
         1 => mutated(r, version),
         2 => damaged(r, version),
         3 => relabelled(r, version),
-        4 => joined(&kept[r.index(kept.len())], &kept[r.index(kept.len())], r),
+        4 => regridded(r, version),
+        5 => gridded(r, r.one_in(2)).bytes(),
+        6 => joined(&kept[r.index(kept.len())], &kept[r.index(kept.len())], r),
         _ => kept[r.index(kept.len())].clone(),
     }
 }
@@ -58,6 +60,11 @@ fn input(r: &Random, kept: &[Vec<u8>]) -> Vec<u8> {
     let mut bytes = structured(r, kept);
     for _ in 0..r.pick(&[0, 0, 1, 2]) {
         field(r, &mut bytes);
+    }
+    if r.one_in(8) && bytes.len() >= BLOCK {
+        // asked for the grid or no longer, or with a byte that is no answer
+        let asked = bytes[head::GRID];
+        bytes[head::GRID] = r.pick(&[asked ^ 1, asked ^ 1, 2, 255]);
     }
     for _ in 0..r.pick(&[0, 0, 1, 3, 30]) {
         if !bytes.is_empty() {

@@ -2,8 +2,8 @@
 
 use crate::card::{Card, Contour, Pair, seal};
 use crate::limits::{
-    AUTO, BLOCK, CANDIDATES, CHECK_AT, Limits, PAIR, PAIRS_A_BLOCK, PASSES, PAYLOAD_AT, PER_CONTOUR, REACH, VERSION_AT,
-    VERTEX, VERTICES, contour, head, shared,
+    AUTO, BLOCK, CANDIDATES, CHECK_AT, GRID_REACH, Limits, PAIR, PAIRS_A_BLOCK, PASSES, PAYLOAD_AT, PER_CONTOUR,
+    PER_MM, REACH, VERSION_AT, VERTEX, VERTICES, contour, head, shared,
 };
 use crate::random::{KINDS, Kind, Random};
 use crate::reading::by_rule;
@@ -50,11 +50,81 @@ pub fn slit() -> Card {
     on_a_line(45, 3, 7.0, &[&[4.0, 10.0], &[2.0], &[1.0]])
 }
 
+/// A square whose candidates but the first are off the grid, and are moved to it, and two dots off it, which are not.
+pub fn moved_square() -> Card {
+    let square = vec![(0.0, 0.0), (10.0, 0.0), (10.0, 10.0), (0.0, 10.0)];
+    let outlines = [square, vec![(20.3, 0.0)], vec![(20.3, 3.3)]];
+    let contour = |(id, vertices)| Contour { id, tag: 10 * id, vertices, ..Contour::default() };
+    let contours = (5..).zip(outlines).map(contour).collect();
+    let (version, grid, home) = (2, 1, (30.0, 5.0));
+    Card { version, grid, job: 48, c: 3, passes: 10, home, exterior: AUTO, interior: AUTO, contours, ..Card::default() }
+}
+
 /// Good cards of every shape, of either version. Any may have more pairs than before request 2026-04; few have more contours,
-/// over which the original takes long.
+/// over which the original takes long. In version 2 every other asks for the move to the grid.
 pub fn good(r: &Random, version: u8) -> Card {
     let few_contours = Limits { contours: Limits::BEFORE.contours, ..Limits::TODAY };
-    if r.one_in(32) { large(r, version) } else { good_within(r, version, few_contours) }
+    let card = if r.one_in(32) { large(r, version) } else { good_within(r, version, few_contours) };
+    perhaps_gridded(r, card)
+}
+
+/// A card of version 2 asks for the move to the grid, or does not. That is drawn behind all else, so that the rest of a card
+/// is as it was before request 2026-07.
+fn perhaps_gridded(r: &Random, card: Card) -> Card {
+    Card { grid: u8::from(card.version == 2 && r.one_in(2)), ..card }
+}
+
+/// Good cards of version 2 that ask for the move, with contours as `stepped` makes them and every number of candidates: home
+/// and all vertices on the grid and within its reach, or not.
+pub fn gridded(r: &Random, on: bool) -> Card {
+    let c = r.from(1, PER_CONTOUR);
+    let most = CANDIDATES / c;
+    let n = r.pick(&[r.from(1, 3), r.from(3, most.min(8)), r.from(3, most.min(20)), r.from(1, most), most]);
+    let mut card = sized(r, 2, n, Limits::TODAY);
+    (card.c, card.grid) = (c as u16, 1);
+    card.home = if on { (r.on_grid(), r.on_grid()) } else { (r.about_grid(), r.about_grid()) };
+    for contour in &mut card.contours {
+        contour.vertices = stepped(r, on);
+    }
+    // over many contours the original takes long
+    if n > Limits::BEFORE.contours && !r.one_in(32) {
+        card.limit = r.pick(&[r.from(1, 3), r.from(3, 2000)]) as u32;
+    }
+    card
+}
+
+/// A contour's vertices about the grid, in plain forms: with sides of whole steps, candidates are often halfway between two
+/// of its points. `on` keeps all of them on it and within its reach; else they lie beside it too, sides are parts of a step,
+/// and some ways are about as short as they may be for more than one candidate.
+pub fn stepped(r: &Random, on: bool) -> Vec<(f64, f64)> {
+    let coordinate = || if on { r.on_grid() } else { r.about_grid() };
+    let (x, y) = (coordinate(), coordinate());
+    let step = if on { 1.0 } else { r.pick(&[1.0, 1.0, 0.5, 0.25, 1.0 / 3.0]) } / PER_MM;
+    let side = || r.either_way(step * r.pick(&[0, 1, 2, 3, 5, 7, 16, 100, 1001, 10_240, r.below(1 << 20)]) as f64);
+    let (a, b) = (side(), side());
+    let rectangle = [(0.0, 0.0), (a, 0.0), (a, b), (0.0, b)];
+    let corners = match r.below(if on { 9 } else { 10 }) {
+        0 => vec![(0.0, 0.0)],
+        1 => vec![(0.0, 0.0), (a, 0.0)],
+        2 => vec![(0.0, 0.0), (0.0, b)],
+        // its length is a whole number of steps too
+        3 => vec![(0.0, 0.0), (3.0 * a, 4.0 * a)],
+        4 | 5 => rectangle.to_vec(),
+        // with edges of no length
+        6 => rectangle.iter().flat_map(|&corner| vec![corner; r.from(1, 3)]).collect(),
+        7 => (0..r.from(2, 12)).map(|_| (side(), side())).collect(),
+        8 => return (0..r.from(2, VERTICES)).map(|_| (coordinate(), coordinate())).collect(),
+        _ => {
+            // at x = 0, where the way there and back has just that length
+            const HALF: f64 = 5e-13;
+            let there = r.pick(&[HALF, HALF.next_up(), HALF.next_down(), HALF / 2.0, 2.0 * HALF]);
+            return vec![(0.0, y), (there, y)];
+        }
+    };
+    let reach = if on { GRID_REACH } else { REACH };
+    // a sum would make a -0 a 0
+    let by = |v: f64, d: f64| if d == 0.0 { v } else { (v + d).clamp(-reach, reach) };
+    corners.into_iter().map(|(dx, dy)| (by(x, dx), by(y, dy))).collect()
 }
 
 /// Good cards with more contours than before request 2026-04. One in 32 has no limit, so that its search goes to its end.
@@ -136,7 +206,7 @@ pub fn turning(r: &Random, version: u8) -> Card {
     let n = r.from(3, CANDIDATES / 3);
     let mut card = sized(r, version, n, Limits::TODAY);
     card.c = r.from(3, shared(n).min(PER_CONTOUR)) as u16;
-    card
+    perhaps_gridded(r, card)
 }
 
 /// A sheet of plain parts, for the speed figures and the examples: n contours of four to twelve vertices on a sheet of 3000
@@ -296,6 +366,21 @@ pub fn relabelled_within(r: &Random, card: Card, limits: Limits) -> Vec<u8> {
     with_faults(r, card, &kinds, limits)
 }
 
+/// A card with another byte where version 2 asks for the move, whether the card has that field or not, and every other time
+/// with a further fault, often in another field of the head.
+pub fn regridded(r: &Random, version: u8) -> Vec<u8> {
+    regridded_within(r, good(r, version), Limits::TODAY)
+}
+
+/// The same of a good card.
+pub fn regridded_within(r: &Random, card: Card, limits: Limits) -> Vec<u8> {
+    let mut kinds = vec![16];
+    if r.one_in(2) {
+        kinds.push(r.pick(&[4, r.from(1, 15)]));
+    }
+    with_faults(r, card, &kinds, limits)
+}
+
 fn with_faults(r: &Random, mut card: Card, kinds: &[usize], limits: Limits) -> Vec<u8> {
     for &kind in kinds {
         in_fields(r, &mut card, kind, limits);
@@ -424,7 +509,7 @@ fn in_bytes(r: &Random, bytes: &mut Vec<u8>, kind: usize, limits: Limits) {
             const LAST: usize = CHECK_AT - 1;
             const FULL: usize = PAYLOAD_AT + PAIRS_A_BLOCK * PAIR;
             let (block, any) = (block(r), r.from(PAYLOAD_AT, LAST));
-            let at = block + r.pick(&[any, LAST, FULL - 1, FULL, head::END - 1, head::END, head::END + 1]);
+            let at = block + r.pick(&[any, LAST, FULL - 1, FULL, head::GRID - 1, head::GRID, head::GRID + 1]);
             bytes[at] = r.pick(&[0, 1, 128, 255]);
         }
         13 => {
@@ -443,9 +528,10 @@ fn in_bytes(r: &Random, bytes: &mut Vec<u8>, kind: usize, limits: Limits) {
         }
         15 => {
             // about a part and an instance, whether the card has them or not
-            let at = block(r) + r.pick(&[r.from(contour::PART - 1, CHECK_AT - 1), head::END]);
+            let at = block(r) + r.pick(&[r.from(contour::PART - 1, CHECK_AT - 1), head::GRID]);
             bytes[at] = r.pick(&[0, 1, 2, 255]);
         }
+        16 => bytes[head::GRID] = r.pick(&[0, 1, 1, 2, 3, 128, 255]),
         _ => {}
     }
 }

@@ -36,4 +36,4 @@ macro_rules! with_original {
         )*
     };
 }
-with_original!(cost hierarchy candidates bridge table rules start search tour large);
+with_original!(cost hierarchy moved candidates bridge table rules start search tour large grid exact);

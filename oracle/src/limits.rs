@@ -9,6 +9,10 @@ pub const PASSES: u16 = jambolive::PASSES as u16;
 /// The largest size of a coordinate.
 pub const REACH: f64 = 1_048_576.0;
 
+/// Steps of the grid in a millimetre, and how far from the origin demand 3 speaks of it.
+pub const PER_MM: f64 = 1024.0;
+pub const GRID_REACH: f64 = 8192.0;
+
 /// The numbers of the most bridges, eight each.
 pub const BRIDGE_NUMBERS: usize = 8 * BRIDGES;
 
@@ -33,7 +37,8 @@ pub mod head {
     pub const CONTOURS: usize = PAYLOAD_AT + 4;
     pub const PAIRS: usize = PAYLOAD_AT + 6;
     pub const DIRECTIONS: usize = PAYLOAD_AT + 32;
-    pub const END: usize = PAYLOAD_AT + 34;
+    // a field in version 2 alone
+    pub const GRID: usize = PAYLOAD_AT + 34;
 }
 
 /// Where fields of a contour stand in its block.

@@ -1,6 +1,6 @@
 //! Numbers to try, from a seed: the same seed gives the same run on every machine.
 
-use crate::limits::REACH;
+use crate::limits::{GRID_REACH, PER_MM, REACH};
 use std::cell::Cell;
 
 /// SplitMix64: small, and every seed is as good as another.
@@ -81,12 +81,35 @@ impl Random {
         let size = match kind {
             Kind::Wide => self.unit() * REACH,
             Kind::Sheet => self.unit() * 3000.0,
-            Kind::Grid => self.below(3000 << 10) as f64 / 1024.0,
+            Kind::Grid => self.below(3000 << 10) as f64 / PER_MM,
             Kind::Whole => self.below(6) as f64,
             Kind::Tiny => self.unit() * self.pick(&[1e-3, 1e-6, 1e-12, 1e-13, 1e-150]),
             Kind::Subnormal => f64::from_bits(self.below(1 << self.pick(&[3, 20, 52]))),
             Kind::Edge => self.pick(&[0.0, REACH, REACH - 1.0, REACH.next_down(), f64::MIN_POSITIVE, 1e-12]),
         };
+        self.either_way(size)
+    }
+
+    /// A coordinate on the grid and within its reach: a few steps from zero, on a sheet, anywhere, or about the reach.
+    pub fn on_grid(&self) -> f64 {
+        let most = (GRID_REACH * PER_MM) as u64;
+        let steps =
+            self.pick(&[self.below(9), self.below(3000 << 10), self.below(most + 1), most - self.below(3), most]);
+        self.either_way(steps as f64 / PER_MM)
+    }
+
+    /// A coordinate within reach, on the grid or beside it: halfway between two of its points, next to that, elsewhere
+    /// between them, or so near to zero that it goes there.
+    pub fn about_grid(&self) -> f64 {
+        let most = (REACH * PER_MM) as u64;
+        let steps = self.pick(&[self.below(9), self.below(3000 << 10), most - self.below(4)]);
+        let x = (steps as f64 + self.pick(&[0.0, 0.5, 0.5, 0.25, self.unit()])) / PER_MM;
+        let tiny = self.pick(&[0.0, 1e-5, 1e-13, f64::from_bits(1), (0.5 / PER_MM).next_down()]);
+        self.either_way(self.pick(&[x, x, x, x.next_up(), x.next_down(), tiny]).min(REACH))
+    }
+
+    /// A number of this size, above or below zero.
+    pub fn either_way(&self, size: f64) -> f64 {
         if self.one_in(2) { -size } else { size }
     }
 

@@ -23,6 +23,7 @@ const PAIRS: usize = 248;
 const PER_CONTOUR: usize = 8;
 const PASSES: usize = 1000;
 const DIRECTION: u8 = 2;
+const GRID: u8 = 1;
 const CANDIDATES: usize = 80;
 const VERTICES: usize = 30;
 const TYPE: u8 = 1;
@@ -40,7 +41,8 @@ mod head {
     pub const HOME: [usize; 2] = [16, 24];
     pub const EXTERIOR: usize = 32;
     pub const INTERIOR: usize = 33;
-    pub const END: usize = 34;
+    // in version 2: request 2026-07
+    pub const GRID: usize = 34;
 }
 
 /// Where a contour's fields stand in its payload.
@@ -194,7 +196,7 @@ pub fn refusal(bytes: &[u8]) -> Option<Refusal> {
         return Some((3, 0));
     }
     let head = &bytes[PAYLOAD];
-    if let Some(field) = bad_field(head) {
+    if let Some(field) = bad_field(head, version) {
         return Some((4, field));
     }
     let file = File::of(bytes);
@@ -224,8 +226,8 @@ pub fn refusal(bytes: &[u8]) -> Option<Refusal> {
         .or_else(|| lowest(12, led_back(file.n, file.joined())))
 }
 
-/// Row 4: which field of the head is out of its limits.
-fn bad_field(head: &[u8]) -> Option<u64> {
+/// Row 4: which field of the head is out of its limits. The last of them version 1 has not.
+fn bad_field(head: &[u8], version: u8) -> Option<u64> {
     let (n, m) = (u16_at(head, head::CONTOURS), u16_at(head, head::PAIRS));
     let (c, passes) = (u16_at(head, head::PER_CONTOUR), u16_at(head, head::PASSES));
     let faults = [
@@ -236,6 +238,7 @@ fn bad_field(head: &[u8]) -> Option<u64> {
         head[head::EXTERIOR] > DIRECTION,
         head[head::INTERIOR] > DIRECTION,
         n * c > CANDIDATES,
+        version == 2 && head[head::GRID] > GRID,
     ];
     faults.iter().position(|&fault| fault).map(|k| k as u64 + 1)
 }
@@ -250,7 +253,8 @@ fn bad_contour(payload: &[u8]) -> bool {
 fn spare<'a>(file: &File<'a>, block: usize) -> &'a [u8] {
     let all = PAYLOAD.len();
     let spare = match block {
-        0 => head::END..all,
+        0 if file.version == 1 => head::GRID..all,
+        0 => head::GRID + 1..all,
         b if b <= file.n => {
             let end = if file.version == 1 { all } else { contour::PART };
             contour::POINTS + POINT * file.v(b - 1)..end
@@ -313,9 +317,28 @@ pub fn card(bytes: &[u8]) -> Result<Card, Refusal> {
         home: head::HOME.map(|at| f64_at(head, at)).into(),
         exterior: head[head::EXTERIOR],
         interior: head[head::INTERIOR],
+        grid: if file.version == 1 { 0 } else { head[head::GRID] },
         contours: (0..file.n).map(contour).collect(),
         pairs: (0..file.m).map(pair).collect(),
     })
+}
+
+/// A number of millimetres at the nearest point of the grid of 1/1024 mm, halves away from zero and a zero always +0, as
+/// request 2026-07 says it: by whole numbers. What is not a number or infinite stays as it is.
+pub fn moved(x: f64) -> f64 {
+    let (exponent, fraction) = (x.to_bits() >> 52 & 0x7ff, x.to_bits() & ((1 << 52) - 1));
+    // its size is `digits` times 2^`power`; of infinities and of what is not a number the power is the largest
+    let (digits, power) = match exponent {
+        0 => (fraction, -1074),
+        _ => (fraction + (1 << 52), exponent as i32 - 1075),
+    };
+    if power >= -10 {
+        return x;
+    }
+    // the size in halves of a step, the rest cut off: an odd number of them, with or without a rest, goes up
+    let halves = digits.checked_shr(-(power + 11) as u32).unwrap_or(0);
+    let size = halves.div_ceil(2) as f64 / 1024.0;
+    if x.is_sign_negative() && size > 0.0 { -size } else { size }
 }
 
 /// The pairs of a good card that tours and cycles go by, as positions: the written ones, then those by rule.
@@ -338,6 +361,49 @@ fn joined_in_order() {
     card.pairs = [(7, 6), (1, 2), (1, 2)].map(|(before, after)| card.pair(before, after)).into();
     assert_eq!(joined(&card), [(7, 6), (1, 2), (1, 2), (0, 4), (1, 2), (3, 4)]);
     assert_eq!(joined(&Card { version: 1, ..card }), [(7, 6), (1, 2), (1, 2)]);
+}
+
+/// The request's words: the nearest point, halves away from zero, a zero always +0.
+#[test]
+fn moved_as_the_request_says() {
+    let step = 1.0 / 1024.0;
+    let due = [
+        (0.0, 0.0),
+        (0.25, 0.0),
+        (0.5f64.next_down(), 0.0),
+        (0.5, 1.0),
+        (1.0, 1.0),
+        (1.5f64.next_down(), 1.0),
+        (1.5, 2.0),
+        (2.5, 3.0),
+        (8_388_607.5, 8_388_608.0),
+        (1_073_741_823.5, 1_073_741_824.0),
+        (4_503_599_627_370_495.5, 4_503_599_627_370_496.0),
+        (4_503_599_627_370_497.0, 4_503_599_627_370_497.0),
+    ];
+    for (from, to) in due {
+        let (from, to) = (from * step, to * step);
+        let back = if to == 0.0 { 0.0 } else { -to };
+        assert_eq!([moved(from), moved(-from)].map(f64::to_bits), [to, back].map(f64::to_bits), "{from}");
+    }
+    for (tiny, due) in [(f64::from_bits(1), 0.0), (f64::MIN_POSITIVE, 0.0), (f64::MAX, f64::MAX)] {
+        assert_eq!(moved(tiny).to_bits(), f64::to_bits(due));
+    }
+    assert!(moved(f64::NAN).is_nan() && [f64::INFINITY, f64::NEG_INFINITY].iter().all(|&x| moved(x) == x));
+}
+
+/// Byte 34 of the head is a field in version 2 and spare in version 1.
+#[test]
+fn the_grid_is_a_field_of_version_2() {
+    let empty = |version, grid| Card { version, grid, c: 1, ..Card::default() };
+    for grid in [0, 1] {
+        assert_eq!(card(&empty(2, grid).bytes()), Ok(empty(2, grid)));
+    }
+    assert_eq!(card(&empty(2, 2).bytes()), Err((4, 8)));
+    let mut bytes = empty(1, 0).bytes();
+    bytes[crate::limits::head::GRID] = 1;
+    crate::card::seal(&mut bytes);
+    assert_eq!(card(&bytes), Err((7, 0)));
 }
 
 /// The Rust host's limits are those that this reading takes from the paper.

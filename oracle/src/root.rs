@@ -26,7 +26,7 @@ fn due(x: f64) -> doors::Told {
 
 /// A number's bits; the proved code and the processor may have different bits for what is not a number. (Were that told
 /// as some 64 bits that a NaN has too, the compiler could take the processor's own NaN for it.)
-fn plain(x: f64) -> Option<u64> {
+pub fn plain(x: f64) -> Option<u64> {
     (!x.is_nan()).then(|| x.to_bits())
 }
 

@@ -88,6 +88,36 @@ impl Tally {
     }
 }
 
+/// Whether a case is of a kind.
+type Test<T> = Box<dyn Fn(&T) -> bool + Sync>;
+
+/// The kinds of cases that a run must meet often enough, each with what tells a case of it.
+pub struct Kinds<T>(Vec<(Tally, Test<T>)>);
+
+impl<T> Kinds<T> {
+    pub fn none() -> Kinds<T> {
+        Kinds(Vec::new())
+    }
+
+    /// One kind more: one in so many cases must be of it.
+    pub fn and(mut self, what: &'static str, one_in: u64, is: impl Fn(&T) -> bool + Sync + 'static) -> Kinds<T> {
+        self.0.push((Tally::of(what, one_in), Box::new(is)));
+        self
+    }
+
+    pub fn count(&self, case: &T) {
+        self.0.iter().for_each(|(tally, is)| tally.count(is(case)));
+    }
+
+    /// Prints how many of the cases were of each kind, and says whether those are enough.
+    pub fn enough(self, cases: u64) -> bool {
+        self.0.into_iter().fold(true, |all, (tally, _)| tally.enough(cases) & all)
+    }
+}
+
+/// How many candidates of a contour are asked for, told by a kind each.
+pub const ASKED_FOR: [&str; 8] = ["with c = 1", "with 2", "with 3", "with 4", "with 5", "with 6", "with 7", "with 8"];
+
 /// Two answers that must be the same.
 pub fn same<T: PartialEq + std::fmt::Debug>(what: impl FnOnce() -> String, ours: T, theirs: T) -> Result<u64, String> {
     if ours == theirs { Ok(1) } else { Err(format!("{}: ours {ours:x?}, theirs {theirs:x?}", what())) }

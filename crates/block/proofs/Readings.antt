@@ -66,6 +66,16 @@ each-zeros s at count h =
     let k : i < count = omega (arith, length-take count (drop at s)) in
     getD-take count (drop at s) i 0 k ∙ getD-drop at s i 0 ∙ h i k)
 
+-- a zero before the run changes nothing
+pub zero-before : (s : List ℕ) (at count : ℕ) → byteAt s at ≡ 0 → zerosAt s (suc at) count ≡ zerosAt s at (suc count)
+unfolding zerosAt allZero
+zero-before [] zero zero e = refl
+zero-before [] zero (suc count) e = refl
+zero-before [] (suc at) zero e = refl
+zero-before [] (suc at) (suc count) e = refl
+zero-before (x ∷ s) zero count e = rw e
+zero-before (x ∷ s) (suc at) count e = zero-before s at count e
+
 -- ---- a place that was cut off at the end reads what the place itself reads
 
 module _ (s : List ℕ) (a : ℕ) where

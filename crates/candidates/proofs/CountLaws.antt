@@ -20,33 +20,33 @@ use Rattle.candidates.proofs.FillLaws.{spaced-length}
 
 -- ---- how many
 
-from-count : (way : CutDirection) (v : Point) (ps : List Point) (c : ℕ) → 0 < c
-    → (0 < length (candidatesFrom way v ps c)) × (length (candidatesFrom way v ps c) ≤ c)
+from-count : (grid : Bool) (way : CutDirection) (v : Point) (ps : List Point) (c : ℕ) → 0 < c
+    → (0 < length (candidatesFrom grid way v ps c)) × (length (candidatesFrom grid way v ps c) ≤ c)
 unfolding candidatesFrom
-from-count way v ps c h = go (eqb c 1) (lt (perimeterOf ps) tiny)
+from-count grid way v ps c h = go (eqb c 1) (lt (perimeterOf ps) tiny)
   where
     go : (p q : Bool)
         → (0 < length (cond p (candidateAt way (spot v 0) ∷ [])
-        (cond q (candidateAt way (spot v 0) ∷ []) (spaced way ps (perimeterOf ps) c 0 c))))
+        (cond q (candidateAt way (spot v 0) ∷ []) (spaced grid way ps (perimeterOf ps) c 0 c))))
         × (length (cond p (candidateAt way (spot v 0) ∷ [])
-        (cond q (candidateAt way (spot v 0) ∷ []) (spaced way ps (perimeterOf ps) c 0 c))) ≤ c)
+        (cond q (candidateAt way (spot v 0) ∷ []) (spaced grid way ps (perimeterOf ps) c 0 c))) ≤ c)
     go true q = (omega arith, omega arith)
     go false true = (omega arith, omega arith)
-    go false false = let e = spaced-length way ps (perimeterOf ps) c 0 c in (omega arith, omega arith)
+    go false false = let e = spaced-length grid way ps (perimeterOf ps) c 0 c in (omega arith, omega arith)
 
 -- a contour that has a vertex has a candidate, if any are wanted
-pub count-some : (way : CutDirection) (ps : List Point) (c : ℕ) → 0 < length ps → 0 < c
-    → 0 < length (candidatesOf way ps c)
+pub count-some : (grid : Bool) (way : CutDirection) (ps : List Point) (c : ℕ) → 0 < length ps → 0 < c
+    → 0 < length (candidatesOf grid way ps c)
 unfolding candidatesOf
-count-some way [] c h g = absurd (not-suc-le-zero h)
-count-some way (v ∷ more) c h g = from-count way v (v ∷ more) (min c perContourLimit) (omega arith) .0
+count-some grid way [] c h g = absurd (not-suc-le-zero h)
+count-some grid way (v ∷ more) c h g = from-count grid way v (v ∷ more) (min c perContourLimit) (omega arith) .0
 
 -- and never more than are wanted
-pub count-within : (way : CutDirection) (ps : List Point) (c : ℕ) → 0 < c
-    → length (candidatesOf way ps c) ≤ min c perContourLimit
+pub count-within : (grid : Bool) (way : CutDirection) (ps : List Point) (c : ℕ) → 0 < c
+    → length (candidatesOf grid way ps c) ≤ min c perContourLimit
 unfolding candidatesOf
-count-within way [] c g = omega arith
-count-within way (v ∷ more) c g = from-count way v (v ∷ more) (min c perContourLimit) (omega arith) .1
+count-within grid way [] c g = omega arith
+count-within grid way (v ∷ more) c g = from-count grid way v (v ∷ more) (min c perContourLimit) (omega arith) .1
 
 -- ---- what each keeps
 
@@ -64,27 +64,29 @@ unfolding AllClosed
 one-closed way s zero h = record { same-x = refl; same-y = refl; same-way = refl }
 one-closed way s (suc k) h = absurd (not-suc-le-zero (le-of-suc-le-suc h))
 
-spaced-closed : (way : CutDirection) (ps : List Point) (total : Float) (c k n : ℕ)
-    → AllClosed way (spaced way ps total c k n)
+spaced-closed : (grid : Bool) (way : CutDirection) (ps : List Point) (total : Float) (c k n : ℕ)
+    → AllClosed way (spaced grid way ps total c k n)
 unfolding AllClosed spaced
-spaced-closed way ps total c k zero j h = absurd (not-suc-le-zero h)
-spaced-closed way ps total c k (suc n) zero h = record { same-x = refl; same-y = refl; same-way = refl }
-spaced-closed way ps total c k (suc n) (suc j) h = spaced-closed way ps total c (suc k) n j (le-of-suc-le-suc h)
+spaced-closed grid way ps total c k zero j h = absurd (not-suc-le-zero h)
+spaced-closed grid way ps total c k (suc n) zero h = record { same-x = refl; same-y = refl; same-way = refl }
+spaced-closed grid way ps total c k (suc n) (suc j) h =
+    spaced-closed grid way ps total c (suc k) n j (le-of-suc-le-suc h)
 
-pub each-closed : (way : CutDirection) (ps : List Point) (c k : ℕ) → k < length (candidatesOf way ps c)
-    → Closed way (getD (candidatesOf way ps c) k blank)
+pub each-closed : (grid : Bool) (way : CutDirection) (ps : List Point) (c k : ℕ)
+    → k < length (candidatesOf grid way ps c)
+    → Closed way (getD (candidatesOf grid way ps c) k blank)
 unfolding candidatesOf candidatesFrom AllClosed
-each-closed way [] c k h = absurd (not-suc-le-zero h)
-each-closed way (v ∷ more) c k h = go (eqb (min c perContourLimit) 1) (lt (perimeterOf (v ∷ more)) tiny) k h
+each-closed grid way [] c k h = absurd (not-suc-le-zero h)
+each-closed grid way (v ∷ more) c k h = go (eqb (min c perContourLimit) 1) (lt (perimeterOf (v ∷ more)) tiny) k h
   where
     go : (p q : Bool)
         → AllClosed way (cond p (candidateAt way (spot v 0) ∷ [])
         (cond q (candidateAt way (spot v 0)
-        ∷ []) (spaced way (v ∷ more) (perimeterOf (v ∷ more)) (min c perContourLimit) 0 (min c perContourLimit))))
+        ∷ []) (spaced grid way (v ∷ more) (perimeterOf (v ∷ more)) (min c perContourLimit) 0 (min c perContourLimit))))
     go true q = one-closed way (spot v 0)
     go false true = one-closed way (spot v 0)
     go false false =
-        spaced-closed way (v ∷ more) (perimeterOf (v ∷ more)) (min c perContourLimit) 0 (min c perContourLimit)
+        spaced-closed grid way (v ∷ more) (perimeterOf (v ∷ more)) (min c perContourLimit) 0 (min c perContourLimit)
 
 -- ---- where they stand
 

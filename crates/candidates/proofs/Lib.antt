@@ -2,5 +2,7 @@ pub mod AlongLaws
 pub mod FillLaws
 pub mod GenerateLaws
 pub mod CountLaws
+pub mod EachLaws
 pub mod SizeLaws
+pub mod Moved
 pub mod Starred

@@ -2,12 +2,10 @@
 use mathlib.Core.Path.{_≡_, refl, sym}
 use mathlib.Core.Bool.{Bool, true, false, cond}
 use mathlib.Core.List.{List, [], _∷_}
-use Prim.Native.Nat.{ℕ, zero, suc, _+_, _-_, _*_, _≤_, _<_, min}
-use native.Mathlib.Nat.{le-trans, le-of-eq, mul-one, one-mul, mul-le-mul-right, not-suc-le-zero, le-of-suc-le-suc}
-use native.Mathlib.Nat.{zero-lt-suc}
-use Prim.Native.Nat.{suc-le-suc}
+use Prim.Native.Nat.{ℕ, suc, _+_, _-_, _*_, _≤_, _<_, min}
+use native.Mathlib.Nat.{le-trans, le-of-eq, mul-one, one-mul, mul-le-mul-right}
 use native.Mathlib.Omega.{arith}
-use lib.Dec.{eqb, lit≤}
+use lib.Dec.{lit≤}
 use lib.IntN.{pos}
 use lib.ListN.{length, getD}
 use lib.Ieee.{Float, nan, inf, fin, binary64, down, add, sub, mul, div, lt, ofInt, ofBits}
@@ -17,20 +15,21 @@ use Rattle.answer.specs.declared.Point.{Point}
 use Rattle.answer.specs.declared.CutDirection.{CutDirection}
 use Rattle.fields.specs.Limits.{perContourLimit, vertexLimit}
 use Rattle.points.specs.declared.Ends.{Ends}
-use Rattle.points.specs.Points.{point, nowhere, closing, edges}
+use Rattle.points.specs.Points.{point, nowhere, edges}
 use Rattle.points.specs.Bad.{badPoint}
 use Rattle.points.specs.Numbers.{zero64, tiny}
 use Rattle.points.specs.Along.{alongOf}
-use Rattle.points.proofs.PointLaws.{edges-length}
+use Rattle.grid.specs.Move.{movedPoint}
+use Rattle.grid.proofs.SizeLaws.{moved-under}
+use Rattle.points.proofs.PointLaws.{edges-length, EndsBoth, AllEnds, edges-ends}
 use Rattle.points.proofs.SizeLaws.{Under, Plus, Over, Near, under-more, plus-under, plus-more, near-more, add-under}
 use Rattle.points.proofs.SizeLaws.{sub-under, add-plus, mul-under, div-under, rem-under, distance-plus, good-near}
 use Rattle.points.proofs.SizeLaws.{not-tiny}
 use Rattle.candidates.specs.declared.Spot.{Spot}
-use Rattle.candidates.specs.declared.Candidate.{Candidate}
 use Rattle.candidates.specs.Along.{edgeLength, around, perimeterOf, spot, reaches, onEdge, spotFrom, lastSpot}
 use Rattle.candidates.specs.Along.{spotAt}
-use Rattle.candidates.specs.Generate.{candidateAt, blank, target, spaced, candidatesFrom, candidatesOf}
-use Rattle.candidates.proofs.FillLaws.{spaced-length}
+use Rattle.candidates.specs.Generate.{blank, target, movedIf, candidatesOf}
+use Rattle.candidates.proofs.EachLaws.{each-has}
 
 -- ---- every vertex is good, so is every edge's end
 
@@ -38,26 +37,13 @@ abbrev pub AllGood : List Point → Type 0
 AllGood ps = (j : ℕ) → j < length ps → badPoint (getD ps j nowhere) ≡ false
 
 abbrev Ended : Ends → Type 0
-Ended e = Near 20 (e .start) × Near 20 (e .finish)
+Ended e = EndsBoth (Near 20) e
 
 abbrev AllEnded : List Ends → Type 0
-AllEnded [] = Unit
-AllEnded (e ∷ more) = Ended e × AllEnded more
-
-closing-ended : (first p : Point) (rest : List Point) → Near 20 first → Near 20 p → AllGood rest
-    → AllEnded (closing first p rest)
-unfolding closing
-closing-ended first p [] f n good = ((n, f), tt)
-closing-ended first p (q ∷ more) f n good =
-    let m = good-near q (good 0 (zero-lt-suc (length more))) in
-    ((n, m), closing-ended first q more f m (λ j h. good (suc j) (suc-le-suc h)))
+AllEnded es = AllEnds (Near 20) es
 
 edges-ended : (ps : List Point) → AllGood ps → AllEnded (edges ps)
-unfolding edges
-edges-ended [] good = tt
-edges-ended (p ∷ more) good =
-    let n = good-near p (good 0 (zero-lt-suc (length more))) in
-    closing-ended p p more n n (λ j h. good (suc j) (suc-le-suc h))
+edges-ended ps good = edges-ends (Near 20) ps (λ j h. good-near (getD ps j nowhere) (good j h))
 
 length-plus : (e : Ends) → Ended e → Plus 25 (edgeLength e)
 length-plus e n = distance-plus 20 (e .start) (e .finish) (lit≤ tt) (n .0) (n .1)
@@ -168,6 +154,10 @@ spot-near last d i before (e ∷ more) j l u n low high w =
 
 -- ---- the candidates
 
+-- no candidate of a contour that was not refused lies farther out than this power of two
+abbrev pub outmost : ℕ
+outmost = 161
+
 module _ (ps : List Point) (good : AllGood ps) (few : length ps ≤ vertexLimit) (some : 0 < length ps) where
   vertex-near : (j : ℕ) → j < length ps → Near 160 (getD ps j nowhere)
   vertex-near j h = near-more 20 160 (getD ps j nowhere) (lit≤ tt) (good-near (getD ps j nowhere) (good j h))
@@ -179,51 +169,25 @@ module _ (ps : List Point) (good : AllGood ps) (few : length ps ≤ vertexLimit)
       spot-near (lastSpot ps) d 0 zero64 (edges ps) 25 (vertex-near (length ps - 1) (omega arith)) u
       (edges-ended ps good) (lit≤ tt) (omega arith) zero-plus
 
-  spaced-near : (way : CutDirection) (c k n : ℕ) → lt (perimeterOf ps) tiny ≡ false → 0 < c → c ≤ 8 → k + n ≤ c
-      → (j : ℕ) → j < n
-      → Near 160 (point (getD (spaced way ps (perimeterOf ps) c k n) j blank .x)
-      (getD (spaced way ps (perimeterOf ps) c k n) j blank .y))
-  unfolding spaced
-  spaced-near way c k zero h low high fit j less = absurd (not-suc-le-zero less)
-  spaced-near way c k (suc n) h low high fit zero less =
-      spot-at-near (target (perimeterOf ps) c k) (target-under (perimeterOf ps) c k (perimeter-plus ps good few) h low
-      high (omega arith))
-  spaced-near way c k (suc n) h low high fit (suc j) less =
-      spaced-near way c (suc k) n h low high (omega arith) j (le-of-suc-le-suc less)
+  -- moved to the grid or not
+  placed-near : (grid : Bool) (d : Float) → Under 92 d → Near outmost (movedIf grid (spotAt ps d) .point)
+  unfolding movedPoint
+  placed-near false d u = near-more 160 outmost (spotAt ps d .point) (lit≤ tt) (spot-at-near d u)
+  placed-near true d u =
+      let n = spot-at-near d u in record {
+        x-under = moved-under 160 (spotAt ps d .point .x) (lit≤ tt) (n .x-under);
+        y-under = moved-under 160 (spotAt ps d .point .y) (lit≤ tt) (n .y-under);
+      }
 
-  from-near : (way : CutDirection) (v : Point) (c : ℕ) → Near 160 v → c ≤ 8
-      → (j : ℕ) → j < length (candidatesFrom way v ps c)
-      → Near 160 (point (getD (candidatesFrom way v ps c) j blank .x) (getD (candidatesFrom way v ps c) j blank .y))
-  unfolding candidatesFrom
-  from-near way v c n high = go (eqb c 1) (lt (perimeterOf ps) tiny) refl
-    where
-      whole : Bool → Bool → List Candidate
-      whole p q =
-          cond p (candidateAt way (spot v 0) ∷ [])
-          (cond q (candidateAt way (spot v 0) ∷ []) (spaced way ps (perimeterOf ps) c 0 c))
-
-      one : (j : ℕ) → j < 1
-          → Near 160 (point (getD (candidateAt way (spot v 0) ∷ []) j blank .x)
-          (getD (candidateAt way (spot v 0) ∷ []) j blank .y))
-      one zero h = n
-      one (suc j) h = absurd (not-suc-le-zero (le-of-suc-le-suc h))
-
-      go : (p q : Bool) → lt (perimeterOf ps) tiny ≡ q → (j : ℕ) → j < length (whole p q)
-          → Near 160 (point (getD (whole p q) j blank .x) (getD (whole p q) j blank .y))
-      go true q e j h = one j h
-      go false true e j h = one j h
-      go false false e j h =
-          let l = spaced-length way ps (perimeterOf ps) c 0 c in
-          spaced-near way c 0 c e (omega arith) high (omega arith) j (omega arith)
-
--- every candidate of a contour that was not refused lies within 2^160, so its distance to any other such point, home
--- too, is finite (`distance-below`)
-pub each-near : (way : CutDirection) (ps : List Point) (c : ℕ) → AllGood ps → length ps ≤ vertexLimit
-    → (k : ℕ) → k < length (candidatesOf way ps c)
-    → Near 160 (point (getD (candidatesOf way ps c) k blank .x) (getD (candidatesOf way ps c) k blank .y))
-unfolding candidatesOf
-each-near way [] c good few k h = absurd (not-suc-le-zero h)
-each-near way (v ∷ more) c good few k h =
-    let some = zero-lt-suc (length more) in
-    from-near (v ∷ more) good few some way v (min c perContourLimit) (vertex-near (v ∷ more) good few some 0 some)
-    (omega arith) k h
+-- every candidate of a contour that was not refused is near, so its distance to any other such point, home too, is
+-- finite (`distance-below`)
+pub each-near : (grid : Bool) (way : CutDirection) (ps : List Point) (c : ℕ) → AllGood ps → length ps ≤ vertexLimit
+    → (k : ℕ) → k < length (candidatesOf grid way ps c)
+    → Near outmost (point (getD (candidatesOf grid way ps c) k blank .x) (getD (candidatesOf grid way ps c) k blank .y))
+each-near grid way ps c good few =
+    each-has (Near outmost) grid way ps c
+    (λ some. near-more 160 outmost (getD ps 0 nowhere) (lit≤ tt) (vertex-near ps good few some 0 some))
+    (λ some h k l.
+    placed-near ps good few some grid (target (perimeterOf ps) (min c perContourLimit) k)
+    (target-under (perimeterOf ps) (min c perContourLimit) k (perimeter-plus ps good few) h (omega arith) (omega arith)
+    l))

@@ -2,3 +2,4 @@ pub mod Direction
 pub mod Along
 pub mod Generate
 pub mod Question
+pub mod Moved

@@ -38,6 +38,8 @@ abbrev pub offered : Check → Candidates → Offered
 offered Fine found = record { check = Fine; found = found }
 offered (Refused r) found = record { check = Refused r; found = filled [] }
 
-unfoldable pub offeredOf : List Float → ℕ → ContourType → CutDirectionPreference → CutDirectionPreference → Offered
-offeredOf numbers c kind exterior interior =
-    offered (oneContour numbers c) (filled (candidatesOf (directionOf kind exterior interior) (points numbers) c))
+-- c candidates of a contour, on the grid where that is asked for
+unfoldable pub offeredOf : List Float → ℕ → Bool → ContourType → CutDirectionPreference → CutDirectionPreference
+    → Offered
+offeredOf numbers c grid kind exterior interior =
+    offered (oneContour numbers c) (filled (candidatesOf grid (directionOf kind exterior interior) (points numbers) c))

@@ -1,4 +1,4 @@
-// Where on a contour's boundary the beam may pierce, and which way round the contour is cut.
+// Where on a contour's boundary, or on the grid beside it, the beam may pierce, and which way round the contour is cut.
 ghost use mathlib.Core.Path.{_≡_};
 ghost use mathlib.Core.List.{[], _∷_};
 ghost use Prim.Native.Nat.{_≤_, min};
@@ -7,7 +7,7 @@ ghost use Rattle.fields.specs.Limits.{perContourLimit};
 ghost use Rattle.points.specs.Points.{points, nowhere};
 ghost use Rattle.candidates.specs.Direction.{directionOf};
 ghost use Rattle.candidates.specs.Along.{edgeLength, perimeterOf, reaches, onEdge, spot, spotAt, lastSpot};
-ghost use Rattle.candidates.specs.Generate.{candidateAt, blank, target, spaced, candidatesOf, filled};
+ghost use Rattle.candidates.specs.Generate.{candidateAt, blank, target, movedIf, spaced, candidatesOf, filled};
 ghost use Rattle.candidates.specs.Question.{outside, contourCheck, oneContour, offeredOf};
 use answer::Check;
 use answer::ContourType;
@@ -20,8 +20,8 @@ use fields::VERTICES;
 use points::Ends;
 use points::TINY;
 
-// A place where the beam may pierce: the point, where the beam stands after the cut, the vertex at which the point's edge
-// starts, and which way round the contour is cut.
+// A place where the beam may pierce: the point, where the beam stands after the cut, the vertex at which the edge starts that
+// the point was found on, and which way round the contour is cut.
 pub struct Candidate {
     pub x: f64,
     pub y: f64,
@@ -37,7 +37,8 @@ pub struct Candidates {
     pub count: usize,
 }
 
-// A place on a contour's boundary, and the vertex at which its edge starts.
+// A place found on a contour's boundary, or moved from there to the grid, and the vertex at which the edge starts that it was
+// found on.
 pub struct Spot {
     pub point: Point,
     pub vertex: usize,
@@ -218,16 +219,29 @@ fn target_of(total: f64, c: usize, k: usize) -> f64
     std::num::nearest_u64_to_f64(k as u64) * spacing % total
 }
 
-// c candidates, spaced evenly along the way.
-fn spaced(direction: CutDirection, numbers: &[f64], total: f64, c: usize) -> Candidates
+// A spot found at a distance, on the grid where that is asked for; its vertex is the one found.
+fn moved_if(grid: bool, s: Spot) -> Spot
+    ensures { λ r. ⌜ r ≡ movedIf grid s ⌝ }
+{
+    if grid {
+        return Spot {
+            point: grid::moved_point(s.point),
+            vertex: s.vertex,
+        };
+    }
+    s
+}
+
+// c candidates, spaced evenly along the way, on the grid where that is asked for.
+fn spaced(grid: bool, direction: CutDirection, numbers: &[f64], total: f64, c: usize) -> Candidates
     requires { ⌜ c ≤ perContourLimit ⌝ }
-    ensures { λ r. ⌜ r ≡ filled (spaced direction (points (now (numbers .entry))) total c 0 c) ⌝ }
+    ensures { λ r. ⌜ r ≡ filled (spaced grid direction (points (now (numbers .entry))) total c 0 c) ⌝ }
 {
     let mut items = [blank(); PER_CONTOUR];
     let mut k = 0;
     while k < c {
         let s = spot_at(numbers, target_of(total, c, k));
-        items[k] = candidate_at(direction, s);
+        items[k] = candidate_at(direction, moved_if(grid, s));
         k += 1;
     }
     Candidates { items, count: c }
@@ -243,15 +257,17 @@ fn held(c: usize) -> usize
     PER_CONTOUR
 }
 
-// The candidates of a contour whose coordinates are known to be good; at most as many as can be held.
+// The candidates of a contour whose coordinates are known to be good; at most as many as can be held. Where the grid is
+// asked for, those spaced along the way are moved to it.
 pub fn candidates_of(
     numbers: &[f64],
     c: usize,
+    grid: bool,
     kind: ContourType,
     exterior: CutDirectionPreference,
     interior: CutDirectionPreference,
 ) -> Candidates
-    ensures { λ r. ⌜ r ≡ filled (candidatesOf (directionOf kind exterior interior) (points (now (numbers .entry))) c) ⌝ }
+    ensures { λ r. ⌜ r ≡ filled (candidatesOf grid (directionOf kind exterior interior) (points (now (numbers .entry))) c) ⌝ }
 {
     let direction = determine_direction(kind, exterior, interior);
     if numbers.len() / 2 == 0 {
@@ -265,7 +281,7 @@ pub fn candidates_of(
     if total < TINY {
         return first_vertex(direction, numbers);
     }
-    spaced(direction, numbers, total, wanted)
+    spaced(grid, direction, numbers, total, wanted)
 }
 
 // Whether a number is not from 1 to the most.
@@ -306,16 +322,17 @@ fn one_contour(numbers: &[f64], c: usize) -> Check
 pub fn contour_candidates(
     numbers: &[f64],
     c: usize,
+    grid: bool,
     kind: ContourType,
     exterior: CutDirectionPreference,
     interior: CutDirectionPreference,
 ) -> Offered
-    ensures { λ r. ⌜ r ≡ offeredOf (now (numbers .entry)) c kind exterior interior ⌝ }
+    ensures { λ r. ⌜ r ≡ offeredOf (now (numbers .entry)) c grid kind exterior interior ⌝ }
 {
     let check = one_contour(numbers, c);
     match check {
         Check::Fine => {
-            let found = candidates_of(numbers, c, kind, exterior, interior);
+            let found = candidates_of(numbers, c, grid, kind, exterior, interior);
             Offered { check, found }
         }
         Check::Refused(_) => {

@@ -82,7 +82,7 @@ pub no-more : (contours pairs : ℕ) (s : List ℕ) → headFaultWithin contours
     → (contoursOf s ≤ contours) × (pairsOf s ≤ pairs)
 unfolding headFaultWithin
 no-more contours pairs s e =
-    let none = is-absent (λ f. getD (headFaultsWithin contours pairs s) f false) 8 e in
+    let none = is-absent (λ f. getD (headFaultsWithin contours pairs s) f false) 9 e in
     (ltb-false _ _ (none 1 (lit< tt)), ltb-false _ _ (none 2 (lit< tt)))
 
 pub few-of-both : (s : List ℕ) → firstRefusal (cardStages s) ≡ Fine

@@ -8,20 +8,20 @@ use native.Mathlib.Omega.{arith}
 use lib.Dec.{eqb}
 use borrow.Author.Tests.{le-leb, lt-leb, eq-eqb, ne-eqb}
 use Rattle.block.specs.Block.{payloadBytes, allZero, zerosAt}
-use Rattle.fields.specs.Layout.{payload, hasParts, contoursOf, vertexCountOf, headSize, contourSize, vertexSize}
-use Rattle.fields.specs.Layout.{pairSize, partOffset}
-use Rattle.card.specs.Stages.{kindDue, pairsIn, usedIn, spareEnd, badSpare}
+use Rattle.fields.specs.Layout.{payload, isTwo, contoursOf, vertexCountOf, contourSize, vertexSize, pairSize}
+use Rattle.fields.specs.Layout.{partOffset}
+use Rattle.card.specs.Stages.{kindDue, pairsIn, headUsed, usedIn, spareEnd, badSpare}
 
 -- spare bytes end with the payload at the latest
 pub end-within : (s : List ℕ) (b : ℕ) → spareEnd s b ≤ payloadBytes
-end-within s b = go (eqb (kindDue s b) 2 && hasParts s)
+end-within s b = go (eqb (kindDue s b) 2 && isTwo s)
   where
     go : (t : Bool) → cond t partOffset payloadBytes ≤ payloadBytes
     go true = omega arith
     go false = omega arith
 
 module _ (s : List ℕ) (b : ℕ) (head : b ≡ 0) where
-  pub used-head : headSize ≡ usedIn s b
+  pub used-head : headUsed s ≡ usedIn s b
   used-head = rw (eq-eqb b 0 head)
 
   pub end-head : payloadBytes ≡ spareEnd s b
@@ -32,7 +32,7 @@ module _ (s : List ℕ) (b : ℕ) (later : b ≡ 0 → ⊥) where
       → contourSize + vertexSize * v ≡ usedIn s b
   used-contour v h e = rw (ne-eqb b 0 later, le-leb b (contoursOf s) h, e)
 
-  pub end-contour : b ≤ contoursOf s → cond (hasParts s) partOffset payloadBytes ≡ spareEnd s b
+  pub end-contour : b ≤ contoursOf s → cond (isTwo s) partOffset payloadBytes ≡ spareEnd s b
   end-contour h = rw (ne-eqb b 0 later, le-leb b (contoursOf s) h)
 
   pub used-pairs : (r : ℕ) → contoursOf s < b → r ≡ pairSize * pairsIn s b → r ≡ usedIn s b

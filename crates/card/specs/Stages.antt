@@ -15,10 +15,10 @@ use Rattle.fields.specs.Limits.{cardBytes, perContourLimit, candidateLimit, pas
 use Rattle.fields.specs.Limits.{farthest}
 use Rattle.card.specs.declared.Asked.{Asked}
 use Rattle.card.specs.declared.Asked.the-variants.{Checks, Starts, Spares, Contours, Ids, Points}
-use Rattle.fields.specs.Layout.{blocksOf, payload, versionOf, hasParts, contoursOf, pairsOf, perContourOf, passesOf}
-use Rattle.fields.specs.Layout.{homeOffset, exteriorOf, interiorOf, idOf, tagOf, vertexCountOf, typeOf, fillerOf}
-use Rattle.fields.specs.Layout.{vertexOffset, beforeIdOf, beforeTagOf, afterIdOf, afterTagOf}
-use Rattle.fields.specs.Layout.{headSize, contourSize, vertexSize, pairSize, partOffset}
+use Rattle.fields.specs.Layout.{blocksOf, payload, versionOf, isTwo, contoursOf, pairsOf, perContourOf, passesOf}
+use Rattle.fields.specs.Layout.{homeOffset, exteriorOf, interiorOf, gridOf, idOf, tagOf, vertexCountOf, typeOf}
+use Rattle.fields.specs.Layout.{fillerOf, vertexOffset, beforeIdOf, beforeTagOf, afterIdOf, afterTagOf}
+use Rattle.fields.specs.Layout.{headSize, gridOffset, contourSize, vertexSize, pairSize, partOffset}
 
 -- this place, if the test holds
 abbrev pub foundIf : Bool → ℕ → Found
@@ -83,11 +83,12 @@ headFaultsWithin contours pairs s =
     ∷ ltb 2 (exteriorOf s)
     ∷ ltb 2 (interiorOf s)
     ∷ ltb candidateLimit (contoursOf s * perContourOf s)
+    ∷ ltb 1 (gridOf s)
     ∷ []
 
 unfoldable pub headFaultWithin : ℕ → ℕ → List ℕ → Found
 unfolding lowest
-headFaultWithin contours pairs s = lowest (λ f. getD (headFaultsWithin contours pairs s) f false) 8
+headFaultWithin contours pairs s = lowest (λ f. getD (headFaultsWithin contours pairs s) f false) 9
 
 abbrev pub headFaults : List ℕ → List Bool
 headFaults s = headFaultsWithin contourLimit pairLimit s
@@ -118,15 +119,19 @@ contourFault s = lowest (badContour s) (contoursOf s)
 abbrev pub pairsIn : List ℕ → ℕ → ℕ
 pairsIn s b = min pairsABlock (pairsOf s - pairsABlock * (b - (contoursOf s + 1)))
 
+-- how many bytes at the front of the head's payload are fields: version 2 has one more, which asks for the grid
+abbrev pub headUsed : List ℕ → ℕ
+headUsed s = cond (isTwo s) (gridOffset + 1) headSize
+
 -- how many bytes at the front of block b's payload are fields
 abbrev pub usedIn : List ℕ → ℕ → ℕ
 usedIn s b =
     let contour = contourSize + vertexSize * vertexCountOf s (b - 1) in
-    cond (eqb b 0) headSize (cond (leb b (contoursOf s)) contour (pairSize * pairsIn s b))
+    cond (eqb b 0) (headUsed s) (cond (leb b (contoursOf s)) contour (pairSize * pairsIn s b))
 
 -- where block b's spare bytes end: a version 2 contour has its part and copy behind them
 abbrev pub spareEnd : List ℕ → ℕ → ℕ
-spareEnd s b = cond (eqb (kindDue s b) 2 && hasParts s) partOffset payloadBytes
+spareEnd s b = cond (eqb (kindDue s b) 2 && isTwo s) partOffset payloadBytes
 
 abbrev pub badSpare : List ℕ → ℕ → Bool
 badSpare s b = not (zerosAt s (payload b + usedIn s b) (spareEnd s b - usedIn s b))

@@ -10,7 +10,7 @@ ghost use Rattle.answer.specs.Lowest.{refuseAt, lowest};
 ghost use Rattle.answer.specs.Stage.{firstRefusal};
 ghost use Rattle.closure.specs.Limits.{contourLimit, pairLimit};
 ghost use Rattle.fields.specs.Layout.{contoursOf, pairsOf};
-ghost use Rattle.card.specs.Stages.{lengthFault, kindDue, isVersion, badStart, headFaults, headFault, countFault, badContour, usedIn, spareEnd, badSpare, tooFar, farPoint, farVertex, farPlace, isAt, seekOf, repeats, positionOf, tagFault, faultAt};
+ghost use Rattle.card.specs.Stages.{lengthFault, kindDue, isVersion, badStart, headFaults, headFault, countFault, badContour, headUsed, usedIn, spareEnd, badSpare, tooFar, farPoint, farVertex, farPlace, isAt, seekOf, repeats, positionOf, tagFault, faultAt};
 ghost use Rattle.card.specs.Rules.{isHole, encloses, enclosingOf};
 ghost use Rattle.card.specs.Names.{writtenOn, pairsOn, namedAs, namedPairs, AllNamed, namedOf};
 ghost use Rattle.card.specs.Verdict.{cycleFault, cardStages, seatStages, pairStages, checkOf};
@@ -44,6 +44,9 @@ use fields::Y_AT;
 
 // The bytes of a block's payload.
 const PAYLOAD: usize = 500;
+
+// The head's fields by their numbers, from 0 on; there is no field 0.
+const HEAD_FIELDS: usize = 9;
 
 // The bits of 1,048,576.
 const FARTHEST: u64 = 0x4130_0000_0000_0000;
@@ -129,11 +132,13 @@ fn bad_start(card: &[u8], b: usize) -> bool
 }
 
 // Whether each of the head's fields is bad, by its number; there is no field 0.
-fn head_faults(card: &[u8]) -> [bool; 8]
+fn head_faults(card: &[u8]) -> [bool; HEAD_FIELDS]
     ensures { λ r. ⌜ r ≡ headFaults (now (card .entry)) ⌝ }
 {
     let n = block::u16_at(card, CONTOURS_AT) as usize;
     let c = block::u16_at(card, PER_CONTOUR_AT) as usize;
+    let all = n * c;
+    let grid = fields::grid(card);
     [
         false,
         CONTOURS < n,
@@ -142,7 +147,8 @@ fn head_faults(card: &[u8]) -> [bool; 8]
         PASSES < fields::passes(card),
         2 < block::byte_at(card, EXTERIOR_AT),
         2 < block::byte_at(card, INTERIOR_AT),
-        CANDIDATES < n * c,
+        CANDIDATES < all,
+        1 < grid,
     ]
 }
 
@@ -152,7 +158,7 @@ fn head_fault(card: &[u8]) -> Found
 {
     let faults = head_faults(card);
     let mut f: usize = 0;
-    while f < 8 {
+    while f < HEAD_FIELDS {
         if faults[f] {
             return Found::At(f);
         }
@@ -184,13 +190,23 @@ fn bad_contour(card: &[u8], k: usize) -> bool
             | (fields::contour_byte(card, k, FILLER_AT) != 0))
 }
 
+// How many bytes at the front of the head's payload are fields: version 2 has one more, which asks for the grid.
+fn head_used(card: &[u8]) -> usize
+    ensures { λ r. ⌜ r ≡ headUsed (now (card .entry)) ⌝ }
+{
+    if fields::is_two(card) {
+        return HEAD_SIZE + 1;
+    }
+    HEAD_SIZE
+}
+
 // How many bytes at the front of block b's payload are fields.
 fn used(card: &[u8], b: usize) -> usize
     requires { ⌜ 512 * b < 18446744073709551616 ⌝ }
     ensures { λ r. ⌜ r ≡ usedIn (now (card .entry)) b ⌝ }
 {
     if b == 0 {
-        return HEAD_SIZE;
+        return head_used(card);
     }
     let n = block::u16_at(card, CONTOURS_AT) as usize;
     if b <= n {
@@ -212,7 +228,7 @@ fn used(card: &[u8], b: usize) -> usize
 fn spare_end(card: &[u8], b: usize) -> usize
     ensures { λ r. ⌜ r ≡ spareEnd (now (card .entry)) b ⌝ }
 {
-    if (kind_due(card, b) == 2) & fields::has_parts(card) {
+    if (kind_due(card, b) == 2) & fields::is_two(card) {
         return PART_AT;
     }
     PAYLOAD

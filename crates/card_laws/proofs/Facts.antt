@@ -3,7 +3,7 @@
 use mathlib.Mathlib.Data.Bool.Basic.{eq-false-of-not-eq-true}
 use mathlib.Core.Path.{_≡_, refl, sym, ap, _∙_}
 use mathlib.Core.Logic.{_⊎_, inl, inr}
-use mathlib.Core.Bool.{Bool, true, false}
+use mathlib.Core.Bool.{Bool, true, false, cond}
 use mathlib.Core.List.{List, [], _∷_, _++_}
 use Prim.Native.Nat.{ℕ, zero, suc, _+_, _*_, _%_, _≤_, _<_}
 use native.Mathlib.Nat.{eq-or-lt-of-le, not-suc-le-zero, le-of-suc-le-suc}
@@ -14,18 +14,19 @@ use lib.Seq.{getD-at}
 use borrow.Author.Tests.{ltb-true, ltb-false, eqb-true, eqb-false}
 use Rattle.answer.specs.declared.Point.{Point}
 use Rattle.answer.specs.declared.Check.the-variants.{Fine}
+use Rattle.block.specs.Field.{byteAt}
 use Rattle.block.specs.Block.{blockBytes}
 use Rattle.points.specs.Bad.{badPoint}
 use Rattle.closure.specs.Limits.{contourLimit, pairLimit}
 use Rattle.fields.specs.Limits.{perContourLimit, candidateLimit, passLimit, vertexLimit}
-use Rattle.fields.specs.Layout.{blocksOf, contoursOf, pairsOf, perContourOf, passesOf, homeOffset, exteriorOf}
-use Rattle.fields.specs.Layout.{interiorOf, idOf, vertexCountOf, typeOf, vertexOffset, beforeIdOf, beforeTagOf}
-use Rattle.fields.specs.Layout.{afterIdOf, afterTagOf}
+use Rattle.fields.specs.Layout.{blocksOf, payload, isTwo, contoursOf, pairsOf, perContourOf, passesOf, homeOffset}
+use Rattle.fields.specs.Layout.{exteriorOf, interiorOf, gridOffset, idOf, vertexCountOf, typeOf, vertexOffset}
+use Rattle.fields.specs.Layout.{beforeIdOf, beforeTagOf, afterIdOf, afterTagOf}
 use Rattle.fields.specs.Values.{pointAt}
 use Rattle.card.specs.Stages.{blocksDue, beforeOf, afterOf}
 use Rattle.card.specs.Verdict.{checkOf}
 use Rattle.card_laws.specs.Table.{No, Row1, Row3, Row4, Row5, Row6, Row8, Row9, Row10, Row11, Row12, BadField}
-use Rattle.card_laws.specs.Table.{contours, pairs, candidates, passes, exterior, interior, all-candidates}
+use Rattle.card_laws.specs.Table.{contours, pairs, candidates, passes, exterior, interior, all-candidates, grid}
 use Rattle.card_laws.specs.Table.{BadContour, few-vertices, many-vertices, no-type, FarCoordinate, at-home}
 use Rattle.card_laws.specs.Table.{at-vertex, OtherTag, Sound}
 use Rattle.card_laws.specs.Card.{Contour, Pair, tabulated, contourOf, pairOf, cardOf, Names, Accepted}
@@ -80,8 +81,13 @@ module _ (s : List ℕ) (sound : Sound s) where
 
   -- ---- the head
 
-  fine-field : (f : ℕ) → f < 8 → BadField s f → ⊥
+  fine-field : (f : ℕ) → f < 9 → BadField s f → ⊥
   fine-field = no-bad-field s row4
+
+  fine-grid : (two : Bool) → isTwo s ≡ two → cond two (byteAt s (payload 0 + gridOffset)) 0 ≤ 1
+  fine-grid true e =
+      not-below 1 (byteAt s (payload 0 + gridOffset)) (λ h. fine-field 8 (lit< tt) (grid (eqb-true _ _ e) h))
+  fine-grid false e = omega arith
 
   whole-length : length s ≡ blockBytes * blocksDue s
   whole-length =
@@ -134,6 +140,7 @@ module _ (s : List ℕ) (sound : Sound s) where
         few-passes = not-below passLimit (passesOf s) (λ h. fine-field 4 (lit< tt) (passes h));
         exterior-known = not-below 2 (exteriorOf s) (λ h. fine-field 5 (lit< tt) (exterior h));
         interior-known = not-below 2 (interiorOf s) (λ h. fine-field 6 (lit< tt) (interior h));
+        grid-known = fine-grid (isTwo s) refl;
         some-vertices = λ k h. not-below (vertexCountOf s k) 1 (λ g. fine-contour k h (few-vertices g));
         few-vertices = λ k h. not-below vertexLimit (vertexCountOf s k) (λ g. fine-contour k h (many-vertices g));
         type-known = λ k h. not-below 1 (typeOf s k) (λ g. fine-contour k h (no-type g));

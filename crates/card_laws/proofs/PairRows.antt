@@ -8,7 +8,7 @@ use Prim.Native.Nat.{ℕ, suc, _+_, _*_, _-_, _≤_, _<_, min}
 use native.Mathlib.Nat.{add-assoc}
 use native.Mathlib.Omega.{arith}
 use lib.Dec.{eqb, ltb}
-use borrow.Author.Tests.{eqb-true, eq-eqb, not-false, ltb-true, ltb-false}
+use borrow.Author.Tests.{eqb-true, eqb-false, eq-eqb, not-false, ltb-true, ltb-false}
 use Rattle.answer.specs.declared.Found.{Found}
 use Rattle.answer.specs.declared.Found.the-variants.{At, Absent}
 use Rattle.answer.specs.Lowest.{lowest}
@@ -18,11 +18,11 @@ use Rattle.block.specs.Block.{payloadBytes, zerosAt}
 use Rattle.block.proofs.Readings.{zeros-each, each-zeros}
 use Rattle.closure.proofs.PairLaws.{lt-or}
 use Rattle.fields.specs.Limits.{pairsABlock}
-use Rattle.fields.specs.Layout.{blocksOf, payload, versionOf, hasParts, contoursOf, pairsOf, idOf, tagOf}
+use Rattle.fields.specs.Layout.{blocksOf, payload, versionOf, isTwo, contoursOf, pairsOf, idOf, tagOf}
 use Rattle.fields.specs.Layout.{vertexCountOf, beforeIdOf, beforeTagOf, afterIdOf, afterTagOf}
-use Rattle.fields.specs.Layout.{contourSize, vertexSize, pairSize, partOffset}
-use Rattle.card.specs.Stages.{isAt, pairsIn, usedIn, spareEnd, badSpare, spareFault, seekOf, positionOf, unnamed}
-use Rattle.card.specs.Stages.{nameFault, seat, beforeOf, afterOf, otherTag, tagFault}
+use Rattle.fields.specs.Layout.{headSize, gridOffset, contourSize, vertexSize, pairSize, partOffset}
+use Rattle.card.specs.Stages.{isAt, pairsIn, headUsed, usedIn, spareEnd, badSpare, spareFault, seekOf, positionOf}
+use Rattle.card.specs.Stages.{unnamed, nameFault, seat, beforeOf, afterOf, otherTag, tagFault}
 use Rattle.card.proofs.SpareLaws.{used-head, used-contour, used-pairs, end-head, end-contour, end-pairs, end-within}
 use Rattle.card_laws.specs.Table.{Spare, in-head, in-contour, past-last-pair, past-full-block, SpareByte, Row7}
 use Rattle.card_laws.specs.Table.{Row9, Has, Unnamed, Row10, OtherTag, Row11, No}
@@ -45,15 +45,32 @@ module _ (s : List ℕ) where
 
   -- before the part and copy of a version 2 contour
   ends-by : (offset : ℕ) → (versionOf s ≡ 2 → offset < partOffset) → offset < payloadBytes
-      → offset < cond (hasParts s) partOffset payloadBytes
-  ends-by offset two h = go (hasParts s) refl
+      → offset < cond (isTwo s) partOffset payloadBytes
+  ends-by offset two h = go (isTwo s) refl
     where
-      go : (b : Bool) → hasParts s ≡ b → offset < cond b partOffset payloadBytes
+      go : (b : Bool) → isTwo s ≡ b → offset < cond b partOffset payloadBytes
       go true e = two (eqb-true _ _ e)
       go false e = h
 
-  by-end : (offset : ℕ) → offset < cond (hasParts s) partOffset payloadBytes → versionOf s ≡ 2 → offset < partOffset
+  by-end : (offset : ℕ) → offset < cond (isTwo s) partOffset payloadBytes → versionOf s ≡ 2 → offset < partOffset
   by-end offset h e = rw (eq-eqb _ 2 e) at h
+
+  -- behind the head's fields: in version 2 the byte that asks for the grid is one
+  head-behind : (offset : ℕ) → headUsed s ≤ offset
+      → (headSize ≤ offset) × (versionOf s ≡ 2 → offset ≡ gridOffset → ⊥)
+  head-behind offset h = go (isTwo s) refl h
+    where
+      go : (b : Bool) → isTwo s ≡ b → cond b (headSize + 1) headSize ≤ offset
+          → (headSize ≤ offset) × (versionOf s ≡ 2 → offset ≡ gridOffset → ⊥)
+      go true e g = (omega arith, λ two at. omega arith)
+      go false e g = (g, λ two at. eqb-false _ _ e two)
+
+  behind-head : (offset : ℕ) → headSize ≤ offset → (versionOf s ≡ 2 → offset ≡ gridOffset → ⊥) → headUsed s ≤ offset
+  behind-head offset h other = go (isTwo s) refl
+    where
+      go : (b : Bool) → isTwo s ≡ b → cond b (headSize + 1) headSize ≤ offset
+      go true e = let n = other (eqb-true _ _ e) in omega arith
+      go false e = h
 
   -- a byte is spare exactly if it is behind the bytes in use, and before where spare bytes end
   behind-used : (b offset : ℕ) → usedIn s b ≤ offset → offset < spareEnd s b → Spare s b offset
@@ -77,14 +94,18 @@ module _ (s : List ℕ) where
           used-contour s b (λ e. omega arith) _ m refl in
           in-contour (b - 1) (omega arith) (omega arith) (omega arith)
           (by-end offset (rw (end-contour s b (λ e. omega arith) m) l))
-      go (inr z) w = let e : b ≡ 0 = omega arith in let u = used-head s b e in in-head e (omega arith)
+      go (inr z) w =
+          let e : b ≡ 0 = omega arith in
+          let u : headUsed s ≤ offset = rw (used-head s b e) h in
+          let behind = head-behind offset u in
+          in-head e (behind .0) (behind .1)
 
   used-behind : (b offset : ℕ) → Spare s b offset → offset < payloadBytes
       → (usedIn s b ≤ offset) × (offset < spareEnd s b)
-  used-behind b offset (in-head e h) l =
+  used-behind b offset (in-head e h other) l =
       let u = used-head s b e in
       let z = end-head s b e in
-      (omega arith, omega arith)
+      (omega (arith, u, behind-head offset h other), omega arith)
   used-behind b offset (in-contour k m e h two) l =
       let v : vertexCountOf s k ≡ vertexCountOf s (b - 1) =
       ap (vertexCountOf s) (let i : k ≡ b - 1 = omega arith in i) in

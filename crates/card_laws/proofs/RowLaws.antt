@@ -2,7 +2,7 @@
 use mathlib.Mathlib.Data.Bool.Basic.{or-inl, or-inr, not-iff-not, and-intro, and-elim-left, and-elim-right}
 use mathlib.Core.Path.{_≡_, refl, sym, ap, _∙_, subst}
 use mathlib.Core.Logic.{_⊎_, inl, inr}
-use mathlib.Core.Bool.{Bool, true, false, not, _||_, _&&_}
+use mathlib.Core.Bool.{Bool, true, false, not, cond, _||_, _&&_}
 use mathlib.Core.List.{List}
 use Prim.Native.Nat.{ℕ, zero, suc, _+_, _*_, _-_, _/_, _%_, _≤_, _<_, min}
 use native.Mathlib.Omega.{arith}
@@ -13,13 +13,13 @@ use Rattle.answer.specs.declared.Found.{Found}
 use Rattle.answer.specs.declared.Found.the-variants.{At, Absent}
 use Rattle.answer.specs.Lowest.{lowest}
 use Rattle.answer.proofs.LowestLaws.{is-at, is-absent}
-use Rattle.block.specs.Field.{u32At}
+use Rattle.block.specs.Field.{byteAt, u32At}
 use Rattle.block.specs.Block.{blockBytes, checkOffset, checkAt, checked, starts, Due}
 use Rattle.block.proofs.Readings.{due-is, is-due}
 use Rattle.closure.proofs.PairLaws.{lt-or}
 use Rattle.fields.specs.Limits.{cardBytes, perContourLimit, vertexLimit, pairsABlock}
-use Rattle.fields.specs.Layout.{blocksOf, versionOf, contoursOf, pairsOf, perContourOf, idOf, vertexCountOf, typeOf}
-use Rattle.fields.specs.Layout.{fillerOf}
+use Rattle.fields.specs.Layout.{blocksOf, payload, versionOf, isTwo, contoursOf, pairsOf, perContourOf, idOf}
+use Rattle.fields.specs.Layout.{vertexCountOf, typeOf, fillerOf, gridOffset}
 use Rattle.card.specs.Stages.{outside, badLengthWithin, lengthFault, lengthFaultWithin, checkFault, kindDue, isVersion}
 use Rattle.card.specs.Stages.{startFault, headFaults}
 use Rattle.card.specs.Stages.{headFault, headFaultWithin, blocksDue, countFault, badContour, contourFault, seekOf}
@@ -29,8 +29,8 @@ use Rattle.card.proofs.FaultLaws.{kind-head, kind-contour, kind-pairs}
 use Rattle.card_laws.specs.Table.{Row1, CheckDiffers, Row2, Kind, of-head, of-contour, of-pairs, Version}
 use Rattle.card_laws.specs.Table.{is-one, is-two, StartsOtherwise}
 use Rattle.card_laws.specs.Table.{Row3, BadField, contours, pairs, candidates, passes, exterior, interior}
-use Rattle.card_laws.specs.Table.{all-candidates, Row4, PairBlocks, Row5, BadContour, few-vertices, many-vertices}
-use Rattle.card_laws.specs.Table.{no-type, byte-eleven, Row6, Repeated, Row9, No}
+use Rattle.card_laws.specs.Table.{all-candidates, grid, Row4, PairBlocks, Row5, BadContour, few-vertices}
+use Rattle.card_laws.specs.Table.{many-vertices, no-type, byte-eleven, Row6, Repeated, Row9, No}
 use Rattle.card_laws.proofs.ExactLaws.{Exact}
 use Rattle.card_laws.proofs.ExactLaws.{lowest-exact, if-exact, nowhere}
 use Rattle.answer.proofs.Truth.{or-cases, true-false}
@@ -161,6 +161,12 @@ module _ (s : List ℕ) where
 
   -- ---- 4
 
+  -- the byte that asks for the grid, by the version
+  bad-grid : (two : Bool) → isTwo s ≡ two → ltb 1 (cond two (byteAt s (payload 0 + gridOffset)) 0) ≡ true
+      → BadField s 8
+  bad-grid true e h = grid (eqb-true _ _ e) (ltb-true _ _ h)
+  bad-grid false e h = absurd (true-false {b = false} h refl)
+
   bad-field : (f : ℕ) → getD (headFaults s) f false ≡ true → BadField s f
   bad-field zero e = absurd (true-false {b = false} e refl)
   bad-field (suc zero) e = contours (ltb-true _ _ e)
@@ -170,7 +176,8 @@ module _ (s : List ℕ) where
   bad-field (suc (suc (suc (suc (suc zero))))) e = exterior (ltb-true _ _ e)
   bad-field (suc (suc (suc (suc (suc (suc zero)))))) e = interior (ltb-true _ _ e)
   bad-field (suc (suc (suc (suc (suc (suc (suc zero))))))) e = all-candidates (ltb-true _ _ e)
-  bad-field (suc (suc (suc (suc (suc (suc (suc (suc f)))))))) e = absurd (true-false {b = false} e refl)
+  bad-field (suc (suc (suc (suc (suc (suc (suc (suc zero)))))))) e = bad-grid (isTwo s) refl e
+  bad-field (suc (suc (suc (suc (suc (suc (suc (suc (suc f))))))))) e = absurd (true-false {b = false} e refl)
 
   field-bad : (f : ℕ) → BadField s f → getD (headFaults s) f false ≡ true
   field-bad f (contours h) = lt-ltb _ _ h
@@ -180,10 +187,11 @@ module _ (s : List ℕ) where
   field-bad f (exterior h) = lt-ltb _ _ h
   field-bad f (interior h) = lt-ltb _ _ h
   field-bad f (all-candidates h) = lt-ltb _ _ h
+  field-bad f (grid two h) = rw (eq-eqb (versionOf s) 2 two) (lt-ltb _ _ h)
 
   pub exact4 : Exact (headFault s) (Row4 s)
   unfolding headFaultWithin
-  exact4 = lowest-exact (λ f. getD (headFaults s) f false) 8 (BadField s) (λ f h. bad-field f) (λ f h. field-bad f)
+  exact4 = lowest-exact (λ f. getD (headFaults s) f false) 9 (BadField s) (λ f h. bad-field f) (λ f h. field-bad f)
 
   -- ---- 5
 
@@ -279,8 +287,8 @@ module _ (s : List ℕ) where
 
   -- ---- what the rows let pass, each fact by itself
 
-  pub no-bad-field : No (Row4 s) → (f : ℕ) → f < 8 → BadField s f → ⊥
-  no-bad-field = nowhere (λ f. getD (headFaults s) f false) 8 (BadField s) (λ f h. bad-field f) (λ f h. field-bad f)
+  pub no-bad-field : No (Row4 s) → (f : ℕ) → f < 9 → BadField s f → ⊥
+  no-bad-field = nowhere (λ f. getD (headFaults s) f false) 9 (BadField s) (λ f h. bad-field f) (λ f h. field-bad f)
 
   pub no-bad-contour : No (Row6 s) → (k : ℕ) → k < contoursOf s → BadContour s k → ⊥
   no-bad-contour = nowhere (badContour s) (contoursOf s) (BadContour s) (λ k h. bad-contour k) (λ k h. contour-bad k)

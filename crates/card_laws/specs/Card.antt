@@ -1,7 +1,7 @@
 -- What a card says, as a record of its fields; and the facts that hold of every card that is fine. Assumes nothing.
 use mathlib.Core.Path.{_≡_}
 use mathlib.Core.Logic.{_⊎_}
-use mathlib.Core.Bool.{false}
+use mathlib.Core.Bool.{Bool, false}
 use mathlib.Core.List.{List, [], _∷_, _++_}
 use Prim.Native.Nat.{ℕ, zero, suc, _*_, _≤_, _<_}
 use lib.ListN.{length}
@@ -14,8 +14,8 @@ use Rattle.closure.specs.Limits.{contourLimit, pairLimit}
 use Rattle.closure.specs.Cycle.{Acyclic}
 use Rattle.fields.specs.Limits.{perContourLimit, candidateLimit, passLimit, vertexLimit}
 use Rattle.fields.specs.Layout.{versionOf, jobOf, contoursOf, pairsOf, perContourOf, passesOf, moveLimitOf, homeOffset}
-use Rattle.fields.specs.Layout.{exteriorOf, interiorOf, idOf, tagOf, vertexCountOf, typeOf, partOf, copyOf}
-use Rattle.fields.specs.Layout.{vertexOffset, beforeIdOf, beforeTagOf, afterIdOf, afterTagOf}
+use Rattle.fields.specs.Layout.{exteriorOf, interiorOf, gridOf, asksGrid, idOf, tagOf, vertexCountOf, typeOf}
+use Rattle.fields.specs.Layout.{partOf, copyOf, vertexOffset, beforeIdOf, beforeTagOf, afterIdOf, afterTagOf}
 use Rattle.fields.specs.Values.{asType, asPreference, pointAt}
 use Rattle.card.specs.Stages.{blocksDue, beforeOf, afterOf}
 use Rattle.card.specs.Names.{pairsOn}
@@ -36,6 +36,7 @@ pub record Pair : Type 0 where
   pub after-id : ℕ
   pub after-tag : ℕ
 
+-- `grid`: whether candidates are to be moved to the grid, which only version 2 can ask
 pub record Card : Type 0 where
   pub version : ℕ
   pub job : ℕ
@@ -45,6 +46,7 @@ pub record Card : Type 0 where
   pub home : Point
   pub exterior : CutDirectionPreference
   pub interior : CutDirectionPreference
+  pub grid : Bool
   pub contours : List Contour
   pub pairs : List Pair
 
@@ -85,6 +87,7 @@ cardOf s =
       home = pointAt s homeOffset;
       exterior = asPreference (exteriorOf s);
       interior = asPreference (interiorOf s);
+      grid = asksGrid s;
       contours = tabulated (contourOf s) (contoursOf s);
       pairs = tabulated (pairOf s) (pairsOf s);
     }
@@ -108,6 +111,7 @@ pub record Accepted (s : List ℕ) : Type 0 where
   pub few-passes : passesOf s ≤ passLimit
   pub exterior-known : exteriorOf s ≤ 2
   pub interior-known : interiorOf s ≤ 2
+  pub grid-known : gridOf s ≤ 1
   pub some-vertices : (k : ℕ) → k < contoursOf s → 1 ≤ vertexCountOf s k
   pub few-vertices : (k : ℕ) → k < contoursOf s → vertexCountOf s k ≤ vertexLimit
   pub type-known : (k : ℕ) → k < contoursOf s → typeOf s k ≤ 1

@@ -1,5 +1,6 @@
 -- The scope document's examples of cards, and what is to be said of them. Assumes nothing.
 use mathlib.Core.Path.{_≡_}
+use mathlib.Core.Bool.{false}
 use mathlib.Core.List.{List, [], _∷_}
 use Prim.Native.Nat.{ℕ, _*_}
 use lib.Ieee.{binary64, ofBits}
@@ -14,7 +15,7 @@ use Rattle.card_laws.specs.Card.{Card, Contour, Pair}
 use Rattle.card_laws.specs.Write.{written}
 
 -- a card like job 41's, of a version and with a number: home at the corner, one candidate a contour, ten passes, no
--- move limit, directions left to the types
+-- move limit, directions left to the types, no grid asked for
 abbrev pub asJob : ℕ → ℕ → List Contour → List Pair → Card
 asJob version job contours pairs =
     record {
@@ -26,6 +27,7 @@ asJob version job contours pairs =
       home = record { x = ofBits binary64 0; y = ofBits binary64 0 };
       exterior = Auto;
       interior = Auto;
+      grid = false;
       contours = contours;
       pairs = pairs;
     }

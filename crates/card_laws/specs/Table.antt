@@ -17,7 +17,7 @@ use Rattle.fields.specs.Limits.{cardBytes, perContourLimit, candidateLimit, pas
 use Rattle.fields.specs.Layout.{blocksOf, payload, versionOf, contoursOf, pairsOf, perContourOf, passesOf, homeOffset}
 use Rattle.fields.specs.Layout.{exteriorOf, interiorOf, idOf, tagOf, vertexCountOf, typeOf, fillerOf, partOf, copyOf}
 use Rattle.fields.specs.Layout.{vertexOffset, beforeIdOf, beforeTagOf, afterIdOf, afterTagOf}
-use Rattle.fields.specs.Layout.{headSize, contourSize, vertexSize, pairSize, partOffset}
+use Rattle.fields.specs.Layout.{headSize, gridOffset, contourSize, vertexSize, pairSize, partOffset}
 use Rattle.fields.specs.Values.{pointAt}
 use Rattle.card.specs.Verdict.{checkOf}
 
@@ -61,7 +61,7 @@ StartsOtherwise s b = (kind version : ℕ) → Kind s b kind → Version s versi
 abbrev pub Row3 : List ℕ → ℕ → ℕ → Type 0
 Row3 s count = Lowest count (StartsOtherwise s)
 
--- 4: the lowest field
+-- 4: the lowest field; field 8, the byte that asks for the grid, is one of version 2 only
 pub data BadField (s : List ℕ) : ℕ → Type 0 where
   contours : contourLimit < contoursOf s → BadField s 1
   pairs : pairLimit < pairsOf s → BadField s 2
@@ -70,9 +70,10 @@ pub data BadField (s : List ℕ) : ℕ → Type 0 where
   exterior : 2 < exteriorOf s → BadField s 5
   interior : 2 < interiorOf s → BadField s 6
   all-candidates : candidateLimit < contoursOf s * perContourOf s → BadField s 7
+  grid : versionOf s ≡ 2 → 1 < byteAt s (payload 0 + gridOffset) → BadField s 8
 
 abbrev pub Row4 : List ℕ → ℕ → Type 0
-Row4 s = Lowest 8 (BadField s)
+Row4 s = Lowest 9 (BadField s)
 
 -- so many blocks hold the m pairs, 31 to a block, and one block less would not
 pub record PairBlocks (s : List ℕ) (p : ℕ) : Type 0 where
@@ -94,11 +95,11 @@ pub data BadContour (s : List ℕ) (k : ℕ) : Type 0 where
 abbrev pub Row6 : List ℕ → ℕ → Type 0
 Row6 s = Lowest (contoursOf s) (BadContour s)
 
--- no field stands at this byte of block b's payload: the head has 34 bytes of fields, contour k 12 and 16 a vertex and,
--- in version 2, all from 492 on, a block of pairs 16 a pair, 31 pairs at most; where the earlier blocks of pairs and
--- the bytes before this one hold all m pairs, no field is left
+-- no field stands at this byte of block b's payload: the head has 34 bytes of fields and, in version 2, byte 34;
+-- contour k has 12 and 16 a vertex and, in version 2, all from 492 on, a block of pairs 16 a pair, 31 pairs at most;
+-- where the earlier blocks of pairs and the bytes before this one hold all m pairs, no field is left
 pub data Spare (s : List ℕ) (b offset : ℕ) : Type 0 where
-  in-head : b ≡ 0 → headSize ≤ offset → Spare s b offset
+  in-head : b ≡ 0 → headSize ≤ offset → (versionOf s ≡ 2 → offset ≡ gridOffset → ⊥) → Spare s b offset
   in-contour : (k : ℕ) → k < contoursOf s → b ≡ suc k → contourSize + vertexSize * vertexCountOf s k ≤ offset
       → (versionOf s ≡ 2 → offset < partOffset) → Spare s b offset
   past-last-pair : (i : ℕ) → b ≡ suc (contoursOf s + i) → pairSize * pairsOf s ≤ pairSize * (pairsABlock * i) + offset

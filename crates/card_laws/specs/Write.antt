@@ -1,5 +1,5 @@
 -- A card's bytes, from what it says: the other way round than reading, for examples. Assumes nothing.
-use mathlib.Core.Bool.{cond}
+use mathlib.Core.Bool.{Bool, cond}
 use mathlib.Core.List.{List, [], _∷_, _++_}
 use Prim.Native.Nat.{ℕ, zero, suc, _+_, _-_, _/_}
 use lib.Dec.{eqb}
@@ -33,13 +33,18 @@ abbrev pub typeByte : ContourType → ℕ
 typeByte Exterior = 0
 typeByte Interior = 1
 
+-- in version 2 the byte that asks for the grid stands behind the fields of both versions; version 1 has no place for
+-- it, so a card of version 1 that asks is not what is read back
+abbrev pub gridBytes : ℕ → Bool → List ℕ
+gridBytes version asked = cond (eqb version 2) (cond asked 1 0 ∷ []) []
+
 unfoldable pub headBytes : Card → List ℕ
 unfolding bytes pointBytes
 headBytes c =
     bytes 4 (c .job) ++ bytes 2 (length (c .contours)) ++ bytes 2 (length (c .pairs)) ++ bytes 2 (c .per-contour) ++
     bytes 2 (c .passes)
     ++ bytes 4 (c .move-limit) ++ pointBytes (c .home) ++ preferenceByte (c .exterior) ∷ preferenceByte (c .interior)
-    ∷ []
+    ∷ gridBytes (c .version) (c .grid)
 
 -- points one after the other
 unfoldable pub pointsBytes : List Point → List ℕ

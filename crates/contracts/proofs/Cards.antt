@@ -6,7 +6,7 @@ use Rattle.contracts.specs.Cards.{OfFields, OfCard, OfReader, OfReaderBy
 of-fields : OfFields
 of-fields = record {
   version = told _ (λ κs a u v. refl) (λ κs a x. alike);
-  has-parts = told _ (λ κs a u v. refl) (λ κs a x. alike);
+  is-two = told _ (λ κs a u v. refl) (λ κs a x. alike);
   job = told _ (λ κs a u v. refl) (λ κs a x. alike);
   contours = told _ (λ κs a u v. refl) (λ κs a x. alike);
   pairs = told _ (λ κs a u v. refl) (λ κs a x. alike);
@@ -16,6 +16,8 @@ of-fields = record {
   home = told _ (λ κs a u v. refl) (λ κs a x. alike);
   exterior = told _ (λ κs a u v. refl) (λ κs a x. alike);
   interior = told _ (λ κs a u v. refl) (λ κs a x. alike);
+  grid = told _ (λ κs a u v. refl) (λ κs a x. alike);
+  asks-grid = told _ (λ κs a u v. refl) (λ κs a x. alike);
   contour-offset = told _ (λ κs a u v. refl) (λ κs a x. alike);
   pair-offset = told _ (λ κs a u v. refl) (λ κs a x. alike);
   contour-byte = told _ (λ κs a u v. refl) (λ κs a x. alike);
@@ -45,6 +47,7 @@ of-reader = record {
   left-at = told _ (λ κs a u v. refl) (λ κs a x. alike);
   read-field = told _ (λ κs a u v. refl) (λ κs a x. alike);
   read-head = told _ (λ κs a u v. refl) (λ κs a x. alike);
+  read-grid = told _ (λ κs a u v. refl) (λ κs a x. alike);
   contour-head = told _ (λ κs a u v. refl) (λ κs a x. alike);
   read-contour = told _ (λ κs a u v. refl) (λ κs a x. alike);
   read-pair = told _ (λ κs a u v. refl) (λ κs a x. alike);

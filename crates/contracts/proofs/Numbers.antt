@@ -1,7 +1,7 @@
--- Each contract of `root`, `points` and `cost` comes to its definition. Assumes nothing.
+-- Each contract of `root`, `points`, `grid` and `cost` comes to its definition. Assumes nothing.
 use mathlib.Core.Path.{refl}
 use Rattle.contracts.proofs.Laws.{told, alike}
-use Rattle.contracts.specs.Numbers.{OfRoot, OfPoints, OfCost, Claim}
+use Rattle.contracts.specs.Numbers.{OfRoot, OfPoints, OfGrid, OfCost, Claim}
 
 of-root : OfRoot
 of-root = record {
@@ -21,6 +21,12 @@ of-points = record {
   along = told _ (λ κs a u v. refl) (λ κs a x. alike);
 }
 
+of-grid : OfGrid
+of-grid = record {
+  moved = told _ (λ κs a u v. refl) (λ κs a x. alike);
+  moved-point = told _ (λ κs a u v. refl) (λ κs a x. alike);
+}
+
 of-cost : OfCost
 of-cost = record {
   point-distance-sq = told _ (λ κs a u v. refl) (λ κs a x. alike);
@@ -34,4 +40,4 @@ of-cost = record {
 }
 
 pub claim : Claim
-claim = (of-root, of-points, of-cost)
+claim = (of-root, of-points, of-grid, of-cost)

@@ -7,6 +7,7 @@ of-probe : OfProbe
 of-probe = record {
   probe-root = lent (λ κs a x y p q. same (p .0) (q .0) & refl & same (p .1) (q .1) & refl) (λ κs a x. alike);
   probe-sqrt = told _ (λ κs a u v. refl) (λ κs a x. alike);
+  probe-moved = told _ (λ κs a u v. refl) (λ κs a x. alike);
   probe-distance = lent
       (λ κs a x y p q. same (p .0) (q .0) & refl & refl & refl & refl & same (p .1) (q .1) & refl)
       (λ κs a x. alike);
@@ -42,9 +43,9 @@ of-probe = record {
       refl)
       (λ κs a x. alike);
   probe-candidate = lent
-      (λ κs a x y p q. same (p .0) (q .0) & refl & refl & refl & refl & refl & refl & same (p .1 .0) (q .1 .0) &
-      same (p .1 .1 .0) (q .1 .1 .0) & same (p .1 .1 .1 .0) (q .1 .1 .1 .0) & same (p .1 .1 .1 .1) (q .1 .1 .1 .1) &
-      refl)
+      (λ κs a x y p q. same (p .0) (q .0) & refl & refl & refl & refl & refl & refl & refl &
+      same (p .1 .0) (q .1 .0) & same (p .1 .1 .0) (q .1 .1 .0) & same (p .1 .1 .1 .0) (q .1 .1 .1 .0) &
+      same (p .1 .1 .1 .1) (q .1 .1 .1 .1) & refl)
       (λ κs a x. alike);
   probe-topological-sort = lent
       (λ κs a x y p q. same (p .0) (q .0) & refl & refl & same (p .1 .0) (q .1 .0) & same (p .1 .1) (q .1 .1) & refl)

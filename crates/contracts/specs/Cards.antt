@@ -3,10 +3,10 @@ use mathlib.Core.Path.{_≡_}
 use Prim.Native.Nat.{_+_, min, _-_}
 use lib.ListN.{length}
 use Rattle.block.specs.Field.{byteAt}
-use Rattle.fields.specs.Layout.{payload, versionOf, hasParts, jobOf, contoursOf, pairsOf, perContourOf, passesOf}
-use Rattle.fields.specs.Layout.{moveLimitOf, homeOffset, exteriorOf, interiorOf, idOf, tagOf, vertexCountOf, typeOf}
-use Rattle.fields.specs.Layout.{partOf, copyOf, vertexOffset, pairOffset, beforeIdOf, beforeTagOf, afterIdOf}
-use Rattle.fields.specs.Layout.{afterTagOf}
+use Rattle.fields.specs.Layout.{payload, versionOf, isTwo, jobOf, contoursOf, pairsOf, perContourOf, passesOf}
+use Rattle.fields.specs.Layout.{moveLimitOf, homeOffset, exteriorOf, interiorOf, gridOf, asksGrid, idOf, tagOf}
+use Rattle.fields.specs.Layout.{vertexCountOf, typeOf, partOf, copyOf, vertexOffset, pairOffset, beforeIdOf}
+use Rattle.fields.specs.Layout.{beforeTagOf, afterIdOf, afterTagOf}
 use Rattle.fields.specs.Values.{asType, asPreference, pointAt}
 use Rattle.card.specs.Stages.{positionOf}
 use Rattle.card.specs.Names.{namedOf}
@@ -24,8 +24,8 @@ use Rattle.contracts.specs.ByHand.{SaysByHand}
 pub record OfFields : Type 0 where
   pub version : Says Fields.version.ended Fields.version.Reads.Asked Fields.version.Reads.Learnt
       (λ _ card r. r ≡ versionOf (now card))
-  pub has-parts : Says Fields.has_parts.ended Fields.has_parts.Reads.Asked Fields.has_parts.Reads.Learnt
-      (λ _ card r. r ≡ hasParts (now card))
+  pub is-two : Says Fields.is_two.ended Fields.is_two.Reads.Asked Fields.is_two.Reads.Learnt
+      (λ _ card r. r ≡ isTwo (now card))
   pub job : Says Fields.job.ended Fields.job.Reads.Asked Fields.job.Reads.Learnt (λ _ card r. r ≡ jobOf (now card))
   pub contours : Says Fields.contours.ended Fields.contours.Reads.Asked Fields.contours.Reads.Learnt
       (λ _ card r. r ≡ contoursOf (now card))
@@ -43,6 +43,10 @@ pub record OfFields : Type 0 where
       (λ _ card r. r ≡ asPreference (exteriorOf (now card)))
   pub interior : Says Fields.interior.ended Fields.interior.Reads.Asked Fields.interior.Reads.Learnt
       (λ _ card r. r ≡ asPreference (interiorOf (now card)))
+  pub grid : Says Fields.grid.ended Fields.grid.Reads.Asked Fields.grid.Reads.Learnt
+      (λ _ card r. r ≡ gridOf (now card))
+  pub asks-grid : Says Fields.asks_grid.ended Fields.asks_grid.Reads.Asked Fields.asks_grid.Reads.Learnt
+      (λ _ card r. r ≡ asksGrid (now card))
   pub contour-offset : Says Fields.contour_offset.ended Fields.contour_offset.Reads.Asked
       Fields.contour_offset.Reads.Learnt
       (λ _ card k offset r. r ≡ min (payload (k + 1) + offset) (length (now card)))
@@ -89,6 +93,8 @@ pub record OfReader : Type 0 where
       (λ _ s at width f. f ≡ fieldAt (now s) at width)
   pub read-head : Says Reader.read_head.ended Reader.read_head.Reads.Asked Reader.read_head.Reads.Learnt
       (λ _ card r. r ≡ headOf (now card))
+  pub read-grid : Says Reader.read_grid.ended Reader.read_grid.Reads.Asked Reader.read_grid.Reads.Learnt
+      (λ _ card r. r ≡ gridOf (now card))
   pub contour-head : Says Reader.contour_head.ended Reader.contour_head.Reads.Asked Reader.contour_head.Reads.Learnt
       (λ _ card k r. r ≡ contourHead (now card) k)
   pub read-contour : Says Reader.read_contour.ended Reader.read_contour.Reads.Asked Reader.read_contour.Reads.Learnt

@@ -1,4 +1,4 @@
--- What the contracts of `root`, `points` and `cost` come to: see Contract. Assumes nothing.
+-- What the contracts of `root`, `points`, `grid` and `cost` come to: see Contract. Assumes nothing.
 use mathlib.Core.Path.{_≡_}
 use Rattle.root.specs.Root.{sqrtOf, rootOf}
 use lib.ListN.{getD}
@@ -6,6 +6,7 @@ use Rattle.points.specs.Points.{points, nowhere, noEnds, edges, legs}
 use Rattle.points.specs.Bad.{badNumber, badPoint, firstBad}
 use Rattle.points.specs.Distance.{distanceSqOf, distanceOf}
 use Rattle.points.specs.Along.{alongOf}
+use Rattle.grid.specs.Move.{moved, movedPoint}
 use Rattle.cost.specs.Distance.{pointDistanceSqOf, pointDistanceOf}
 use Rattle.cost.specs.Closest.{clampOf, closestTo, closestOnPolygonOf}
 use Rattle.cost.specs.Rapid.{rapidOf, totalRapidOf}
@@ -13,6 +14,7 @@ use Rattle.cost.specs.Sequence.{sequenceCostOf}
 use denote.Ref.{now}
 use Rattle.root.proofs as Root
 use Rattle.points.proofs as Points
+use Rattle.grid.proofs as Grid
 use Rattle.cost.proofs as Cost
 use Rattle.contracts.specs.Contract.{Says}
 
@@ -39,6 +41,12 @@ pub record OfPoints : Type 0 where
       (λ _ a b r. r ≡ distanceOf a b)
   pub along : Says Points.along.ended Points.along.Reads.Asked Points.along.Reads.Learnt (λ _ e t r. r ≡ alongOf e t)
 
+-- grid
+pub record OfGrid : Type 0 where
+  pub moved : Says Grid.moved.ended Grid.moved.Reads.Asked Grid.moved.Reads.Learnt (λ _ x r. r ≡ moved x)
+  pub moved-point : Says Grid.moved_point.ended Grid.moved_point.Reads.Asked Grid.moved_point.Reads.Learnt
+      (λ _ p r. r ≡ movedPoint p)
+
 -- cost
 pub record OfCost : Type 0 where
   pub point-distance-sq : Says Cost.point_distance_sq.ended Cost.point_distance_sq.Reads.Asked
@@ -61,4 +69,4 @@ pub record OfCost : Type 0 where
       (λ _ total count weight r. r ≡ sequenceCostOf total count weight)
 
 abbrev pub Claim : Type 0
-Claim = OfRoot × OfPoints × OfCost
+Claim = OfRoot × OfPoints × OfGrid × OfCost

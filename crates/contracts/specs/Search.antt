@@ -45,14 +45,14 @@ pub record OfCandidates : Type 0 where
       (λ _ numbers d r. r ≡ spotAt (points (now numbers)) d)
   pub candidates-of : Says Candidates.candidates_of.ended Candidates.candidates_of.Reads.Asked
       Candidates.candidates_of.Reads.Learnt
-      (λ _ numbers c kind exterior interior r.
-      r ≡ filled (candidatesOf (directionOf kind exterior interior) (points (now numbers)) c))
+      (λ _ numbers c grid kind exterior interior r.
+      r ≡ filled (candidatesOf grid (directionOf kind exterior interior) (points (now numbers)) c))
   pub contour-check : Says Candidates.contour_check.ended Candidates.contour_check.Reads.Asked
       Candidates.contour_check.Reads.Learnt
       (λ _ numbers r. r ≡ contourCheck (now numbers))
   pub contour-candidates : Says Candidates.contour_candidates.ended Candidates.contour_candidates.Reads.Asked
       Candidates.contour_candidates.Reads.Learnt
-      (λ _ numbers c kind exterior interior r. r ≡ offeredOf (now numbers) c kind exterior interior)
+      (λ _ numbers c grid kind exterior interior r. r ≡ offeredOf (now numbers) c grid kind exterior interior)
 
 -- bridge
 pub record OfBridge : Type 0 where

@@ -5,6 +5,7 @@ use Rattle.probe.specs.Told.{verdictCode, wayOf, askedOf, nthOf, placeOf, fineO
 use Rattle.root.specs.Root.{sqrtOf, rootOf}
 use Rattle.points.specs.Points.{point}
 use Rattle.points.specs.Distance.{distanceOf}
+use Rattle.grid.specs.Move.{moved}
 use Rattle.cost.specs.Distance.{pointDistanceOf, pointDistanceSqOf}
 use Rattle.cost.specs.Closest.{closestOnPolygonOf}
 use Rattle.cost.specs.Rapid.{totalRapidOf}
@@ -34,6 +35,8 @@ pub record OfProbe : Type 0 where
       (λ _ x out r out′. (r ≡ rootCode (rootOf x)) × (out′ ≡ rootOr (rootOf x) (now out)))
   pub probe-sqrt : Says Probe.probe_sqrt.ended Probe.probe_sqrt.Reads.Asked Probe.probe_sqrt.Reads.Learnt
       (λ _ x r. r ≡ sqrtOf x)
+  pub probe-moved : Says Probe.probe_moved.ended Probe.probe_moved.Reads.Asked Probe.probe_moved.Reads.Learnt
+      (λ _ x r. r ≡ moved x)
   pub probe-distance : Says Probe.probe_distance.ended Probe.probe_distance.Reads.Asked
       Probe.probe_distance.Reads.Learnt
       (λ _ ax ay bx by out r out′. let d = pointDistanceOf (point ax ay) (point bx by) in
@@ -84,8 +87,8 @@ pub record OfProbe : Type 0 where
       (count′ ≡ fineOr (l .check) (l .count) (now count))))
   pub probe-candidate : Says Probe.probe_candidate.ended Probe.probe_candidate.Reads.Asked
       Probe.probe_candidate.Reads.Learnt
-      (λ _ numbers c kind exterior interior k place vertex way count r place′ vertex′ way′ count′.
-      let o = askedOf (now numbers) c kind exterior interior in let n = nthOf (o .found) k in
+      (λ _ numbers c grid kind exterior interior k place vertex way count r place′ vertex′ way′ count′.
+      let o = askedOf (now numbers) c grid kind exterior interior in let n = nthOf (o .found) k in
       (r ≡ codeOf (o .check)) × ((place′ ≡ fineOr (o .check) (placeOf n) (now place)) ×
       ((vertex′ ≡ fineOr (o .check) (n .vertex) (now vertex)) ×
       ((way′ ≡ fineOr (o .check) (wayOf (n .direction)) (now way)) ×

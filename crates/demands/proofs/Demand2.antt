@@ -20,12 +20,15 @@ use Rattle.answer.proofs.RoomLaws.{any-default}
 use Rattle.candidates.specs.declared.Candidate.{Candidate}
 use Rattle.answer.specs.declared.CutDirection.{CutDirection}
 use Rattle.candidates.specs.Generate.{candidatesOf, blank}
+use Rattle.candidates.proofs.Moved.{claim as candidates-moved}
+use Rattle.grid.proofs.Words.{claim as words}
 use Rattle.candidates.proofs.CountLaws.{Closed, each-closed}
 use Rattle.closure.specs.Limits.{contourLimit}
 use Rattle.closure.proofs.PairLaws.{same-or}
 use Rattle.keep.proofs.OrderLaws.{keeps-exactly}
-use Rattle.fields.specs.Layout.{contoursOf, perContourOf, passesOf, vertexCountOf, vertexOffset}
+use Rattle.fields.specs.Layout.{contoursOf, perContourOf, passesOf, asksGrid, vertexCountOf, vertexOffset}
 use Rattle.fields.specs.Values.{pointAt}
+use Rattle.fields.proofs.AskingLaws.{asks-by}
 use Rattle.card_laws.specs.Card.{tabulated}
 use Rattle.card.specs.Names.{pairsOn}
 use Rattle.card.specs.Verdict.{checkOf}
@@ -55,7 +58,7 @@ use Rattle.tour.specs.declared.Toured.the-variants.{Done}
 use Rattle.instance.specs.Search.{homeOn, candidatesOn, countOn, ownersOn, chartOn}
 use Rattle.tour.specs.Search.{startOn, endWithin, tourOn, outcomeOn}
 use Rattle.tour.specs.Tour.{Left, tourOf}
-use Rattle.demands.specs.Demand2.{ownOn, Numbered, Sized, Rooted, Apart, Paired, longOn, Measured, Terms}
+use Rattle.demands.specs.Demand2.{ownOn, Numbered, OnTheGrid, Sized, Rooted, Apart, Paired, longOn, Measured, Terms}
 use Rattle.demands.specs.Demand2.{Leaves, Trials, begunOn, searchOn, Between, othersOn, passesOn, allOn, Making}
 use Rattle.demands.specs.Demand2.{Turns, Rows, Passes, Order, Keeping, AlwaysEven, Begins, Cut, Claim}
 use Rattle.demands.proofs.AskedLaws.{toured-if, done-fine, fine-nothing}
@@ -93,7 +96,7 @@ module _ (s : List ℕ) (fine : checkOf s ≡ Fine) where
   own-is : (k : ℕ) → k < contoursOf s → offersOf s k ≡ ownOn s k
   unfolding offersOf
   own-is k h =
-      ap (λ (ps : List Point). candidatesOf (wayOf s k) ps (perContourOf s))
+      ap (λ (ps : List Point). candidatesOf (asksGrid s) (wayOf s k) ps (perContourOf s))
       (outline-whole s fine k h ∙ vertices-are s k (vertexCountOf s k))
 
   -- of a list of closed candidates each ends where it began
@@ -123,8 +126,11 @@ module _ (s : List ℕ) (fine : checkOf s ≡ Fine) where
         let next = length-append (gathered s k) (offersOf s k) in
         rw (first-at s (contoursOf s) k (omega arith))
         (owner-at s (contoursOf s) k (length (gathered s k) + j) h (omega arith) (omega arith));
-    closed = λ k j h l. own-closed (ownOn s k) j (each-closed _ _ _) l;
+    closed = λ k j h l. own-closed (ownOn s k) j (each-closed _ _ _ _) l;
   }
+
+on-the-grid : (s : List ℕ) → OnTheGrid s
+on-the-grid s = record { asks = asks-by s; which = candidates-moved; how = words }
 
 sized : (s : List ℕ) → Sized s
 sized s = record {
@@ -393,6 +399,7 @@ claim s room table told h =
     ∙ take-at (tourOn s) (drop (length (tourOn s)) room) (contoursOf s) long in
     record {
       numbered = numbered s fine;
+      on-the-grid = on-the-grid s;
       sized = sized s;
       rooted = rooted;
       from-home = homes-at (candidatesOn s) (homeOn s);

@@ -7,7 +7,7 @@ use native.Mathlib.Nat.{mul-assoc, mul-le-mul-right}
 use native.Mathlib.Omega.{arith}
 use borrow.Author.Tests.{le-leb, lt-leb, leb-true}
 use lib.Dec.{T, leb, lit≤}
-use lib.Ieee.{Float, le}
+use lib.Ieee.{le}
 use lib.ListN.{length, getD, take, drop}
 use lib.Seq.{take-at}
 use Rattle.answer.specs.declared.Check.the-variants.{Fine}
@@ -32,7 +32,8 @@ use Rattle.tour_laws.specs.Visits.{Visits}
 use Rattle.tour_laws.proofs.BelowLaws.{below-at}
 use Rattle.tour_laws.proofs.TourLaws.{contour-at, start-visits, tour-long, tour-legal, tour-visits}
 use Rattle.demands.specs.Demand3.{OnGrid, legsOn, Interval, closeUpTo, nearness, excess, Bounds, OneOf, Good}
-use Rattle.demands.specs.Demand3.{Claim}
+use Rattle.demands.specs.Demand3.{GoodWhere, OutlinesOnGrid, Claim}
+use Rattle.demands.proofs.StayLaws.{candidates-stay}
 use Rattle.demands.proofs.AskedLaws.{toured-if, done-fine, fine-nothing}
 use Rattle.demands.proofs.NearLaws.{home-fits, near-of, number-of, excess-of}
 
@@ -138,8 +139,7 @@ interval = record {
   upper = λ legs. refl;
 }
 
-holds : (s room : List ℕ) (table : List Float) (told : Outcome) → OnGrid s → tourOf s room table .answer ≡ Done told
-    → Good s (take (contoursOf s) (tourOf s room table .room)) told
+holds : GoodWhere OnGrid
 holds s room table told grid h =
     let clear = toured-if s room table told h in
     let fine = exactly s .fine-if (fine-nothing s room table clear .sound) in
@@ -152,5 +152,9 @@ holds s room table told grid h =
     subst (λ (o : Outcome). Good s (take (contoursOf s) (tourOf s room table .room)) o) e
     (subst (λ (tour : List ℕ). Good s tour (outcomeOn s)) (sym front) (good s fine grid))
 
+-- a card that asks for the grid with home and vertices on it is one whose home and candidates are on it
+asked-holds : GoodWhere OutlinesOnGrid
+asked-holds s room table told on h = holds s room table told (candidates-stay s on) h
+
 pub claim : Claim
-claim = (interval, bounds, holds)
+claim = (interval, bounds, holds, candidates-stay, asked-holds)

@@ -5,5 +5,6 @@ pub mod ChosenLaws
 pub mod NextLaws
 pub mod Demand2
 pub mod NearLaws
+pub mod StayLaws
 pub mod Demand3
 pub mod Starred

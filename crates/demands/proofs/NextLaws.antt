@@ -15,6 +15,7 @@ use Rattle.answer.specs.declared.Point.{Point}
 use Rattle.answer.specs.declared.Check.the-variants.{Fine}
 use Rattle.points.specs.Distance.{distanceOf}
 use Rattle.points.proofs.SizeLaws.{Plus, Near, distance-plus}
+use Rattle.candidates.proofs.SizeLaws.{outmost}
 use Rattle.closure.specs.Pairs.{paired}
 use Rattle.closure.proofs.PairLaws.{same-or}
 use Rattle.closure.proofs.PathLaws.{every-is, every-at}
@@ -159,8 +160,8 @@ plus-real k nan p = p
 plus-real k (inf s) p = p
 plus-real k (fin s m e) p = p .0
 
-real-between : (a b : Point) → Near 160 a → Near 160 b → Real (distanceOf a b)
-real-between a b na nb = plus-real 165 (distanceOf a b) (distance-plus 160 a b (lit≤ tt) na nb)
+real-between : (a b : Point) → Near outmost a → Near outmost b → Real (distanceOf a b)
+real-between a b na nb = plus-real (outmost + 5) (distanceOf a b) (distance-plus outmost a b (lit≤ tt) na nb)
 
 -- a step puts one more candidate to the tour, or leaves all as it was
 step-grows : (g : Ground) (n i : ℕ) (w : Way) → length (step g n i w .tour) ≤ suc (length (w .tour))

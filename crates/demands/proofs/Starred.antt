@@ -1,5 +1,6 @@
 -- The starred table holds: each row is computed. Assumes nothing.
 use mathlib.Core.Path.{_≡_, refl, sym, ap, _∙_}
+use mathlib.Core.Bool.{false}
 use mathlib.Core.List.{List, []}
 use Prim.Native.Nat.{ℕ, _*_, _≤_}
 use Prim.Native.String.{String}
@@ -65,7 +66,7 @@ unfolding oneContour contourCheck firstRefusal firstBad lowest lowestFrom badAt 
 square-fine = (refl, refl)
 
 -- four candidates, the second as it is in the room that they are handed out in
-four-of-square : (way : CutDirection) → let all = candidatesOf way (points square) 4 in
+four-of-square : (way : CutDirection) → let all = candidatesOf false way (points square) 4 in
     (length all ≡ 4) × (getD (filled all .items) 1 blank ≡ getD all 1 blank)
 unfolding tour-computes points filled
 four-of-square way = (refl, refl)

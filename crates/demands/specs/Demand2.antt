@@ -6,7 +6,8 @@
 -- the list is made); a candidate that is found and lost again (Trials .other-left, Keeping, AlwaysEven); an invented
 -- number of moves (Told .moves, Cut); another length told than that of the tour (Told .rapid). That `tour` promises
 -- tourOf and nothing else is said in contracts/specs/Doors; what the candidates of one contour are, in
--- candidates/specs/Generate, two cases of it in Starred. Assumes nothing.
+-- candidates/specs/Generate, two cases of it in Starred; which of them are moved to the grid, and how, in OnTheGrid.
+-- Assumes nothing.
 use mathlib.Core.Path.{_≡_}
 use mathlib.Core.Bool.{Bool, true, false}
 use mathlib.Core.Logic.{_⊎_, _↔_}
@@ -23,8 +24,11 @@ use Rattle.points.specs.Distance.{distanceOf}
 use Rattle.candidates.specs.declared.Candidate.{Candidate}
 use Rattle.candidates.specs.Direction.{directionOf}
 use Rattle.candidates.specs.Generate.{candidatesOf}
+use Rattle.candidates.specs.Moved as candidates
+use Rattle.grid.specs.Words as grid
 use Rattle.keep.specs.Legal.{EachOnce}
-use Rattle.fields.specs.Layout.{contoursOf, passesOf, moveLimitOf, idOf}
+use Rattle.block.specs.Field.{byteAt}
+use Rattle.fields.specs.Layout.{payload, versionOf, contoursOf, passesOf, moveLimitOf, gridOffset, idOf}
 use Rattle.card.specs.Names.{pairsOn}
 use Rattle.card_laws.specs.Card.{cardOf, contourOf}
 use Rattle.card_laws.specs.Table.{Precedes}
@@ -48,12 +52,14 @@ use Rattle.tour.specs.Tour.{tourOf}
 
 -- ---- candidates and table
 
--- the candidates of contour k: those of its vertices, c of them, cut in the direction that the card asks for
+-- the candidates of contour k: those of its vertices, c of them, on the grid if the card asks for it, cut in the
+-- direction that the card asks for
 abbrev pub ownOn : List ℕ → ℕ → List Candidate
 ownOn s k =
     let contour = contourOf s k in
     let card = cardOf s in
-    candidatesOf (directionOf (contour .kind) (card .exterior) (card .interior)) (contour .vertices) (card .per-contour)
+    candidatesOf (card .grid) (directionOf (contour .kind) (card .exterior) (card .interior)) (contour .vertices)
+    (card .per-contour)
 
 -- the candidates are numbered contour after contour, each contour's in their order
 pub record Numbered (s : List ℕ) : Type 0 where
@@ -67,6 +73,13 @@ pub record Numbered (s : List ℕ) : Type 0 where
   -- a cut ends where it began
   pub closed : (k j : ℕ) → k < contoursOf s → j < length (ownOn s k)
       → leaving (getD (ownOn s k) j absent) ≡ pierced (getD (ownOn s k) j absent)
+
+-- the grid: the card asks for it by a 1 at byte 34 of a version 2 head and not otherwise; which candidates are moved where
+-- it does, and what a move is: no other function is so
+pub record OnTheGrid (s : List ℕ) : Type 0 where
+  pub asks : (cardOf s .grid ≡ true) ↔ ((versionOf s ≡ 2) × (byteAt s (payload 0 + gridOffset) ≡ 1))
+  pub which : candidates.Claim
+  pub how : grid.Claim
 
 -- each candidate has a contour, each contour a first candidate, and so has what comes after the last; a distance from
 -- home for each candidate, and one from each to each, row by row: that from a to b is entry a * t + b
@@ -385,6 +398,7 @@ pub record Told (s room : List ℕ) (table : List Float) (told : Outcome) : Type
 
 pub record Follows (s room : List ℕ) (table : List Float) (told : Outcome) : Type 0 where
   pub numbered : Numbered s
+  pub on-the-grid : OnTheGrid s
   pub sized : Sized s
   pub rooted : Rooted
   pub from-home : (a : ℕ) → a < countOn s → FromHome s a

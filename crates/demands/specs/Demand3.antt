@@ -1,8 +1,9 @@
--- Demand 3: where home and all candidates of a card lie on a grid, the tour that is handed out cuts each contour once,
--- at one of the contour's own candidates, and of each pair, written or by rule, the first before the second; the length
--- reported is within 2^-28 mm of the exact one; and the tour is at most 2^-27 mm longer than the start, exactly. Above
--- 40 contours the two bounds are 2^-26 and 2^-25 mm. tourOf is what `tour::tour` promises, so it speaks of demand 2's
--- tour, and no fixed legal order will do. Assumes nothing.
+-- Demand 3: where home and all candidates of a card lie on a grid, or the card asks for the grid and home and all
+-- vertices lie on it, the tour that is handed out cuts each contour once, at one of the contour's own candidates, and
+-- of each pair, written or by rule, the first before the second; the length reported is within 2^-28 mm of the exact
+-- one; and the tour is at most 2^-27 mm longer than the start, exactly. Above 40 contours the two bounds are 2^-26 and
+-- 2^-25 mm. tourOf is what `tour::tour` promises, so it speaks of demand 2's tour, and no fixed legal order will do.
+-- Assumes nothing.
 use mathlib.Core.Path.{_≡_}
 use mathlib.Core.Bool.{cond}
 use mathlib.Core.List.{List, [], _∷_, map}
@@ -17,7 +18,9 @@ use Rattle.exact.specs.Length.{alongRoute, legRoot, lowerEnd, upperEnd, step40}
 use Rattle.exact.specs.Bound.{NearEnds}
 use Rattle.improve.specs.Search.{contours}
 use Rattle.solve.specs.declared.Outcome.{Outcome}
-use Rattle.fields.specs.Layout.{contoursOf}
+use Rattle.block.specs.Field.{byteAt}
+use Rattle.fields.specs.Layout.{payload, gridOffset, versionOf, contoursOf, homeOffset, vertexCountOf, vertexOffset}
+use Rattle.fields.specs.Values.{pointAt}
 use Rattle.card.specs.Limits.{before}
 use Rattle.card_laws.specs.Orders.{LegalOrder}
 use Rattle.tour.specs.declared.Toured.the-variants.{Done}
@@ -86,8 +89,24 @@ pub record Good (s tour : List ℕ) (told : Outcome) : Type 0 where
   pub not-longer : upperEnd (legsOn s tour) * step40
       ≤ lowerEnd (legsOn s (startOn s)) * step40 + excess (contoursOf s) * step40
 
--- of every card that lies on the grid, with whatever rooms and whatever move limit, if the answer is a tour
+-- of every card of a kind, with whatever rooms and whatever move limit, if the answer is a tour
+abbrev pub GoodWhere : (List ℕ → Type 0) → Type 0
+GoodWhere Kind =
+    (s room : List ℕ) (table : List Float) (told : Outcome) → Kind s
+    → tourOf s room table .answer ≡ Done told → Good s (take (contoursOf s) (tourOf s room table .room)) told
+
+-- the card asks for the grid, by byte 34 of a version 2 head, and its home and all vertices of its contours are whole
+-- numbers of 1/1024 mm, none above 8192 mm in size; nothing is said of how many candidates it asks for
+pub record OutlinesOnGrid (s : List ℕ) : Type 0 where
+  pub version : versionOf s ≡ 2
+  pub asks : byteAt s (payload 0 + gridOffset) ≡ 1
+  pub home : T (gridPoint (pointAt s homeOffset))
+  pub vertex : (k j : ℕ) → k < contoursOf s → j < vertexCountOf s k → T (gridPoint (pointAt s (vertexOffset k j)))
+
+-- on a card of that kind every candidate is on the grid and no farther out
+abbrev pub CandidatesStay : Type 0
+CandidatesStay = (s : List ℕ) → OutlinesOnGrid s → OnGrid s
+
+-- of cards with home and candidates on the grid, and of cards that ask for the grid with home and vertices on it
 abbrev pub Claim : Type 0
-Claim =
-    Interval × Bounds × ((s room : List ℕ) (table : List Float) (told : Outcome) → OnGrid s
-    → tourOf s room table .answer ≡ Done told → Good s (take (contoursOf s) (tourOf s room table .room)) told)
+Claim = Interval × Bounds × GoodWhere OnGrid × CandidatesStay × GoodWhere OutlinesOnGrid

@@ -4,6 +4,7 @@
 -- `list::write_list`. A card is its bytes, `written` from what it says; floats are given by their bits. Assumes
 -- nothing.
 use mathlib.Core.Path.{_≡_}
+use mathlib.Core.Bool.{false}
 use mathlib.Core.List.{List, [], _∷_, _++_}
 use Prim.Native.Nat.{ℕ, _*_, _≤_}
 use Prim.Native.String.{String}
@@ -64,14 +65,14 @@ piercedAt x y vertex kind exterior interior = candidateAt (directionOf kind exte
 
 pub record OfSquare : Type 0 where
   pub two-candidates : (kind : ContourType) (exterior interior : CutDirectionPreference)
-      → offeredOf square 2 kind exterior interior
+      → offeredOf square 2 false kind exterior interior
       ≡ record {
         check = check.Fine;
         found = filled (piercedAt zero64 zero64 0 kind exterior interior
             ∷ piercedAt four64 four64 1 kind exterior interior ∷ []);
       }
   pub second-of-four : (kind : ContourType) (exterior interior : CutDirectionPreference)
-      → let answer = offeredOf square 4 kind exterior interior in
+      → let answer = offeredOf square 4 false kind exterior interior in
       (answer .check ≡ check.Fine) × (answer .found .count ≡ 4)
       × (getD (answer .found .items) 1 blank ≡ piercedAt four64 zero64 0 kind exterior interior)
   pub closest : closestOnPolygonOf square (point two64 two64)

@@ -56,7 +56,7 @@ pub record Added (f : Format) (t : ℕ) (x y : Float) : Type 0 where
   pub high : 2 * stepsIn f (add f x y) ≤ 2 * (stepsIn f x + stepsIn f y) + 2 ^ t
   pub low : 2 * (stepsIn f x + stepsIn f y) ≤ 2 * stepsIn f (add f x y) + 2 ^ t
 
-unscale : (a b u c : ℕ) → 0 < c → 2 * (a * c) ≤ 2 * (b * c) + u * c → 2 * a ≤ 2 * b + u
+pub unscale : (a b u c : ℕ) → 0 < c → 2 * (a * c) ≤ 2 * (b * c) + u * c → 2 * a ≤ 2 * b + u
 unscale a b u c h p = le-of-mul-le-mul-right {k = c} (omega arith) h
 
 pub added : (f : Format) (t : ℕ) (x y : Float) → Plain f x → Plain f y → stepsIn f x + stepsIn f y < 2 ^ (prec f + t)

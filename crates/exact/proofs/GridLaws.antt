@@ -1,7 +1,7 @@
 -- On the grid the differences, their squares and the sum are exact, so only the root of a leg's length is rounded.
 -- Assumes nothing.
 use mathlib.Core.Path.{_≡_, refl, sym, ap, _∙_, subst}
-use mathlib.Core.Bool.{Bool, true, false, not, _&&_, Bool·beq, cond, true≢false}
+use mathlib.Core.Bool.{Bool, true, false, not, _&&_, Bool·beq, cond, true≢false, false≢true}
 use Prim.Native.Nat.{ℕ, _+_, _-_, _*_, _%_, _^_, _≤_, _<_}
 use native.Mathlib.Nat.{le-trans, le-of-eq, le-of-lt, lt-of-le-of-lt, le-dest, mul-assoc, mul-le-mul, mul-le-mul-right}
 use native.Mathlib.Nat.{mul-pos, le-of-mul-le-mul-right, mul-mul-mul-comm, div-add-mod', add-comm, add-le-add}
@@ -17,7 +17,9 @@ use Rattle.root.specs.Steps.{stepsOf, signOf, hasRoot}
 use Rattle.root.proofs.StepLaws.{steps-of}
 use Rattle.root.proofs.GridRoot.{Within, grid-root}
 use Rattle.root.proofs.RootLaws.{root-fits, root-sign, root-finite}
-use Rattle.exact.specs.Grid.{perMm, reach, onGrid, gridPoint, unitsOf, gap, apart, squaredLength}
+use Rattle.grid.specs.Words.{gap}
+use Rattle.grid.specs.Move.{perMm}
+use Rattle.exact.specs.Grid.{reach, onGrid, gridPoint, unitsOf, apart, squaredLength}
 use Rattle.exact.specs.Length.{legRoot, step40}
 use Rattle.points.specs.Distance.{distanceOf, distanceSqOf, squares as squaresOf}
 use Rattle.exact.proofs.AddLaws.{Plain, add-at, value-plain}
@@ -74,36 +76,60 @@ gap-less A B C a b c h p q l =
 gap-comm : (a b : ℕ) → gap a b ≡ gap b a
 gap-comm a b = add-comm (a - b) (b - a)
 
--- which of the two, and its sign, do not matter to its size
+-- z is ±b less ±a, rounded once: its size, and its sign; where that is a's own, s, the way leads on from a to b
+pub record Subtracted (f : Format) (z : Float) (s : Bool) (a b g c : ℕ) : Type 0 where
+  pub sign : Bool
+  pub is : z ≡ round f sign g c
+  pub onward : sign ≡ s → a + g ≤ b
+
+not-itself : (r : Bool) → not r ≡ r → ⊥
+not-itself true e = false≢true e
+not-itself false e = true≢false e
+
+-- fractions in order, their sizes in other units are too
+pub less-back : (A B C a b c : ℕ) → 0 < C → A * c ≡ b * C → B * c ≡ a * C → B ≤ A → a ≤ b
+less-back A B C a b c h p q l =
+    le-of-mul-le-mul-right {k = C} (le-trans (le-of-eq (sym q)) (le-trans (mul-le-mul-right c l) (le-of-eq p))) h
+
+on-to : (a b : ℕ) → a ≤ b → a + gap a b ≤ b
+on-to a b h = omega arith
+
+-- of two with one sign
 unlike-signs : (f : Format) (r : Bool) (A B C a b c : ℕ) → 0 < C → 0 < c → A * c ≡ b * C → B * c ≡ a * C
-    → (s : Bool) × (cond (ltb A B) (round f (not r) (B - A) C) (round f (r && ltb B A) (A - B) C)
-    ≡ round f s (gap a b) c)
+    → Subtracted f (cond (ltb A B) (round f (not r) (B - A) C) (round f (r && ltb B A) (A - B) C)) r a b (gap a b) c
 unlike-signs f r A B C a b c h k p q = go (ltb A B) (ltb→lt A B) (nltb→le A B)
   where
     go : (t : Bool) → (T t → A < B) → (T (not t) → B ≤ A)
-        → (s : Bool) × (cond t (round f (not r) (B - A) C) (round f (r && ltb B A) (A - B) C) ≡ round f s (gap a b) c)
-    go true l g = (not r, round-same f (not r) (B - A) C (gap a b) c h k (gap-less A B C a b c h p q (le-of-lt (l tt))))
-    go false l g = (
-      r && ltb B A,
-      round-same f (r && ltb B A) (A - B) C (gap a b) c h k
-          (gap-less B A C b a c h q p (g tt) ∙ ap (λ (n : ℕ). n * C) (gap-comm b a)),
-    )
+        → Subtracted f (cond t (round f (not r) (B - A) C) (round f (r && ltb B A) (A - B) C)) r a b (gap a b) c
+    go true l g = record {
+      sign = not r;
+      is = round-same f (not r) (B - A) C (gap a b) c h k (gap-less A B C a b c h p q (le-of-lt (l tt)));
+      onward = λ e. absurd (not-itself r e);
+    }
+    go false l g = record {
+      sign = r && ltb B A;
+      is = round-same f (r && ltb B A) (A - B) C (gap a b) c h k
+          (gap-less B A C b a c h q p (g tt) ∙ ap (λ (n : ℕ). n * C) (gap-comm b a));
+      onward = λ e. on-to a b (less-back A B C a b c h p q (g tt));
+    }
 
 -- ±b less ±a, by how far they are apart
-abbrev sizeBetween : Bool → ℕ → Bool → ℕ → ℕ
+abbrev pub sizeBetween : Bool → ℕ → Bool → ℕ → ℕ
 sizeBetween s a t b = cond (Bool·beq s t) (gap a b) (a + b)
 
 sum-cross : (A B C a b c : ℕ) → A * c ≡ b * C → B * c ≡ a * C → (A + B) * c ≡ (a + b) * C
 sum-cross A B C a b c p q = omega arith
 
-over : (x a c d e : ℕ) → x * c ≡ a * d → x * e * c ≡ a * (d * e)
+-- a fraction over a larger denominator
+pub over : (x a c d e : ℕ) → x * c ≡ a * d → x * e * c ≡ a * (d * e)
 over x a c d e p = omega (arith, ap (λ (z : ℕ). z * e) p)
 
-over-right : (x a c d e : ℕ) → x * c ≡ a * e → x * d * c ≡ a * (d * e)
+pub over-right : (x a c d e : ℕ) → x * c ≡ a * e → x * d * c ≡ a * (d * e)
 over-right x a c d e p = omega (arith, ap (λ (z : ℕ). z * d) p)
 
-sub-at : (f : Format) (y x : Float) (b a c : ℕ) → 0 < c → HasValue y (signOf y) b c → HasValue x (signOf x) a c
-    → (r : Bool) × (sub f y x ≡ round f r (sizeBetween (signOf x) a (signOf y) b) c)
+-- as it is computed
+pub sub-at : (f : Format) (y x : Float) (b a c : ℕ) → 0 < c → HasValue y (signOf y) b c → HasValue x (signOf x) a c
+    → Subtracted f (sub f y x) (signOf x) a b (sizeBetween (signOf x) a (signOf y) b) c
 unfolding sub add neg sum
 sub-at f nan x b a c h p q = absurd p
 sub-at f (inf r) x b a c h p q = absurd p
@@ -116,21 +142,23 @@ sub-at f (fin t n d) (fin s m e) b a c h p q =
     C-pos = mul-pos (down-pos d) (down-pos e)
 
     go : (t s : Bool) → n * up d * down e * c ≡ b * (down d * down e) → m * up e * down d * c ≡ a * (down d * down e)
-        → (r : Bool) × (sum f t (n * up d * down e) (not s) (m * up e * down d) (down d * down e)
-        ≡ round f r (sizeBetween s a t b) c)
+        → Subtracted f (sum f t (n * up d * down e) (not s) (m * up e * down d) (down d * down e)) s a b
+        (sizeBetween s a t b) c
     go false false i j =
         unlike-signs f false (n * up d * down e) (m * up e * down d) (down d * down e) a b c C-pos h i j
     go true true i j = unlike-signs f true (n * up d * down e) (m * up e * down d) (down d * down e) a b c C-pos h i j
-    go false true i j = (
-      false,
-      round-same f false (n * up d * down e + m * up e * down d) (down d * down e) (a + b) c C-pos h
-          (sum-cross (n * up d * down e) (m * up e * down d) (down d * down e) a b c i j),
-    )
-    go true false i j = (
-      true,
-      round-same f true (n * up d * down e + m * up e * down d) (down d * down e) (a + b) c C-pos h
-          (sum-cross (n * up d * down e) (m * up e * down d) (down d * down e) a b c i j),
-    )
+    go false true i j = record {
+      sign = false;
+      is = round-same f false (n * up d * down e + m * up e * down d) (down d * down e) (a + b) c C-pos h
+          (sum-cross (n * up d * down e) (m * up e * down d) (down d * down e) a b c i j);
+      onward = λ r. absurd (false≢true r);
+    }
+    go true false i j = record {
+      sign = true;
+      is = round-same f true (n * up d * down e + m * up e * down d) (down d * down e) (a + b) c C-pos h
+          (sum-cross (n * up d * down e) (m * up e * down d) (down d * down e) a b c i j);
+      onward = λ r. absurd (true≢false r);
+    }
 
 -- ---- a whole number of 2^-10 or 2^-20 of no more than 49 digits is a number of binary64
 
@@ -146,20 +174,24 @@ small-twentieth g h =
 
 -- ---- the difference of two coordinates, and its square
 
-pub difference-exact : (x y : Float) → T (onGrid x) → T (onGrid y)
-    → (s : Bool) × HasValue (sub binary64 y x) s (apart x y) perMm
+-- y less x has that many grid units exactly; where its sign is x's own, y lies beyond x
+pub record Difference (x y : Float) : Type 0 where
+  pub sign : Bool
+  pub value : HasValue (sub binary64 y x) sign (apart x y) perMm
+  pub onward : sign ≡ signOf x → unitsOf x + apart x y ≤ unitsOf y
+
+pub difference-exact : (x y : Float) → T (onGrid x) → T (onGrid y) → Difference x y
 unfolding apart
 difference-exact x y t u =
-    go (sub-at binary64 y x (unitsOf y) (unitsOf x) perMm (lit< tt) (on-grid-value y u) (on-grid-value x t))
-  where
-    go : (r : Bool) × (sub binary64 y x
-        ≡ round binary64 r (sizeBetween (signOf x) (unitsOf x) (signOf y) (unitsOf y)) perMm)
-        → (s : Bool) × HasValue (sub binary64 y x) s (sizeBetween (signOf x) (unitsOf x) (signOf y) (unitsOf y)) perMm
-    go (r, e) = (
-      r,
-      subst (λ (z : Float). HasValue z r (sizeBetween (signOf x) (unitsOf x) (signOf y) (unitsOf y)) perMm)
-          (sym e) (small-tenth r (sizeBetween (signOf x) (unitsOf x) (signOf y) (unitsOf y)) (apart-small x y t u)),
-    )
+    let g = sizeBetween (signOf x) (unitsOf x) (signOf y) (unitsOf y) in
+    let d : Subtracted binary64 (sub binary64 y x) (signOf x) (unitsOf x) (unitsOf y) g perMm =
+    sub-at binary64 y x (unitsOf y) (unitsOf x) perMm (lit< tt) (on-grid-value y u) (on-grid-value x t) in
+    record {
+      sign = d .sign;
+      value = subst (λ (z : Float). HasValue z (d .sign) g perMm) (sym (d .is))
+          (small-tenth (d .sign) g (apart-small x y t u));
+      onward = d .onward;
+    }
 
 square-at : (d : Float) (s : Bool) (g : ℕ) → HasValue d s g perMm
     → mul binary64 d d ≡ round binary64 false (g * g) (2 ^ 20)
@@ -183,24 +215,31 @@ square-small g h = mul-le-mul {n₂ = 2 ^ 24} {m₂ = 2 ^ 24} h h
 
 square-exact : (x y : Float) → T (onGrid x) → T (onGrid y)
     → HasValue (mul binary64 (sub binary64 y x) (sub binary64 y x)) false (apart x y * apart x y) (2 ^ 20)
-square-exact x y t u = go (difference-exact x y t u)
-  where
-    go : (s : Bool) × HasValue (sub binary64 y x) s (apart x y) perMm
-        → HasValue (mul binary64 (sub binary64 y x) (sub binary64 y x)) false (apart x y * apart x y) (2 ^ 20)
-    go (s, v) =
-        subst (λ (z : Float). HasValue z false (apart x y * apart x y) (2 ^ 20))
-        (sym (square-at (sub binary64 y x) s (apart x y) v))
-        (small-twentieth (apart x y * apart x y) (le-trans (square-small (apart x y) (apart-small x y t u)) (lit≤ tt)))
+square-exact x y t u =
+    let d = difference-exact x y t u in
+    subst (λ (z : Float). HasValue z false (apart x y * apart x y) (2 ^ 20))
+    (sym (square-at (sub binary64 y x) (d .sign) (apart x y) (d .value)))
+    (small-twentieth (apart x y * apart x y) (le-trans (square-small (apart x y) (apart-small x y t u)) (lit≤ tt)))
+
+-- ---- a point on the grid
+
+pub x-on : (p : Point) → T (gridPoint p) → T (onGrid (p .x))
+unfolding gridPoint
+x-on p t = and-l (onGrid (p .x)) (onGrid (p .y)) t
+
+pub y-on : (p : Point) → T (gridPoint p) → T (onGrid (p .y))
+unfolding gridPoint
+y-on p t = and-r (onGrid (p .x)) (onGrid (p .y)) t
 
 -- ---- the squared length of a leg between grid points
 
 pub squared-small : (a b : Point) → T (gridPoint a) → T (gridPoint b) → squaredLength a b ≤ 2 ^ 49
 unfolding gridPoint squaredLength
 squared-small a b t u =
-    let x = square-small (apart (a .x) (b .x)) (apart-small (a .x) (b .x) (and-l (onGrid (a .x)) (onGrid (a .y)) t)
-    (and-l (onGrid (b .x)) (onGrid (b .y)) u)) in
-    let y = square-small (apart (a .y) (b .y)) (apart-small (a .y) (b .y) (and-r (onGrid (a .x)) (onGrid (a .y)) t)
-    (and-r (onGrid (b .x)) (onGrid (b .y)) u)) in
+    let x = square-small (apart (a .x) (b .x)) (apart-small (a .x) (b .x) (x-on a t)
+    (x-on b u)) in
+    let y = square-small (apart (a .y) (b .y)) (apart-small (a .y) (b .y) (y-on a t)
+    (y-on b u)) in
     add-le-add {b = 2 ^ 48} {d = 2 ^ 48} x y
 
 -- the sum of the squares, as it is computed
@@ -219,8 +258,8 @@ squares-exact a b t u =
     let is : squares a b ≡ round binary64 false S (2 ^ 20) =
     add-at binary64 (mul binary64 dx dx) (mul binary64 dy dy) (apart (a .x) (b .x) * apart (a .x) (b .x))
     (apart (a .y) (b .y) * apart (a .y) (b .y)) (2 ^ 20) (lit< tt)
-    (square-exact (a .x) (b .x) (and-l (onGrid (a .x)) (onGrid (a .y)) t) (and-l (onGrid (b .x)) (onGrid (b .y)) u))
-    (square-exact (a .y) (b .y) (and-r (onGrid (a .x)) (onGrid (a .y)) t) (and-r (onGrid (b .x)) (onGrid (b .y)) u)) in
+    (square-exact (a .x) (b .x) (x-on a t) (x-on b u))
+    (square-exact (a .y) (b .y) (y-on a t) (y-on b u)) in
     subst (λ (z : Float). HasValue z false S (2 ^ 20)) (sym is) (small-twentieth S (squared-small a b t u))
 
 in-steps : (x : Float) (S : ℕ) → HasValue x false S (2 ^ 20) → stepsOf x ≡ S * 2 ^ 1054

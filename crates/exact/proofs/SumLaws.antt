@@ -27,7 +27,7 @@ pub leg-root-le : (S : ℕ) → legRoot S * legRoot S ≤ S * 2 ^ 60
 unfolding legRoot
 leg-root-le S = whole-le (S * 2 ^ 60)
 
-leg-root-small : (S : ℕ) → S ≤ 2 ^ 49 → legRoot S ≤ 3 * 2 ^ 53
+pub leg-root-small : (S : ℕ) → S ≤ 2 ^ 49 → legRoot S ≤ 3 * 2 ^ 53
 leg-root-small S h =
     le-of-lt (square-lt (legRoot S) (3 * 2 ^ 53) (lt-of-le-of-lt
     (le-trans (leg-root-le S) (mul-le-mul-right (2 ^ 60) h)) (lit< tt)))

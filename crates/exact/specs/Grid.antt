@@ -2,15 +2,13 @@
 -- Assumes nothing.
 use mathlib.Core.Bool.{Bool, true, false, _&&_, Bool·beq, cond}
 use mathlib.Core.List.{List, [], _∷_}
-use Prim.Native.Nat.{ℕ, _+_, _-_, _*_, _/_, _%_}
+use Prim.Native.Nat.{ℕ, _+_, _*_, _/_, _%_}
 use lib.Dec.{eqb, leb}
 use lib.Ieee.{Float, nan, inf, fin, up, down}
 use Rattle.answer.specs.declared.Point.{Point}
 use Rattle.root.specs.Steps.{signOf}
-
--- grid units in a millimetre
-abbrev pub perMm : ℕ
-perMm = 1024
+use Rattle.grid.specs.Move.{perMm}
+use Rattle.grid.specs.Words.{gap}
 
 -- the largest size of a coordinate on the grid, in millimetres
 abbrev pub reach : ℕ
@@ -38,10 +36,6 @@ abbrev pub unitsOf : Float → ℕ
 unitsOf nan = 0
 unitsOf (inf s) = 0
 unitsOf (fin s m e) = m * up e * perMm / down e
-
--- the difference of two sizes
-abbrev pub gap : ℕ → ℕ → ℕ
-gap a b = (a - b) + (b - a)
 
 -- how far apart two coordinates are, in grid units: on the same side of zero their sizes' difference, else their sum
 unfoldable pub apart : Float → Float → ℕ

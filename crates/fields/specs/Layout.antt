@@ -17,7 +17,7 @@ blocksOf s = length s / blockBytes
 abbrev pub payload : ℕ → ℕ
 payload b = blockBytes * b + 8
 
--- the bytes of the head's fields, of a contour's before its vertices, of a vertex and of a pair
+-- the bytes of the head's fields that both versions have, of a contour's before its vertices, of a vertex and of a pair
 abbrev pub headSize : ℕ
 headSize = 34
 
@@ -29,6 +29,10 @@ vertexSize = 16
 
 abbrev pub pairSize : ℕ
 pairSize = 16
+
+-- where a version 2 head has the byte that asks for the grid in its payload: right behind the fields of both versions
+abbrev pub gridOffset : ℕ
+gridOffset = headSize
 
 -- where a version 2 contour's last eight bytes begin in its payload: its part, and which copy of the part it is
 abbrev pub partOffset : ℕ
@@ -42,9 +46,9 @@ copyOffset = partOffset + 4
 abbrev pub versionOf : List ℕ → ℕ
 versionOf s = byteAt s 1
 
--- whether contours have a part and a copy: those of version 2
-abbrev pub hasParts : List ℕ → Bool
-hasParts s = eqb (versionOf s) 2
+-- whether the card is of version 2: its head may ask for the grid, its contours have a part and a copy
+abbrev pub isTwo : List ℕ → Bool
+isTwo s = eqb (versionOf s) 2
 
 -- ---- the head
 
@@ -76,6 +80,14 @@ exteriorOf s = byteAt s (payload 0 + 32)
 abbrev pub interiorOf : List ℕ → ℕ
 interiorOf s = byteAt s (payload 0 + 33)
 
+-- the byte that asks for the grid; version 1 has none and reads as 0
+abbrev pub gridOf : List ℕ → ℕ
+gridOf s = cond (isTwo s) (byteAt s (payload 0 + gridOffset)) 0
+
+-- whether candidates are to be moved to the grid: only a byte of 1 asks
+abbrev pub asksGrid : List ℕ → Bool
+asksGrid s = eqb (gridOf s) 1
+
 -- ---- a contour: one block each, after the head
 
 abbrev pub idOf : List ℕ → ℕ → ℕ
@@ -95,10 +107,10 @@ fillerOf s k = byteAt s (payload (k + 1) + 11)
 
 -- the part that contour k belongs to, 0 for none, and which copy of that part; version 1 has neither and reads as 0
 abbrev pub partOf : List ℕ → ℕ → ℕ
-partOf s k = cond (hasParts s) (u32At s (payload (k + 1) + partOffset)) 0
+partOf s k = cond (isTwo s) (u32At s (payload (k + 1) + partOffset)) 0
 
 abbrev pub copyOf : List ℕ → ℕ → ℕ
-copyOf s k = cond (hasParts s) (u32At s (payload (k + 1) + copyOffset)) 0
+copyOf s k = cond (isTwo s) (u32At s (payload (k + 1) + copyOffset)) 0
 
 -- a vertex: its x, and 8 bytes on its y
 abbrev pub vertexOffset : ℕ → ℕ → ℕ

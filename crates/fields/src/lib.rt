@@ -4,7 +4,7 @@ ghost use mathlib.Core.Path.{_≡_};
 ghost use Prim.Native.Nat.{_+_, _<_, min};
 ghost use lib.ListN.{length};
 ghost use Rattle.block.specs.Field.{byteAt, u32At};
-ghost use Rattle.fields.specs.Layout.{payload, versionOf, hasParts, jobOf, contoursOf, pairsOf, perContourOf, passesOf, moveLimitOf, homeOffset, exteriorOf, interiorOf, pairSize, idOf, tagOf, vertexCountOf, typeOf, partOf, copyOf, vertexOffset, pairOffset, beforeIdOf, beforeTagOf, afterIdOf, afterTagOf};
+ghost use Rattle.fields.specs.Layout.{payload, versionOf, isTwo, jobOf, contoursOf, pairsOf, perContourOf, passesOf, moveLimitOf, homeOffset, exteriorOf, interiorOf, gridOf, asksGrid, pairSize, idOf, tagOf, vertexCountOf, typeOf, partOf, copyOf, vertexOffset, pairOffset, beforeIdOf, beforeTagOf, afterIdOf, afterTagOf};
 ghost use Rattle.fields.specs.Values.{asType, asPreference, pointAt};
 use answer::ContourType;
 use answer::CutDirectionPreference;
@@ -56,6 +56,9 @@ pub const INTERIOR_AT: usize = PAYLOAD_AT + 33;
 
 pub const HEAD_SIZE: usize = 34;
 
+// Behind them, in version 2 only: the byte that asks for the grid.
+pub const GRID_AT: usize = PAYLOAD_AT + HEAD_SIZE;
+
 // A contour's, from the beginning of its block's payload; its vertices come after them.
 pub const ID_AT: usize = 0;
 
@@ -99,9 +102,9 @@ pub fn version(card: &[u8]) -> u8
     block::byte_at(card, VERSION_AT)
 }
 
-// Whether its contours have a part and a copy.
-pub fn has_parts(card: &[u8]) -> bool
-    ensures { λ r. ⌜ r ≡ hasParts (now (card .entry)) ⌝ }
+// Whether it is of version 2: its head may ask for the grid, its contours have a part and a copy.
+pub fn is_two(card: &[u8]) -> bool
+    ensures { λ r. ⌜ r ≡ isTwo (now (card .entry)) ⌝ }
 {
     version(card) == 2
 }
@@ -184,6 +187,23 @@ pub fn interior(card: &[u8]) -> CutDirectionPreference
     ensures { λ r. ⌜ r ≡ asPreference (interiorOf (now (card .entry))) ⌝ }
 {
     preference(block::byte_at(card, INTERIOR_AT))
+}
+
+// The byte that asks for the grid; 0 in version 1.
+pub fn grid(card: &[u8]) -> u8
+    ensures { λ r. ⌜ r ≡ gridOf (now (card .entry)) ⌝ }
+{
+    if !is_two(card) {
+        return 0;
+    }
+    block::byte_at(card, GRID_AT)
+}
+
+// Whether candidates are to be moved to the grid. On a card that was not checked, no byte but 1 asks for it.
+pub fn asks_grid(card: &[u8]) -> bool
+    ensures { λ r. ⌜ r ≡ asksGrid (now (card .entry)) ⌝ }
+{
+    grid(card) == 1
 }
 
 // ---- offsets
@@ -292,7 +312,7 @@ pub fn contour_type(card: &[u8], k: usize) -> ContourType
 pub fn part(card: &[u8], k: usize) -> u32
     ensures { λ r. ⌜ r ≡ partOf (now (card .entry)) k ⌝ }
 {
-    if has_parts(card) {
+    if is_two(card) {
         return contour_u32(card, k, PART_AT);
     }
     0
@@ -302,7 +322,7 @@ pub fn part(card: &[u8], k: usize) -> u32
 pub fn copy(card: &[u8], k: usize) -> u32
     ensures { λ r. ⌜ r ≡ copyOf (now (card .entry)) k ⌝ }
 {
-    if has_parts(card) {
+    if is_two(card) {
         return contour_u32(card, k, COPY_AT);
     }
     0

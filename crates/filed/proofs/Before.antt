@@ -65,7 +65,7 @@ module _ (s : List ℕ) (fine : checkOf s ≡ Fine) where
   first-field : before .contours < contoursOf s → headFaultWithin (before .contours) (before .pairs) s ≡ At 1
   unfolding headFaultWithin
   first-field n =
-      at-is (λ f. getD (headFaultsWithin (before .contours) (before .pairs) s) f false) 8 1
+      at-is (λ f. getD (headFaultsWithin (before .contours) (before .pairs) s) f false) 9 1
       (record { within = lit< tt; holds = lt-ltb (before .contours) (contoursOf s) n; before = none })
     where
       none : (j : ℕ) → j < 1 → getD (headFaultsWithin (before .contours) (before .pairs) s) j false ≡ false
@@ -76,7 +76,7 @@ module _ (s : List ℕ) (fine : checkOf s ≡ Fine) where
       → headFaultWithin (before .contours) (before .pairs) s ≡ At 2
   unfolding headFaultWithin
   second-field n m =
-      at-is (λ f. getD (headFaultsWithin (before .contours) (before .pairs) s) f false) 8 2
+      at-is (λ f. getD (headFaultsWithin (before .contours) (before .pairs) s) f false) 9 2
       (record { within = lit< tt; holds = lt-ltb (before .pairs) (pairsOf s) m; before = none })
     where
       none : (j : ℕ) → j < 2 → getD (headFaultsWithin (before .contours) (before .pairs) s) j false ≡ false

@@ -1,3 +1,4 @@
 pub mod LimitLaws
 pub mod Filed
 pub mod Before
+pub mod Asking

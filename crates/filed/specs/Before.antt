@@ -1,5 +1,5 @@
--- A reader from before request 2026-04 that knows the card's version: what its limits say of every sound card, and that
--- what they refuse gets no tour. Assumes nothing.
+-- A reader with the limits from before request 2026-04 that knows all else of today's card: what those limits say of
+-- every sound card, and that what they refuse gets no tour. Assumes nothing.
 use mathlib.Core.Path.{_≡_}
 use mathlib.Core.List.{List}
 use Prim.Native.Nat.{ℕ, _+_, _*_, _-_, _/_, _≤_, _<_}

@@ -1,2 +1,3 @@
 pub mod Filed
 pub mod Before
+pub mod Asking

@@ -1,2 +1,2 @@
-// The limits that request 2026-04 raised: what cards already filed keep, and what a reader from before says of a larger card.
-// Stated in specs/, no code.
+// Cards from before a request: what those keep that were filed before 2026-04 raised the limits, and what those limits say of a
+// larger card; and what byte 34 of the head was before 2026-07. Stated in specs/, no code.

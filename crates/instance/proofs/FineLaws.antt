@@ -10,7 +10,7 @@ use Rattle.candidates.specs.Generate.{blank}
 use Rattle.candidates.proofs.CountLaws.{count-some}
 use Rattle.closure.specs.Limits.{contourLimit}
 use Rattle.fields.specs.Limits.{candidateLimit, vertexLimit}
-use Rattle.fields.specs.Layout.{contoursOf, perContourOf, vertexCountOf}
+use Rattle.fields.specs.Layout.{contoursOf, perContourOf, asksGrid, vertexCountOf}
 use Rattle.card.specs.Verdict.{checkOf}
 use Rattle.card_laws.proofs.Facts.{accepted}
 use Rattle.instance.specs.Gather.{verticesOf, outlineOf, wayOf, offersOf, gathered, owners, firsts, heldOf}
@@ -50,7 +50,7 @@ module _ (s : List ℕ) (fine : checkOf s ≡ Fine) where
       let a = accepted s fine in
       let v = a .some-vertices k h in
       let e = ap length (outline-whole k h) ∙ vertices-length s k (vertexCountOf s k) in
-      count-some (wayOf s k) (outlineOf s k) (perContourOf s) (omega arith) (a .some-candidates)
+      count-some (asksGrid s) (wayOf s k) (outlineOf s k) (perContourOf s) (omega arith) (a .some-candidates)
 
   -- ---- the parts that are lent
 

@@ -19,7 +19,8 @@ use Rattle.instance.specs.declared.Instance.{Instance}
 use Rattle.instance.specs.declared.Outline.{Outline}
 use Rattle.closure.specs.Limits.{contourLimit}
 use Rattle.fields.specs.Limits.{perContourLimit, candidateLimit, vertexLimit}
-use Rattle.fields.specs.Layout.{contoursOf, perContourOf, exteriorOf, interiorOf, vertexCountOf, typeOf, vertexOffset}
+use Rattle.fields.specs.Layout.{contoursOf, perContourOf, exteriorOf, interiorOf, asksGrid, vertexCountOf, typeOf}
+use Rattle.fields.specs.Layout.{vertexOffset}
 use Rattle.answer.specs.declared.Point.{Point}
 use Rattle.fields.specs.Values.{asType, asPreference, pointAt}
 use Rattle.answer.specs.declared.ContourType.{ContourType}
@@ -87,11 +88,11 @@ among n c k = go (leb n contourLimit) (ltb 0 c) (leb c perContourLimit) (leb (n 
 module _ (s : List ℕ) where
   pub offers-within : (k : ℕ) → 0 < perContourOf s → length (offersOf s k) ≤ perContourOf s
   unfolding offersOf
-  offers-within k h = let e = count-within (wayOf s k) (outlineOf s k) (perContourOf s) h in omega arith
+  offers-within k h = let e = count-within (asksGrid s) (wayOf s k) (outlineOf s k) (perContourOf s) h in omega arith
 
   pub offers-few : (k : ℕ) → 0 < perContourOf s → length (offersOf s k) ≤ perContourLimit
   unfolding offersOf
-  offers-few k h = let e = count-within (wayOf s k) (outlineOf s k) (perContourOf s) h in omega arith
+  offers-few k h = let e = count-within (asksGrid s) (wayOf s k) (outlineOf s k) (perContourOf s) h in omega arith
 
   pub gathered-within : (k : ℕ) → 0 < perContourOf s → length (gathered s k) ≤ k * perContourOf s
   unfolding gathered
@@ -247,16 +248,16 @@ module _ (ps : List Point) (o : Outline) (is : o ≡ outlined ps) where
   outline-within = let e = outline-count in let l = length-take (o .count) (o .numbers) in omega arith
 
 pub offers-are : (s : List ℕ) (k : ℕ) (o : Outline) (kind : ContourType) (exterior interior : CutDirectionPreference)
-    (c : ℕ) (r : Candidates)
+    (c : ℕ) (grid : Bool) (r : Candidates)
     → o ≡ outlined (outlineOf s k) → kind ≡ asType (typeOf s k) → exterior ≡ asPreference (exteriorOf s)
-    → interior ≡ asPreference (interiorOf s) → c ≡ perContourOf s
-    → r ≡ filled (candidatesOf (directionOf kind exterior interior) (points (take (o .count) (o .numbers))) c)
+    → interior ≡ asPreference (interiorOf s) → c ≡ perContourOf s → grid ≡ asksGrid s
+    → r ≡ filled (candidatesOf grid (directionOf kind exterior interior) (points (take (o .count) (o .numbers))) c)
     → r ≡ filled (offersOf s k)
 unfolding offersOf
-offers-are s k o kind exterior interior c r is e f g h t =
+offers-are s k o kind exterior interior c grid r is e f g h i t =
     let ps : points (take (o .count) (o .numbers)) ≡ outlineOf s k =
     ap points (outline-lent (outlineOf s k) o is) ∙ points-flat (outlineOf s k) in
-    t ∙ rw (ps, e, f, g, h)
+    t ∙ rw (ps, e, f, g, h, i)
 
 -- ---- one contour's candidates, copied
 

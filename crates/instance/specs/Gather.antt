@@ -11,7 +11,8 @@ use Rattle.candidates.specs.Direction.{directionOf}
 use Rattle.candidates.specs.Generate.{candidatesOf}
 use Rattle.closure.specs.Limits.{contourLimit}
 use Rattle.fields.specs.Limits.{perContourLimit, candidateLimit, vertexLimit}
-use Rattle.fields.specs.Layout.{contoursOf, perContourOf, exteriorOf, interiorOf, vertexCountOf, typeOf, vertexOffset}
+use Rattle.fields.specs.Layout.{contoursOf, perContourOf, exteriorOf, interiorOf, asksGrid, vertexCountOf, typeOf}
+use Rattle.fields.specs.Layout.{vertexOffset}
 use Rattle.fields.specs.Values.{asType, asPreference, pointAt}
 
 -- the first so many vertices of contour k
@@ -28,10 +29,10 @@ outlineOf s k = verticesOf s k (min (vertexCountOf s k) vertexLimit)
 abbrev pub wayOf : List ℕ → ℕ → CutDirection
 wayOf s k = directionOf (asType (typeOf s k)) (asPreference (exteriorOf s)) (asPreference (interiorOf s))
 
--- a contour's candidates
+-- a contour's candidates, on the grid where the card asks for it
 unfoldable pub offersOf : List ℕ → ℕ → List Candidate
 unfolding outlineOf
-offersOf s k = candidatesOf (wayOf s k) (outlineOf s k) (perContourOf s)
+offersOf s k = candidatesOf (asksGrid s) (wayOf s k) (outlineOf s k) (perContourOf s)
 
 -- the candidates of the first so many contours, one contour after the other: a candidate's number is its place here
 unfoldable pub gathered : List ℕ → ℕ → List Candidate

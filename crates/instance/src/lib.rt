@@ -91,7 +91,8 @@ fn offers(card: &[u8], k: usize) -> Candidates
     let exterior = fields::exterior(card);
     let interior = fields::interior(card);
     let c = fields::per_contour(card);
-    candidates::candidates_of(&numbers[..end], c, kind, exterior, interior)
+    let grid = fields::asks_grid(card);
+    candidates::candidates_of(&numbers[..end], c, grid, kind, exterior, interior)
 }
 
 // No contours.

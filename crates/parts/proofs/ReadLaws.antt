@@ -1,20 +1,20 @@
--- What twins read alike: every byte that is not one of their own, so every field but version, part and copy. Assumes
--- nothing.
+-- What twins read alike: every byte that is not one of their own, so every field but version, part and copy; and no
+-- grid is asked for by either. Assumes nothing.
 use mathlib.Core.Path.{_≡_, sym, _∙_, subst}
-use mathlib.Core.Bool.{_||_}
+use mathlib.Core.Bool.{cond, _||_}
 use mathlib.Core.List.{List}
 use Prim.Native.Nat.{ℕ, _+_, _*_, _/_, _%_, _≤_, _<_}
 use native.Mathlib.Nat.{add-zero, add-assoc, mod-lt}
 use native.Mathlib.Omega.{arith}
-use lib.Dec.{lit<, lit≤}
+use lib.Dec.{eqb, lit<, lit≤}
 use lib.Ieee.{binary64, ofBits}
 use lib.ListN.{length}
 use Rattle.block.specs.Field.{byteAt, u16At, u32At, u64At, f64At}
 use Rattle.block.specs.Block.{blockBytes, checkOffset}
 use Rattle.fields.specs.Limits.{vertexLimit, pairsABlock}
-use Rattle.fields.specs.Layout.{blocksOf, payload, partOffset, jobOf, contoursOf, pairsOf, perContourOf}
-use Rattle.fields.specs.Layout.{passesOf, moveLimitOf, homeOffset, exteriorOf, interiorOf, idOf, tagOf, vertexCountOf}
-use Rattle.fields.specs.Layout.{typeOf, fillerOf, vertexOffset, pairOffset}
+use Rattle.fields.specs.Layout.{blocksOf, payload, gridOffset, partOffset, versionOf, jobOf, contoursOf, pairsOf}
+use Rattle.fields.specs.Layout.{perContourOf, passesOf, moveLimitOf, homeOffset, exteriorOf, interiorOf, gridOf}
+use Rattle.fields.specs.Layout.{idOf, tagOf, vertexCountOf, typeOf, fillerOf, vertexOffset, pairOffset}
 use Rattle.fields.specs.Values.{pointAt}
 use Rattle.card.specs.Stages.{tooFar, farPoint}
 use Rattle.parts.specs.Twins.{Own, of-version, of-check, of-part, Twins}
@@ -114,6 +114,20 @@ module _ (s t : List ℕ) (w : Twins s t) where
 
   pub same-interior : interiorOf s ≡ interiorOf t
   same-interior = byte s t _ (front 0 33 1 (lit≤ tt))
+
+  pub is-two : versionOf s ≡ 2
+  is-two = w .two 0 (w .some-block)
+
+  pub is-one : versionOf t ≡ 1
+  is-one = w .one 0 (subst (λ (n : ℕ). 0 < n) same-blocks (w .some-block))
+
+  -- none is asked for in the one, and the other has no such field
+  pub same-grid : gridOf s ≡ gridOf t
+  same-grid = w .no-grid ∙ sym (λ i. cond (eqb (is-one i) 2) (byteAt t (payload 0 + gridOffset)) 0)
+
+  -- the byte itself is 0
+  pub zero-grid : byteAt s (payload 0 + gridOffset) ≡ 0
+  zero-grid = sym (λ i. cond (eqb (is-two i) 2) (byteAt s (payload 0 + gridOffset)) 0) ∙ w .no-grid
 
   pub same-id : (k : ℕ) → idOf s k ≡ idOf t k
   same-id k = word s t _ (front (k + 1) 0 4 (lit≤ tt))

@@ -4,7 +4,7 @@ use mathlib.Core.Bool.{cond, _||_}
 use mathlib.Core.List.{List, [], _∷_, _++_}
 use Prim.Native.Nat.{ℕ, zero, suc, _+_, _*_, _-_, _≤_, min}
 use native.Mathlib.Omega.{arith}
-use lib.Dec.{ltb}
+use lib.Dec.{ltb, eqb}
 use lib.Ieee.{Float}
 use lib.ListN.{length, drop, getD, replicate}
 use Rattle.answer.specs.declared.Found.{Found}
@@ -36,8 +36,8 @@ use Rattle.list.specs.Lines.{headLine, wayWord, nameWords, placeLine, stopLine,
 use Rattle.list.specs.Lines.{listUnless, listOf}
 use Rattle.parts.specs.Twins.{Twins}
 use Rattle.parts.proofs.ReadLaws.{point, same-job, same-contours, same-pairs, same-per-contour, same-passes}
-use Rattle.parts.proofs.ReadLaws.{same-limit, at-home, same-exterior, same-interior, same-id, same-tag}
-use Rattle.parts.proofs.ReadLaws.{same-count, same-type, at-vertex}
+use Rattle.parts.proofs.ReadLaws.{same-limit, at-home, same-exterior, same-interior, same-grid, same-id}
+use Rattle.parts.proofs.ReadLaws.{same-tag, same-count, same-type, at-vertex}
 use Rattle.parts.proofs.VerdictLaws.{same-name-fault, same-seats, same-pairs-on, same-verdict}
 
 module _ (s t : List ℕ) (w : Twins s t) where
@@ -64,7 +64,8 @@ module _ (s t : List ℕ) (w : Twins s t) where
 
   same-offers : (k : ℕ) → offersOf s k ≡ offersOf t k
   unfolding offersOf
-  same-offers k = λ i. candidatesOf (same-way k i) (same-outline k i) (same-per-contour s t w i)
+  same-offers k = λ i. candidatesOf (eqb (same-grid s t w i) 1) (same-way k i) (same-outline k i)
+      (same-per-contour s t w i)
 
   same-gathered : (k : ℕ) → gathered s k ≡ gathered t k
   unfolding gathered

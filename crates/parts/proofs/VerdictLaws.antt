@@ -8,7 +8,7 @@ use native.Mathlib.Numerals.{add-one}
 use native.Mathlib.Omega.{arith}
 use lib.Dec.{eqb, ltb, leb, lit≤}
 use lib.ListN.{getD}
-use borrow.Author.Tests.{eq-eqb, leb-true, leb-false, ltb-true, ltb-false}
+use borrow.Author.Tests.{eq-eqb, ne-eqb, leb-true, leb-false, ltb-true, ltb-false}
 use Rattle.answer.specs.declared.Found.{Found}
 use Rattle.answer.specs.declared.Found.the-variants.{At, Absent}
 use Rattle.answer.specs.declared.Check.{Check}
@@ -19,7 +19,7 @@ use Rattle.answer.proofs.LowestLaws.{absent-is, is-absent, lowest-same}
 use Rattle.answer.proofs.Truth.{or-none}
 use Rattle.block.specs.Field.{byteAt, u32At}
 use Rattle.block.specs.Block.{blockBytes, payloadBytes, checked, starts, zerosAt}
-use Rattle.block.proofs.Readings.{zeros-each, each-zeros}
+use Rattle.block.proofs.Readings.{zeros-each, each-zeros, zero-before}
 use Rattle.closure.specs.Limits.{contourLimit, pairLimit}
 use Rattle.closure.specs.Cycle.{firstOnCycle}
 use Rattle.fields.specs.Limits.{cardBytes, perContourLimit, candidateLimit, passLimit, vertexLimit, pairsABlock}
@@ -39,8 +39,8 @@ use Rattle.card_laws.proofs.JoinedLaws.{no-parts, unruled}
 use Rattle.parts.specs.Twins.{ChecksDue, Twins}
 use Rattle.parts.proofs.ReadLaws.{Run, byte, half, word, far, same-length, same-blocks, run}
 use Rattle.parts.proofs.ReadLaws.{same-contours, same-pairs, same-per-contour, same-passes, at-home}
-use Rattle.parts.proofs.ReadLaws.{same-exterior, same-interior, same-id, same-tag, same-count, same-type}
-use Rattle.parts.proofs.ReadLaws.{same-filler, at-vertex, same-word}
+use Rattle.parts.proofs.ReadLaws.{same-exterior, same-interior, is-two, is-one, same-grid, zero-grid, same-id}
+use Rattle.parts.proofs.ReadLaws.{same-tag, same-count, same-type, same-filler, at-vertex, same-word}
 
 -- where every check is the one due, none is at fault
 checks-due : (s : List ℕ) → ChecksDue s → checkFault s ≡ Absent
@@ -92,11 +92,11 @@ module _ (s t : List ℕ) (w : Twins s t) where
 
   -- ---- 3
 
-  is-two : versionOf s ≡ 2
-  is-two = w .two 0 (w .some-block)
+  abbrev s-two : versionOf s ≡ 2
+  s-two = is-two s t w
 
-  is-one : versionOf t ≡ 1
-  is-one = w .one 0 (subst (λ (n : ℕ). 0 < n) (same-blocks s t w) (w .some-block))
+  abbrev t-one : versionOf t ≡ 1
+  t-one = is-one s t w
 
   same-kind : (b : ℕ) → kindDue s b ≡ kindDue t b
   same-kind b = λ i. cond (eqb b 0) 1 (cond (leb b (n-same i)) 2 3)
@@ -105,13 +105,13 @@ module _ (s t : List ℕ) (w : Twins s t) where
   unfolding starts
   same-start b h =
       let known : isVersion (versionOf s) ≡ isVersion (versionOf t) =
-      ap isVersion is-two ∙ sym (ap isVersion is-one) in
+      ap isVersion s-two ∙ sym (ap isVersion t-one) in
       let kind : byteAt s (blockBytes * b) ≡ byteAt t (blockBytes * b) =
       byte s t _ (run s t w _ b 0 1 (omega arith) (omega arith)) in
       let at = blockBytes * b + 1 in
       let version : eqb (byteAt s at) (versionOf s) ≡ eqb (byteAt t at) (versionOf t) =
-      eq-eqb _ _ (w .two b h ∙ sym is-two)
-      ∙ sym (eq-eqb _ _ (w .one b (subst (λ (n : ℕ). b < n) (same-blocks s t w) h) ∙ sym is-one)) in
+      eq-eqb _ _ (w .two b h ∙ sym s-two)
+      ∙ sym (eq-eqb _ _ (w .one b (subst (λ (n : ℕ). b < n) (same-blocks s t w) h) ∙ sym t-one)) in
       let number = half s t (blockBytes * b + 2) (run s t w _ b 2 2 refl (omega arith)) in
       let zeros = word s t (blockBytes * b + 4) (run s t w _ b 4 4 refl (omega arith)) in
       λ i. not (known i && (eqb (kind i) (same-kind b i) && (version i && (eqb (number i) b && eqb (zeros i) 0))))
@@ -133,7 +133,8 @@ module _ (s t : List ℕ) (w : Twins s t) where
       ∷ ltb 2 (same-exterior s t w i)
       ∷ ltb 2 (same-interior s t w i)
       ∷ ltb candidateLimit (n-same i * same-per-contour s t w i)
-      ∷ []) f false) 8
+      ∷ ltb 1 (same-grid s t w i)
+      ∷ []) f false) 9
 
   same-count-fault : countFault s ≡ countFault t
   unfolding countFault
@@ -148,29 +149,39 @@ module _ (s t : List ℕ) (w : Twins s t) where
 
   -- ---- 7
 
-  same-used : (b : ℕ) → usedIn s b ≡ usedIn t b
-  same-used b = λ i.
+  -- the head: in the one the byte that asks for the grid is a field, in the other it is spare, and 0 in both
+  same-head-spare : badSpare s 0 ≡ badSpare t 0
+  same-head-spare =
+      let used : ℕ → ℕ = λ v. cond (eqb v 2) (headSize + 1) headSize in
+      let same : Run s t (payload 0 + headSize) (payloadBytes - headSize) =
+      run s t w _ 0 (8 + headSize) (payloadBytes - headSize) (omega arith) (omega arith) in
+      sym (some-spare s 0 (headSize + 1) payloadBytes (ap used (sym s-two)) refl _ refl)
+      ∙ ap not (zero-before s (payload 0 + headSize) (payloadBytes - (headSize + 1)) (zero-grid s t w)
+      ∙ like-zeros s t (payload 0 + headSize) (payloadBytes - headSize) (payloadBytes - headSize) (omega arith) same
+      (λ i h g. absurd (omega arith)))
+      ∙ some-spare t 0 headSize payloadBytes (ap used (sym t-one)) refl _ refl
+
+  same-used : (b : ℕ) → (b ≡ 0 → ⊥) → usedIn s b ≡ usedIn t b
+  same-used b later = rw (ne-eqb b 0 later) (λ i.
       let contour = contourSize + vertexSize * same-count s t w (b - 1) i in
       let pairs = min pairsABlock (same-pairs s t w i - pairsABlock * (b - (n-same i + 1))) in
-      cond (eqb b 0) headSize (cond (leb b (n-same i)) contour (pairSize * pairs))
+      cond (leb b (n-same i)) contour (pairSize * pairs))
 
   -- spare bytes end at c in the one, in a contour's block at its part, and at d in the other: zeros up to there
-  like-spare : (b c d : ℕ) → c ≡ spareEnd s b → d ≡ spareEnd t b → c ≤ d → (0 < b → b ≤ contoursOf s → c ≤ partOffset)
-      → ((o : ℕ) → c ≤ o → o < d → byteAt t (payload b + o) ≡ 0) → badSpare s b ≡ badSpare t b
-  like-spare b c d ends-c ends-d within clear rest =
+  like-spare : (b c d : ℕ) → (b ≡ 0 → ⊥) → c ≡ spareEnd s b → d ≡ spareEnd t b → c ≤ d
+      → (b ≤ contoursOf s → c ≤ partOffset) → ((o : ℕ) → c ≤ o → o < d → byteAt t (payload b + o) ≡ 0)
+      → badSpare s b ≡ badSpare t b
+  like-spare b c d later ends-c ends-d within clear rest =
       let u = usedIn s b in
       let same : Run s t (payload b + u) (c - u) = run s t w _ b (8 + u) (c - u) (omega arith) (λ i h.
-      (omega (arith, end-within s b), omega arith, λ some few. omega (arith, clear some few))) in
+      (omega (arith, end-within s b), omega arith, λ some few. omega (arith, clear few))) in
       sym (some-spare s b u c refl ends-c _ refl)
       ∙ ap not (like-zeros s t (payload b + u) (c - u) (d - u) (omega arith) same
       (λ i h g. ap (byteAt t) (add-assoc (payload b) u i) ∙ rest (u + i) (omega arith) (omega arith)))
-      ∙ some-spare t b u d (same-used b) ends-d _ refl
+      ∙ some-spare t b u d (same-used b later) ends-d _ refl
 
-  same-spare : (b : ℕ) → badSpare s b ≡ badSpare t b
-  same-spare zero =
-      like-spare 0 payloadBytes payloadBytes refl refl (omega arith) (λ some few. absurd (omega arith))
-      (λ o l g. absurd (omega arith))
-  same-spare (suc k) = go (leb (suc k) (contoursOf s)) refl
+  same-later-spare : (k : ℕ) → badSpare s (suc k) ≡ badSpare t (suc k)
+  same-later-spare k = go (leb (suc k) (contoursOf s)) refl
     where
       later : suc k ≡ 0 → ⊥
       later e = omega arith
@@ -179,16 +190,20 @@ module _ (s t : List ℕ) (w : Twins s t) where
       go true e =
           let h : suc k ≤ contoursOf s = leb-true _ _ e in
           let ends : ℕ → ℕ = λ v. cond (eqb v 2) partOffset payloadBytes in
-          like-spare (suc k) partOffset payloadBytes
-          (ap ends (sym is-two) ∙ end-contour s (suc k) later h)
-          (ap ends (sym is-one) ∙ end-contour t (suc k) later (omega (arith, n-same)))
-          (omega arith) (λ some few. omega arith)
+          like-spare (suc k) partOffset payloadBytes later
+          (ap ends (sym s-two) ∙ end-contour s (suc k) later h)
+          (ap ends (sym t-one) ∙ end-contour t (suc k) later (omega (arith, n-same)))
+          (omega arith) (λ few. omega arith)
           (λ o l g. ap (λ (b : ℕ). byteAt t (payload b + o)) (sym (add-one k)) ∙ w .zeros k o h l g)
       go false e =
           let h : contoursOf s < suc k = leb-false _ _ e in
-          like-spare (suc k) payloadBytes payloadBytes (end-pairs s (suc k) later h)
+          like-spare (suc k) payloadBytes payloadBytes later (end-pairs s (suc k) later h)
           (end-pairs t (suc k) later (omega (arith, n-same)))
-          (omega arith) (λ some few. absurd (omega arith)) (λ o l g. absurd (omega arith))
+          (omega arith) (λ few. absurd (omega arith)) (λ o l g. absurd (omega arith))
+
+  same-spare : (b : ℕ) → badSpare s b ≡ badSpare t b
+  same-spare zero = same-head-spare
+  same-spare (suc k) = same-later-spare k
 
   same-spare-fault : spareFault s ≡ spareFault t
   unfolding spareFault
@@ -253,7 +268,7 @@ module _ (s t : List ℕ) (w : Twins s t) where
   same-pairs-on =
       unruled s .as-written (w .no-part)
       ∙ (λ i. same-seats (same-pairs s t w i) i)
-      ∙ sym (unruled t .as-written (λ k h. no-parts t is-one k))
+      ∙ sym (unruled t .as-written (λ k h. no-parts t t-one k))
 
   same-cycle-fault : cycleFault s ≡ cycleFault t
   unfolding cycleFaultWithin

@@ -19,7 +19,7 @@ use Rattle.answer.proofs.Truth.{or-cases}
 use Rattle.block.specs.Field.{byteAt}
 use Rattle.block.specs.Block.{blockBytes, checkOffset, checked, zerosAt}
 use Rattle.block.proofs.Readings.{zeros-each}
-use Rattle.fields.specs.Layout.{blocksOf, payload, contoursOf, partOf, partOffset}
+use Rattle.fields.specs.Layout.{blocksOf, payload, contoursOf, gridOf, partOf, partOffset}
 use Rattle.card.specs.Stages.{checkFault}
 use Rattle.card.specs.Verdict.{checkOf}
 use Rattle.card_laws.proofs.Starred.{verdict-computes}
@@ -66,6 +66,7 @@ record Computed (s t : List ℕ) : Type 0 where
   two : lowest (λ b. not (eqb (byteAt s (blockBytes * b + 1)) 2)) (blocksOf s) ≡ Absent
   one : lowest (λ b. not (eqb (byteAt t (blockBytes * b + 1)) 1)) (blocksOf t) ≡ Absent
   checks : (checkFault s ≡ Absent) × (checkFault t ≡ Absent)
+  no-grid : gridOf s ≡ 0
   no-part : lowest (λ k. not (eqb (partOf s k) 0)) (contoursOf s) ≡ Absent
   zeros : lowest (λ k. not (zerosAt t (payload (k + 1) + partOffset) 8)) (contoursOf s) ≡ Absent
 
@@ -103,6 +104,7 @@ module _ (s t : List ℕ) (c : Computed s t) where
     two = λ b h. eqb-true _ _ (everywhere (λ b. eqb (byteAt s (blockBytes * b + 1)) 2) (blocksOf s) (c .two) b h);
     one = λ b h. eqb-true _ _ (everywhere (λ b. eqb (byteAt t (blockBytes * b + 1)) 1) (blocksOf t) (c .one) b h);
     checks = (checked-all s (c .checks .0), checked-all t (c .checks .1));
+    no-grid = c .no-grid;
     no-part = λ k h. eqb-true _ _ (everywhere (λ k. eqb (partOf s k) 0) (contoursOf s) (c .no-part) k h);
     zeros = λ k p h l g.
         let place : payload (k + 1) + partOffset + (p - partOffset) ≡ payload (k + 1) + p = omega arith in
@@ -120,6 +122,7 @@ computed = record {
   two = refl;
   one = refl;
   checks = (refl, refl);
+  no-grid = refl;
   no-part = refl;
   zeros = refl;
 }

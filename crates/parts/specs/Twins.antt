@@ -1,4 +1,5 @@
--- A version 2 card whose contours have no part, and its twin: the same card of version 1. Assumes nothing.
+-- A version 2 card that asks for no grid and whose contours have no part, and its twin: the same card of version 1.
+-- Assumes nothing.
 use mathlib.Core.Path.{_≡_}
 use mathlib.Core.List.{List}
 use Prim.Native.Nat.{ℕ, _+_, _*_, _≤_, _<_}
@@ -7,7 +8,7 @@ use lib.Ieee.{Float}
 use Rattle.answer.specs.Code.{codeOf}
 use Rattle.block.specs.Field.{byteAt, u32At}
 use Rattle.block.specs.Block.{blockBytes, payloadBytes, checkOffset, checkAt}
-use Rattle.fields.specs.Layout.{blocksOf, payload, contoursOf, partOf, partOffset}
+use Rattle.fields.specs.Layout.{blocksOf, payload, contoursOf, gridOf, partOf, partOffset}
 use Rattle.card.specs.Verdict.{checkOf}
 use Rattle.instance.specs.Prepared.{preparedOf}
 use Rattle.tour.specs.Tour.{tourOf}
@@ -31,8 +32,8 @@ ChecksDue s = (b : ℕ) → b < blocksOf s → checkAt s (blockBytes * b) ≡ u3
 abbrev pub AllOf : ℕ → List ℕ → Type 0
 AllOf version s = (b : ℕ) → b < blocksOf s → byteAt s (blockBytes * b + 1) ≡ version
 
--- s is of version 2 and no contour has a part; t is the same of version 1, with zeros for part and copy, each with the
--- checks due
+-- s is of version 2, asks for no grid and no contour has a part; t is the same of version 1, with zeros for part and
+-- copy, each with the checks due. The byte that would ask is shared, so t has a zero there too
 pub record Twins (s t : List ℕ) : Type 0 where
   pub some-block : 0 < blocksOf s
   pub as-long : length t ≡ length s
@@ -41,6 +42,7 @@ pub record Twins (s t : List ℕ) : Type 0 where
   pub two : AllOf 2 s
   pub one : AllOf 1 t
   pub checks : ChecksDue s × ChecksDue t
+  pub no-grid : gridOf s ≡ 0
   pub no-part : (k : ℕ) → k < contoursOf s → partOf s k ≡ 0
   pub zeros : (k p : ℕ) → k < contoursOf s → partOffset ≤ p → p < payloadBytes → byteAt t (payload (k + 1) + p) ≡ 0
 

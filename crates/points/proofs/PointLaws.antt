@@ -1,13 +1,14 @@
 -- Where the points, edges and legs of a flat list of numbers are found. Assumes nothing.
 use mathlib.Core.Path.{_≡_, refl, ap, _∙_}
 use mathlib.Core.List.{List, [], _∷_}
-use Prim.Native.Nat.{ℕ, zero, suc, _+_, _*_, _/_, _≤_, _<_}
-use native.Mathlib.Nat.{not-suc-le-zero, le-of-suc-le-suc}
+use Prim.Native.Nat.{ℕ, zero, suc, _+_, _*_, _/_, _≤_, _<_, suc-le-suc}
+use native.Mathlib.Nat.{not-suc-le-zero, le-of-suc-le-suc, zero-lt-suc}
 use native.Mathlib.Numerals.{add-one}
 use native.Mathlib.Omega.{arith}
 use lib.ListN.{length, getD, List·getD-eq-default}
 use lib.Ieee.{Float, nan}
 use Rattle.answer.specs.declared.Point.{Point}
+use Rattle.points.specs.declared.Ends.{Ends}
 use Rattle.points.specs.Points.{point, ends, nowhere, noEnds, points, closing, edges, legs}
 
 -- ---- a list taken two by two: numbers as points, points as legs
@@ -115,3 +116,28 @@ module _ (d : List Float) where
 
   pub legs-count : length (legs (points d)) ≡ length d / 4
   legs-count = rw (legs-length, points-length) (omega arith)
+
+-- ---- what holds of every vertex holds of every edge's ends
+
+abbrev pub EndsBoth : (Point → Type 0) → Ends → Type 0
+EndsBoth P e = P (e .start) × P (e .finish)
+
+abbrev pub AllEnds : (Point → Type 0) → List Ends → Type 0
+AllEnds P [] = Unit
+AllEnds P (e ∷ more) = EndsBoth P e × AllEnds P more
+
+closing-ends : (P : Point → Type 0) (first p : Point) (rest : List Point) → P first → P p
+    → ((j : ℕ) → j < length rest → P (getD rest j nowhere)) → AllEnds P (closing first p rest)
+unfolding closing
+closing-ends P first p [] f n all = ((n, f), tt)
+closing-ends P first p (q ∷ more) f n all =
+    let m = all 0 (zero-lt-suc (length more)) in
+    ((n, m), closing-ends P first q more f m (λ j h. all (suc j) (suc-le-suc h)))
+
+pub edges-ends : (P : Point → Type 0) (ps : List Point) → ((j : ℕ) → j < length ps → P (getD ps j nowhere))
+    → AllEnds P (edges ps)
+unfolding edges
+edges-ends P [] all = tt
+edges-ends P (p ∷ more) all =
+    let n = all 0 (zero-lt-suc (length more)) in
+    closing-ends P p p more n n (λ j h. all (suc j) (suc-le-suc h))

@@ -96,7 +96,8 @@ module _ (f : Format) (s : Bool) (num den k t : ℕ) (D : 0 < den) (e : prec f +
   size-at : Under (suc k) (round f s num den)
   size-at = value-under (round f s num den) s (grid f num den) (suc k) (low f) steps-value steps-le
 
-rounded : (s : Bool) (num den k : ℕ) → 0 < den → k < 1023 → num ≤ 2 ^ k * den → Under (suc k) (round binary64 s num den)
+pub rounded : (s : Bool) (num den k : ℕ) → 0 < den → k < 1023 → num ≤ 2 ^ k * den
+    → Under (suc k) (round binary64 s num den)
 rounded s num den k D small h = size-at binary64 s num den k (k + 1022) D (omega arith) small h
 
 rounded-plus : (num den k : ℕ) → 0 < den → k < 1023 → num ≤ 2 ^ k * den → Plus (suc k) (round binary64 false num den)

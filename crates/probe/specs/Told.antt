@@ -93,10 +93,10 @@ abbrev pub wayOf : CutDirection → ℕ
 wayOf cut.Ccw = 0
 wayOf cut.Cw = 1
 
--- the candidates of a contour, asked by numbers as on a card
-abbrev pub askedOf : List Float → ℕ → ℕ → ℕ → ℕ → Offered
-askedOf numbers c kind exterior interior =
-    offeredOf numbers c (kindOf kind) (preferenceOf exterior) (preferenceOf interior)
+-- the candidates of a contour, asked by numbers as on a card: 1 asks for the grid
+abbrev pub askedOf : List Float → ℕ → ℕ → ℕ → ℕ → ℕ → Offered
+askedOf numbers c grid kind exterior interior =
+    offeredOf numbers c (eqb grid 1) (kindOf kind) (preferenceOf exterior) (preferenceOf interior)
 
 -- never read: all eight places are there
 abbrev pub noCandidate : Candidate

@@ -6,6 +6,7 @@ ghost use Rattle.probe.specs.Told.{rootCode, rootOr, lengthCode, lengthO
 ghost use Rattle.root.specs.Root.{sqrtOf, rootOf};
 ghost use Rattle.points.specs.Points.{point};
 ghost use Rattle.points.specs.Distance.{distanceOf};
+ghost use Rattle.grid.specs.Move.{moved};
 ghost use Rattle.cost.specs.Distance.{pointDistanceOf, pointDistanceSqOf};
 ghost use Rattle.cost.specs.Closest.{closestOnPolygonOf};
 ghost use Rattle.cost.specs.Rapid.{totalRapidOf};
@@ -103,6 +104,14 @@ pub extern "C" fn probe_distance_sq(ax: f64, ay: f64, bx: f64, by: f64, out: &mu
         cost::point_distance_sq(Point { x: ax, y: ay }, Point { x: bx, y: by }),
         out,
     )
+}
+
+// A coordinate moved to the grid.
+#[no_mangle]
+pub extern "C" fn probe_moved(x: f64) -> f64
+    ensures { λ r. ⌜ r ≡ moved x ⌝ }
+{
+    grid::moved(x)
 }
 
 // The distance that the search works with: it refuses nothing.
@@ -345,12 +354,13 @@ fn nth(found: Candidates, k: usize) -> Candidate
 }
 
 // The candidates of a contour, asked by numbers as on a card.
-fn offered(numbers: &[f64], c: usize, kind: u8, exterior: u8, interior: u8) -> Offered
-    ensures { λ r. ⌜ r ≡ askedOf (now (numbers .entry)) c kind exterior interior ⌝ }
+fn offered(numbers: &[f64], c: usize, grid: u8, kind: u8, exterior: u8, interior: u8) -> Offered
+    ensures { λ r. ⌜ r ≡ askedOf (now (numbers .entry)) c grid kind exterior interior ⌝ }
 {
     candidates::contour_candidates(
         numbers,
         c,
+        grid == 1,
         kind_of(kind),
         preference_of(exterior),
         preference_of(interior),
@@ -362,6 +372,7 @@ fn offered(numbers: &[f64], c: usize, kind: u8, exterior: u8, interior: u8) -> O
 pub extern "C" fn probe_candidate(
     numbers: &[f64],
     c: usize,
+    grid: u8,
     kind: u8,
     exterior: u8,
     interior: u8,
@@ -371,13 +382,13 @@ pub extern "C" fn probe_candidate(
     way: &mut u64,
     count: &mut usize,
 ) -> u64
-    ensures { λ r. ⌜ r ≡ codeOf (askedOf (now (numbers .entry)) c kind exterior interior .check) ⌝ }
-    ensures { λ _. ⌜ now (place .exit) ≡ fineOr (askedOf (now (numbers .entry)) c kind exterior interior .check) (placeOf (nthOf (askedOf (now (numbers .entry)) c kind exterior interior .found) k)) (now (place .entry)) ⌝ }
-    ensures { λ _. ⌜ now (vertex .exit) ≡ fineOr (askedOf (now (numbers .entry)) c kind exterior interior .check) (nthOf (askedOf (now (numbers .entry)) c kind exterior interior .found) k .vertex) (now (vertex .entry)) ⌝ }
-    ensures { λ _. ⌜ now (way .exit) ≡ fineOr (askedOf (now (numbers .entry)) c kind exterior interior .check) (wayOf (nthOf (askedOf (now (numbers .entry)) c kind exterior interior .found) k .direction)) (now (way .entry)) ⌝ }
-    ensures { λ _. ⌜ now (count .exit) ≡ fineOr (askedOf (now (numbers .entry)) c kind exterior interior .check) (askedOf (now (numbers .entry)) c kind exterior interior .found .count) (now (count .entry)) ⌝ }
+    ensures { λ r. ⌜ r ≡ codeOf (askedOf (now (numbers .entry)) c grid kind exterior interior .check) ⌝ }
+    ensures { λ _. ⌜ now (place .exit) ≡ fineOr (askedOf (now (numbers .entry)) c grid kind exterior interior .check) (placeOf (nthOf (askedOf (now (numbers .entry)) c grid kind exterior interior .found) k)) (now (place .entry)) ⌝ }
+    ensures { λ _. ⌜ now (vertex .exit) ≡ fineOr (askedOf (now (numbers .entry)) c grid kind exterior interior .check) (nthOf (askedOf (now (numbers .entry)) c grid kind exterior interior .found) k .vertex) (now (vertex .entry)) ⌝ }
+    ensures { λ _. ⌜ now (way .exit) ≡ fineOr (askedOf (now (numbers .entry)) c grid kind exterior interior .check) (wayOf (nthOf (askedOf (now (numbers .entry)) c grid kind exterior interior .found) k .direction)) (now (way .entry)) ⌝ }
+    ensures { λ _. ⌜ now (count .exit) ≡ fineOr (askedOf (now (numbers .entry)) c grid kind exterior interior .check) (askedOf (now (numbers .entry)) c grid kind exterior interior .found .count) (now (count .entry)) ⌝ }
 {
-    let a = offered(numbers, c, kind, exterior, interior);
+    let a = offered(numbers, c, grid, kind, exterior, interior);
     let check = a.check;
     match check {
         Check::Fine => {

@@ -7,7 +7,7 @@ use native.Mathlib.Omega.{arith}
 use lib.ListN.{length}
 use Rattle.block.specs.Field.{u64At}
 use Rattle.fields.specs.Limits.{vertexLimit}
-use Rattle.fields.specs.Layout.{payload, hasParts, vertexCountOf, vertexOffset, partOffset, copyOffset, pairOffset}
+use Rattle.fields.specs.Layout.{payload, isTwo, vertexCountOf, vertexOffset, partOffset, copyOffset, pairOffset}
 use Rattle.reader.specs.declared.Width.the-variants.{One, Two, Four, Eight}
 use Rattle.reader.specs.declared.Field.{Field}
 use Rattle.reader.specs.declared.Walked.{Walked}
@@ -98,7 +98,7 @@ module _ (s : List ℕ) (k place : ℕ) (four : Walked) (filler : Field) where
 
 -- the part and the copy in version 2: two fields behind the vertices
 module _ (s : List ℕ) (k place : ℕ) (part copy : Field) where
-  pub group-is : hasParts s ≡ true → place ≡ min (payload (k + 1) + partOffset) (length s)
+  pub group-is : isTwo s ≡ true → place ≡ min (payload (k + 1) + partOffset) (length s)
       → part ≡ fieldAt s place Four → copy ≡ fieldAt s (part .after) Four
       → _≡_ {A = Group} (record { part = part .value; copy = copy .value }) (groupOf s k)
   unfolding groupOf
@@ -109,7 +109,7 @@ module _ (s : List ℕ) (k place : ℕ) (part copy : Field) where
       rw (has, r₀ .value-is, r₁ .value-is)
 
 -- in version 1: neither
-pub no-group : (s : List ℕ) (k : ℕ) → hasParts s ≡ false
+pub no-group : (s : List ℕ) (k : ℕ) → isTwo s ≡ false
     → _≡_ {A = Group} (record { part = 0; copy = 0 }) (groupOf s k)
 unfolding groupOf
 no-group s k has = rw has

@@ -5,12 +5,12 @@ use native.Mathlib.Nat.{add-zero}
 use native.Mathlib.Omega.{arith}
 use lib.ListN.{length}
 use Rattle.block.specs.Field.{f64At}
-use Rattle.fields.specs.Layout.{payload, vertexOffset, partOffset, copyOffset, pairOffset}
+use Rattle.fields.specs.Layout.{payload, gridOffset, vertexOffset, partOffset, copyOffset, pairOffset}
 use Rattle.fields.specs.Values.{pointAt}
 use Rattle.reader.specs.declared.Width.the-variants.{One, Two, Four, Eight}
 use Rattle.reader.specs.Walk.{walk, eights}
 use Rattle.reader.specs.OnCard.{headOf, contourWidths, pairRead, pairWidths}
-use Rattle.reader.specs.Claims.{HeadInOrder, ContourInOrder, GroupInOrder, PairInOrder, PointOfBits}
+use Rattle.reader.specs.Claims.{HeadInOrder, GridInOrder, ContourInOrder, GroupInOrder, PairInOrder, PointOfBits}
 use Rattle.reader.proofs.WalkLaws.{walk-cut, walk-on, walk-last}
 use Rattle.reader.proofs.CardLaws.{vertices-walked}
 
@@ -29,6 +29,25 @@ head-in-order s =
       walk-on s p 24 Eight _,
       walk-on s p 32 One _,
       walk-last s (p + 33) One,
+    )
+
+pub grid-in-order : GridInOrder
+unfolding headOf
+grid-in-order s has =
+    let p = payload 0 in
+    rw (
+      has,
+      walk-on s p 0 Four _,
+      walk-on s p 4 Two _,
+      walk-on s p 6 Two _,
+      walk-on s p 8 Two _,
+      walk-on s p 10 Two _,
+      walk-on s p 12 Four _,
+      walk-on s p 16 Eight _,
+      walk-on s p 24 Eight _,
+      walk-on s p 32 One _,
+      walk-on s p 33 One _,
+      walk-last s (p + gridOffset) One,
     )
 
 pub contour-in-order : ContourInOrder

@@ -7,14 +7,15 @@ use native.Mathlib.Omega.{arith}
 use lib.ListN.{length, take, replicate}
 use lib.Seq.{take-append-seam}
 use Rattle.fields.specs.Limits.{vertexLimit}
-use Rattle.fields.specs.Layout.{payload, hasParts, contoursOf, pairsOf, vertexCountOf, partOffset, pairOffset}
+use Rattle.fields.specs.Layout.{payload, isTwo, contoursOf, pairsOf, vertexCountOf, partOffset, pairOffset}
 use Rattle.reader.specs.Walk.{walk, eights}
 use Rattle.reader.specs.OnCard.{contourRead, coordinatesFrom, filled, contourWidths}
-use Rattle.reader.specs.FileOrder.{Stretch, groupStretches, contourStretches, pairStretches, cardStretches}
-use Rattle.reader.specs.FileOrder.{walkAll, bytesIn, Forward, groupList, contourList, contoursRead, pairsRead}
-use Rattle.reader.specs.FileOrder.{cardRead}
+use Rattle.reader.specs.FileOrder.{Stretch, headStretch, groupStretches, contourStretches, pairStretches}
+use Rattle.reader.specs.FileOrder.{cardStretches, walkAll, bytesIn, Forward, headRead, groupList, contourList}
+use Rattle.reader.specs.FileOrder.{contoursRead, pairsRead, cardRead}
 use Rattle.reader.specs.Claims.{CardInOrder, CardForward}
-use Rattle.reader.proofs.ClaimsHold.{head-in-order, contour-in-order, group-in-order, pair-in-order}
+use Rattle.reader.proofs.ClaimsHold.{head-in-order, grid-in-order, contour-in-order, group-in-order}
+use Rattle.reader.proofs.ClaimsHold.{pair-in-order}
 
 -- ---- what is answered
 
@@ -37,8 +38,14 @@ coordinates-taken s k v =
     let l = coordinatesFrom s k 0 v in
     rw (← coordinates-length s k 0 v) (take-append-seam l (replicate (2 * vertexLimit - length l) 0))
 
+-- the head of a card that has the byte that asks for the grid, and of one that has not
+head-answered : (s : List ℕ) (two : Bool) → isTwo s ≡ two
+    → walk s (payload 0) (headStretch two .widths) ≡ headRead two s
+head-answered s true has = grid-in-order s has
+head-answered s false has = head-in-order s ∙ sym (append-nil _)
+
 -- the part and the copy of a card that has them, and of one that has not
-group-answered : (s : List ℕ) (k : ℕ) (parts : Bool) → hasParts s ≡ parts
+group-answered : (s : List ℕ) (k : ℕ) (parts : Bool) → isTwo s ≡ parts
     → walkAll s (groupStretches parts k) ≡ groupList parts (contourRead s k)
 unfolding walkAll groupStretches contourRead
 group-answered s k true has = append-nil _ ∙ group-in-order s k has
@@ -46,18 +53,18 @@ group-answered s k false has = refl
 
 contour-answered : (s : List ℕ) (k : ℕ)
     → walk s (payload (k + 1)) (contourWidths (min (vertexCountOf s k) vertexLimit))
-    ++ walkAll s (groupStretches (hasParts s) k) ≡ contourList (hasParts s) (contourRead s k)
+    ++ walkAll s (groupStretches (isTwo s) k) ≡ contourList (isTwo s) (contourRead s k)
 unfolding contourRead
 contour-answered s k =
     let v = min (vertexCountOf s k) vertexLimit in
-    rw (contour-in-order s k v, group-answered s k (hasParts s) refl, coordinates-taken s k v)
+    rw (contour-in-order s k v, group-answered s k (isTwo s) refl, coordinates-taken s k v)
 
 contours-walked : (s : List ℕ) (k n : ℕ) → walkAll s (contourStretches s k n) ≡ contoursRead s k n
 unfolding walkAll contourStretches contoursRead
 contours-walked s k zero = refl
 contours-walked s k (suc n) =
     let contour = walk s (payload (k + 1)) (contourWidths (min (vertexCountOf s k) vertexLimit)) in
-    let group = groupStretches (hasParts s) k in
+    let group = groupStretches (isTwo s) k in
     let rest = contoursRead s (suc k) n in
     rw (walk-all-append s group (contourStretches s (suc k) n), contours-walked s (suc k) n)
     (sym (append-assoc contour (walkAll s group) rest) ∙ ap (λ (l : List ℕ). l ++ rest) (contour-answered s k))
@@ -73,7 +80,7 @@ card-in-order s =
     let a = contourStretches s 0 (contoursOf s) in
     let b = pairStretches s 0 (pairsOf s) in
     rw (
-      head-in-order s,
+      head-answered s (isTwo s) refl,
       walk-all-append s a b,
       contours-walked s 0 (contoursOf s),
       pairs-walked s 0 (pairsOf s),
@@ -105,11 +112,11 @@ unfolding contourStretches Forward
 forward-contours s k zero end rest h on = on end (omega arith)
 forward-contours s k (suc n) end rest h on =
     let v = min (vertexCountOf s k) vertexLimit in
-    let group = groupStretches (hasParts s) k in
+    let group = groupStretches (isTwo s) k in
     let others = contourStretches s (suc k) n in (
       h,
       rw (append-assoc group others rest)
-          (forward-group (hasParts s) k (payload (k + 1) + bytesIn (contourWidths v)) (others ++ rest)
+          (forward-group (isTwo s) k (payload (k + 1) + bytesIn (contourWidths v)) (others ++ rest)
           (contour-ends k v (omega arith))
           (λ at l. forward-contours s (suc k) n at rest l (λ at′ l′. on at′ (omega arith)))),
     )
@@ -123,10 +130,16 @@ unfolding pairStretches Forward
 forward-pairs s q zero end h = tt
 forward-pairs s q (suc m) end h = (h, forward-pairs s (suc q) m (pairOffset s q + 16) (pair-ends s q))
 
+-- the head's fields end before the first contour's payload, also with the byte that asks for the grid
+head-ends : (two : Bool) → payload 0 + bytesIn (headStretch two .widths) ≤ payload 1
+unfolding bytesIn
+head-ends true = omega arith
+head-ends false = omega arith
+
 pub card-forward : CardForward
 unfolding cardStretches Forward
 card-forward s = (
   omega arith,
-  forward-contours s 0 (contoursOf s) 42 (pairStretches s 0 (pairsOf s)) (omega arith)
+  forward-contours s 0 (contoursOf s) _ (pairStretches s 0 (pairsOf s)) (head-ends (isTwo s))
       (λ at h. forward-pairs s 0 (pairsOf s) at (omega arith)),
 )

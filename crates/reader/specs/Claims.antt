@@ -2,22 +2,27 @@
 -- nothing.
 use mathlib.Core.Path.{_≡_}
 use mathlib.Core.Bool.{true}
-use mathlib.Core.List.{List, [], _∷_}
+use mathlib.Core.List.{List, [], _∷_, _++_}
 use Prim.Native.Nat.{ℕ, _+_}
 use lib.Ieee.{binary64, ofBits}
 use Rattle.answer.specs.declared.Point.{Point}
 use Rattle.block.specs.Field.{u64At}
-use Rattle.fields.specs.Layout.{payload, hasParts, idOf, tagOf, vertexCountOf, typeOf, fillerOf, partOffset}
+use Rattle.fields.specs.Layout.{payload, isTwo, gridOf, idOf, tagOf, vertexCountOf, typeOf, fillerOf, partOffset}
 use Rattle.fields.specs.Layout.{partOf, copyOf, pairOffset}
 use Rattle.fields.specs.Values.{pointAt}
 use Rattle.reader.specs.Walk.{walk}
-use Rattle.reader.specs.OnCard.{headOf, headWidths, headList, coordinatesFrom, contourWidths, pairRead}
-use Rattle.reader.specs.OnCard.{groupWidths, pairWidths}
+use Rattle.reader.specs.OnCard.{headOf, headWidths, headList, gridWidths, coordinatesFrom, contourWidths}
+use Rattle.reader.specs.OnCard.{pairRead, groupWidths, pairWidths}
 use Rattle.reader.specs.FileOrder.{cardStretches, walkAll, Forward, pairList, cardRead}
 
 -- the head
 abbrev pub HeadInOrder : Type 0
 HeadInOrder = (s : List ℕ) → walk s (payload 0) headWidths ≡ headList (headOf s)
+
+-- in version 2 the byte that asks for the grid comes right behind the head's other fields
+abbrev pub GridInOrder : Type 0
+GridInOrder = (s : List ℕ) → isTwo s ≡ true
+    → walk s (payload 0) (headWidths ++ gridWidths) ≡ headList (headOf s) ++ (gridOf s ∷ [])
 
 -- a contour with so many vertices
 abbrev pub ContourInOrder : Type 0
@@ -27,7 +32,7 @@ ContourInOrder = (s : List ℕ) (k v : ℕ)
 
 -- its part and its copy, behind the vertices, in version 2
 abbrev pub GroupInOrder : Type 0
-GroupInOrder = (s : List ℕ) (k : ℕ) → hasParts s ≡ true
+GroupInOrder = (s : List ℕ) (k : ℕ) → isTwo s ≡ true
     → walk s (payload (k + 1) + partOffset) groupWidths ≡ partOf s k ∷ copyOf s k ∷ []
 
 -- a pair

@@ -4,14 +4,14 @@ use mathlib.Core.List.{List, [], _∷_, _++_}
 use Prim.Native.Nat.{ℕ, zero, suc, _+_, _*_, _≤_, min}
 use lib.ListN.{take}
 use Rattle.fields.specs.Limits.{vertexLimit}
-use Rattle.fields.specs.Layout.{payload, hasParts, contoursOf, pairsOf, vertexCountOf, partOffset, pairOffset}
+use Rattle.fields.specs.Layout.{payload, isTwo, contoursOf, pairsOf, gridOf, vertexCountOf, partOffset, pairOffset}
 use Rattle.reader.specs.declared.Width.{Width}
 use Rattle.reader.specs.declared.Contour.{Contour}
 use Rattle.reader.specs.declared.Pair.{Pair}
 use Rattle.reader.specs.Fields.{bytesOf}
 use Rattle.reader.specs.Walk.{walk}
-use Rattle.reader.specs.OnCard.{headOf, headList, headWidths, contourRead, contourWidths, groupWidths}
-use Rattle.reader.specs.OnCard.{pairRead, pairWidths}
+use Rattle.reader.specs.OnCard.{headOf, headList, headWidths, gridWidths, contourRead, contourWidths}
+use Rattle.reader.specs.OnCard.{groupWidths, pairRead, pairWidths}
 
 -- ---- where a walk goes
 
@@ -19,6 +19,10 @@ use Rattle.reader.specs.OnCard.{pairRead, pairWidths}
 pub record Stretch : Type 0 where
   pub begins : ℕ
   pub widths : List Width
+
+-- the head's fields, and in version 2 the byte that asks for the grid right behind them
+abbrev pub headStretch : Bool → Stretch
+headStretch two = record { begins = payload 0; widths = cond two (headWidths ++ gridWidths) headWidths }
 
 -- contour k's part and copy, behind its vertices: one stretch where the card has them, in version 2, else none
 unfoldable pub groupStretches : Bool → ℕ → List Stretch
@@ -30,7 +34,7 @@ unfolding groupStretches
 contourStretches s k zero = []
 contourStretches s k (suc n) =
     record { begins = payload (k + 1); widths = contourWidths (min (vertexCountOf s k) vertexLimit) }
-    ∷ (groupStretches (hasParts s) k ++ contourStretches s (suc k) n)
+    ∷ (groupStretches (isTwo s) k ++ contourStretches s (suc k) n)
 
 -- so many pairs, from pair q on
 unfoldable pub pairStretches : List ℕ → ℕ → ℕ → List Stretch
@@ -41,7 +45,7 @@ pairStretches s q (suc m) = record { begins = pairOffset s q; widths = pairWidth
 unfoldable pub cardStretches : List ℕ → List Stretch
 unfolding contourStretches pairStretches
 cardStretches s =
-    record { begins = payload 0; widths = headWidths }
+    headStretch (isTwo s)
     ∷ (contourStretches s 0 (contoursOf s) ++ pairStretches s 0 (pairsOf s))
 
 -- one walk over all of them
@@ -64,6 +68,10 @@ Forward end (t ∷ ts) = (end ≤ t .begins) × Forward (t .begins + bytesIn (t 
 
 -- ---- what the reader answers, in that order
 
+-- the head's fields, and the byte that asks for the grid where the card has it
+abbrev pub headRead : Bool → List ℕ → List ℕ
+headRead two s = headList (headOf s) ++ cond two (gridOf s ∷ []) []
+
 -- the part and the copy, where the card has them
 abbrev pub groupList : Bool → Contour → List ℕ
 groupList parts c = cond parts (c .part ∷ c .copy ∷ []) []
@@ -80,7 +88,7 @@ pairList p = p .«before_id» ∷ p .«before_tag» ∷ p .«after_id» ∷ p .�
 -- so many contours, from contour k on, and so many pairs, from pair q on
 unfoldable pub contoursRead : List ℕ → ℕ → ℕ → List ℕ
 contoursRead s k zero = []
-contoursRead s k (suc n) = contourList (hasParts s) (contourRead s k) ++ contoursRead s (suc k) n
+contoursRead s k (suc n) = contourList (isTwo s) (contourRead s k) ++ contoursRead s (suc k) n
 
 unfoldable pub pairsRead : List ℕ → ℕ → ℕ → List ℕ
 pairsRead s q zero = []
@@ -89,4 +97,4 @@ pairsRead s q (suc m) = pairList (pairRead s q) ++ pairsRead s (suc q) m
 -- the whole card
 unfoldable pub cardRead : List ℕ → List ℕ
 unfolding contoursRead pairsRead
-cardRead s = headList (headOf s) ++ (contoursRead s 0 (contoursOf s) ++ pairsRead s 0 (pairsOf s))
+cardRead s = headRead (isTwo s) s ++ (contoursRead s 0 (contoursOf s) ++ pairsRead s 0 (pairsOf s))

@@ -37,6 +37,10 @@ headOf s = record {
 abbrev pub headWidths : List Width
 headWidths = Four ∷ Two ∷ Two ∷ Two ∷ Two ∷ Four ∷ Eight ∷ Eight ∷ One ∷ One ∷ []
 
+-- the byte that asks for the grid, behind them in version 2
+abbrev pub gridWidths : List Width
+gridWidths = One ∷ []
+
 -- a head's fields in the order of the file
 abbrev pub headList : Head → List ℕ
 headList h =

@@ -5,9 +5,11 @@ ghost use mathlib.Core.Path.{_≡_};
 ghost use Prim.Native.Nat.{_+_, _*_, _-_, _≤_, min};
 ghost use lib.ListN.{length};
 ghost use Rattle.fields.specs.Limits.{vertexLimit};
+ghost use Rattle.fields.specs.Layout.{gridOf};
 ghost use Rattle.reader.specs.Fields.{fieldAt};
 ghost use Rattle.reader.specs.Walk.{walk, eights, fourFrom};
 ghost use Rattle.reader.specs.OnCard.{filled, headOf, contourHead, groupOf, contourRead, pairRead};
+use fields::GRID_AT;
 use fields::PART_AT;
 use fields::PAYLOAD_AT;
 use fields::VERTICES;
@@ -250,6 +252,17 @@ pub fn read_head(card: &[u8]) -> Head
     }
 }
 
+// The byte that asks for the grid, right behind the head's other fields. Version 1 has none: nothing is read.
+pub fn read_grid(card: &[u8]) -> u64
+    ensures { λ r. ⌜ r ≡ gridOf (now (card .entry)) ⌝ }
+{
+    if fields::is_two(card) {
+        let grid = read_field(card, GRID_AT, Width::One);
+        return grid.value;
+    }
+    0
+}
+
 // Contour k's fields before its vertices: enough for who needs no vertex.
 pub fn contour_head(card: &[u8], k: usize) -> ContourHead
     ensures { λ r. ⌜ r ≡ contourHead (now (card .entry)) k ⌝ }
@@ -298,7 +311,7 @@ fn coordinates(card: &[u8], at: usize, count: usize) -> [u64; COORDINATES]
 fn read_group(card: &[u8], k: usize) -> Group
     ensures { λ r. ⌜ r ≡ groupOf (now (card .entry)) k ⌝ }
 {
-    if fields::has_parts(card) {
+    if fields::is_two(card) {
         let at = fields::contour_offset(card, k, PART_AT);
         let part = read_field(card, at, Width::Four);
         let copy = read_field(card, part.after, Width::Four);

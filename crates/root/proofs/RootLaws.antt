@@ -27,7 +27,7 @@ use Rattle.root.proofs.RootSteps.{rootSteps, root-of-zero, root-part-un
 
 -- ---- what a value says of its sign
 
-value-sign : (x : Float) (s : Bool) (a c : ℕ) → HasValue x s a c → signOf x ≡ s
+pub value-sign : (x : Float) (s : Bool) (a c : ℕ) → HasValue x s a c → signOf x ≡ s
 value-sign nan s a c h = absurd h
 value-sign (inf t) s a c h = absurd h
 value-sign (fin t m e) s a c h = h .0

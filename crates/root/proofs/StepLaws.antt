@@ -62,7 +62,7 @@ rest-power k l h = sym (pow-add 2 (l - k) k) ∙ ap (λ (z : ℕ). 2 ^ z) (sub-a
     below : k ≤ l
     below = omega (arith, lt-of-not-le (λ (g : suc l ≤ k). not-le-of-lt (pow-lt g) h))
 
-down-power : (e : ℤ) (l : ℕ) → down e ≤ 2 ^ l → (i : ℕ) × (2 ^ i * down e ≡ 2 ^ l)
+pub down-power : (e : ℤ) (l : ℕ) → down e ≤ 2 ^ l → (i : ℕ) × (2 ^ i * down e ≡ 2 ^ l)
 down-power (pos k) l h = (l, mul-one (2 ^ l))
 down-power (negsuc k) l h = (l - suc k, rest-power (suc k) l h)
 

@@ -6,6 +6,7 @@ use Rattle.root.specs.Root.{rootFinite, sqrtOf}
 use Rattle.points.specs.Points.{closing, edges}
 use Rattle.points.specs.Distance.{squares, distanceSqOf, distanceOf}
 use Rattle.points.specs.Along.{alongOf}
+use Rattle.grid.specs.Move.{moved, movedPoint}
 use Rattle.candidates.specs.Along.{around, perimeterOf, reaches, onEdge, spotFrom, lastSpot, spotAt}
 use Rattle.candidates.specs.Generate.{spaced, target, candidatesFrom, candidatesOf}
 use Rattle.closure.specs.Pairs.{every}
@@ -31,7 +32,7 @@ unfoldable pub tour-computes : Unit {0}
 unfolding verdict-computes tourWithin tourCheckWithin roomCheck endWithin chartOn
     gathered owners firsts verticesOf outlineOf offersOf asType asPreference pointAt
     candidatesOf candidatesFrom spaced target perimeterOf around reaches onEdge spotFrom lastSpot spotAt closing edges
-    alongOf distanceOf distanceSqOf squares sqrtOf rootFinite halves wholeRoot digits
+    alongOf movedPoint moved distanceOf distanceSqOf squares sqrtOf rootFinite halves wholeRoot digits
     homesOf homeLeg distancesOf rowOf legAt legOf listed chained each lengthOf walk legs
     nearestWithin walked step visit chosen considered isOpen isIn offered offer closer reachOf lastOf
     searchedWithin repeated pass turn alternative swap judged shorter tried atLimit row reversal flip turned rev slice

@@ -1,5 +1,5 @@
--- The candidates of a card: each ends where it was pierced, and on a fine card each lies near enough for every distance
--- to be finite. Assumes nothing.
+-- The candidates of a card: each ends where it was pierced, what holds of each contour's holds of all, and on a fine
+-- card each lies near enough for every distance to be finite. Assumes nothing.
 use mathlib.Core.Bool.{Bool, true, false, cond}
 use mathlib.Core.Path.{_≡_, refl, sym, ap, _∙_, subst}
 use mathlib.Core.Logic.{_⊎_, inl, inr}
@@ -14,24 +14,23 @@ use Rattle.answer.specs.declared.Point.{Point}
 use Rattle.answer.specs.declared.CutDirection.{CutDirection}
 use Rattle.answer.specs.declared.Check.the-variants.{Fine}
 use Rattle.answer.proofs.RoomLaws.{any-default}
-use Rattle.fields.specs.Limits.{perContourLimit}
-use Rattle.points.specs.Points.{nowhere}
+use Rattle.fields.specs.Limits.{perContourLimit, vertexLimit}
+use Rattle.points.specs.Points.{point, nowhere}
 use Rattle.points.specs.Bad.{badPoint}
 use Rattle.points.specs.Numbers.{tiny}
 use Rattle.points.proofs.SizeLaws.{Near}
 use Rattle.candidates.specs.declared.Candidate.{Candidate}
 use Rattle.candidates.specs.Along.{perimeterOf, spot}
 use Rattle.candidates.specs.Generate.{candidateAt, blank, spaced, candidatesFrom, candidatesOf}
-use Rattle.candidates.proofs.SizeLaws.{AllGood, each-near}
+use Rattle.candidates.proofs.SizeLaws.{outmost, each-near}
 use Rattle.closure.proofs.PairLaws.{lt-or, same-or}
-use Rattle.fields.specs.Layout.{contoursOf, perContourOf, vertexCountOf, vertexOffset}
+use Rattle.fields.specs.Layout.{contoursOf, perContourOf, asksGrid, vertexCountOf, vertexOffset}
 use Rattle.fields.specs.Values.{pointAt}
 use Rattle.card.specs.Verdict.{checkOf}
 use Rattle.card_laws.proofs.Facts.{accepted}
 use Rattle.table.specs.Distances.{absent, pierced, leaving}
 use Rattle.instance.specs.Gather.{verticesOf, wayOf, outlineOf, offersOf, gathered, firsts}
 use Rattle.instance.proofs.GatherLaws.{firsts-length, vertices-length}
-use Rattle.instance.proofs.FineLaws.{outline-whole}
 use Rattle.instance.proofs.OwnerLaws.{gathered-grows, first-at}
 
 -- no contour's candidates begin behind the last one
@@ -60,44 +59,66 @@ ends-both : (l m : List Candidate) → EndsThere l → EndsThere m → EndsThere
 ends-both [] m h g = g
 ends-both (c ∷ l) m h g = ends-one c (l ++ m) (h 0) (ends-both l m (λ a. h (suc a)) g)
 
-ends-spaced : (way : CutDirection) (ps : List Point) (total : Float) (c k n : ℕ) → EndsThere (spaced way ps total c k n)
+ends-spaced : (grid : Bool) (way : CutDirection) (ps : List Point) (total : Float) (c k n : ℕ)
+    → EndsThere (spaced grid way ps total c k n)
 unfolding spaced
-ends-spaced way ps total c k zero = ends-none
-ends-spaced way ps total c k (suc n) =
-    ends-one _ (spaced way ps total c (suc k) n) refl (ends-spaced way ps total c (suc k) n)
+ends-spaced grid way ps total c k zero = ends-none
+ends-spaced grid way ps total c k (suc n) =
+    ends-one _ (spaced grid way ps total c (suc k) n) refl (ends-spaced grid way ps total c (suc k) n)
 
-ends-from : (way : CutDirection) (v : Point) (ps : List Point) (c : ℕ) → EndsThere (candidatesFrom way v ps c)
+ends-from : (grid : Bool) (way : CutDirection) (v : Point) (ps : List Point) (c : ℕ)
+    → EndsThere (candidatesFrom grid way v ps c)
 unfolding candidatesFrom
-ends-from way v ps c = go (eqb c 1) (lt (perimeterOf ps) tiny)
+ends-from grid way v ps c = go (eqb c 1) (lt (perimeterOf ps) tiny)
   where
     go : (b d : Bool)
         → EndsThere (cond b (candidateAt way (spot v 0) ∷ [])
-        (cond d (candidateAt way (spot v 0) ∷ []) (spaced way ps (perimeterOf ps) c 0 c)))
+        (cond d (candidateAt way (spot v 0) ∷ []) (spaced grid way ps (perimeterOf ps) c 0 c)))
     go true d = ends-one _ [] refl ends-none
     go false true = ends-one _ [] refl ends-none
-    go false false = ends-spaced way ps (perimeterOf ps) c 0 c
+    go false false = ends-spaced grid way ps (perimeterOf ps) c 0 c
 
-ends-of : (way : CutDirection) (ps : List Point) (c : ℕ) → EndsThere (candidatesOf way ps c)
+ends-of : (grid : Bool) (way : CutDirection) (ps : List Point) (c : ℕ) → EndsThere (candidatesOf grid way ps c)
 unfolding candidatesOf
-ends-of way [] c = ends-none
-ends-of way (v ∷ more) c = ends-from way v (v ∷ more) (min c perContourLimit)
+ends-of grid way [] c = ends-none
+ends-of grid way (v ∷ more) c = ends-from grid way v (v ∷ more) (min c perContourLimit)
 
 pub ends-gathered : (s : List ℕ) (n : ℕ) → EndsThere (gathered s n)
 unfolding gathered offersOf
 ends-gathered s zero = ends-none
 ends-gathered s (suc n) =
-    ends-both (gathered s n) (offersOf s n) (ends-gathered s n) (ends-of (wayOf s n) (outlineOf s n) _)
+    ends-both (gathered s n) (offersOf s n) (ends-gathered s n) (ends-of (asksGrid s) (wayOf s n) (outlineOf s n) _)
 
--- ---- a candidate of a fine card lies near
+-- ---- what holds of each contour's candidates holds of the card's
 
--- every candidate of a list does
-abbrev pub AllNear : List Candidate → Type 0
-AllNear cs = (a : ℕ) → a < length cs → Near 160 (pierced (getD cs a absent))
+-- every candidate of a list is pierced at a point of a kind
+abbrev pub AllAt : (Point → Type 0) → List Candidate → Type 0
+AllAt P cs = (a : ℕ) → a < length cs → P (pierced (getD cs a absent))
 
-near-both : (l m : List Candidate) → AllNear l → AllNear m → AllNear (l ++ m)
-near-both [] m h g a o = g a o
-near-both (c ∷ l) m h g zero o = h 0 (omega arith)
-near-both (c ∷ l) m h g (suc a) o = near-both l m (λ i k. h (suc i) (omega arith)) g a (omega arith)
+at-both : (P : Point → Type 0) (l m : List Candidate) → AllAt P l → AllAt P m → AllAt P (l ++ m)
+at-both P [] m h g a o = g a o
+at-both P (c ∷ l) m h g zero o = h 0 (omega arith)
+at-both P (c ∷ l) m h g (suc a) o = at-both P l m (λ i k. h (suc i) (omega arith)) g a (omega arith)
+
+-- n contours' candidates, each contour's of that kind
+pub gathered-at : (P : Point → Type 0) (s : List ℕ) (n : ℕ) → ((k : ℕ) → k < n → AllAt P (offersOf s k))
+    → AllAt P (gathered s n)
+unfolding gathered
+gathered-at P s zero h a l = absurd (omega arith)
+gathered-at P s (suc n) h a l =
+    at-both P (gathered s n) (offersOf s n) (gathered-at P s n (λ k g. h k (omega arith))) (h n (omega arith)) a l
+
+-- one contour's, where a law tells it of the candidates as they are offered
+pub offered-at : (P : Point → Type 0) (s : List ℕ) (k : ℕ)
+    → (let cs = candidatesOf (asksGrid s) (wayOf s k) (outlineOf s k) (perContourOf s) in
+    (a : ℕ) → a < length cs → P (point (getD cs a blank .x) (getD cs a blank .y)))
+    → AllAt P (offersOf s k)
+unfolding offersOf
+offered-at P s k h a l =
+    subst (λ (c : Candidate). P (pierced c))
+    (any-default (candidatesOf (asksGrid s) (wayOf s k) (outlineOf s k) (perContourOf s)) a blank absent l) (h a l)
+
+-- ---- and what holds of a contour's vertices on the card holds of the outline that is read
 
 vertex-at : (s : List ℕ) (k m j : ℕ) → j < m → getD (verticesOf s k m) j nowhere ≡ pointAt s (vertexOffset k j)
 unfolding verticesOf
@@ -113,31 +134,30 @@ vertex-at s k (suc m) j h = go (same-or j m) (vertex-at s k m j)
         List·getD-append (verticesOf s k m) (pointAt s (vertexOffset k m) ∷ []) nowhere j
         (let l = vertices-length s k m in omega arith) ∙ earlier (omega arith)
 
+module _ (s : List ℕ) (k : ℕ) where
+  outline-length : length (outlineOf s k) ≡ min (vertexCountOf s k) vertexLimit
+  unfolding outlineOf
+  outline-length = vertices-length s k (min (vertexCountOf s k) vertexLimit)
+
+  pub outline-few : length (outlineOf s k) ≤ vertexLimit
+  outline-few = let m = outline-length in omega arith
+
+  pub outline-at : (P : Point → Type 0) → ((j : ℕ) → j < vertexCountOf s k → P (pointAt s (vertexOffset k j)))
+      → (j : ℕ) → j < length (outlineOf s k) → P (getD (outlineOf s k) j nowhere)
+  unfolding outlineOf
+  outline-at P all j l =
+      let m = outline-length in
+      subst P (sym (vertex-at s k (min (vertexCountOf s k) vertexLimit) j (omega arith))) (all j (omega arith))
+
+-- ---- a candidate of a fine card lies near
+
 module _ (s : List ℕ) (fine : checkOf s ≡ Fine) where
-  outline-good : (k : ℕ) → k < contoursOf s → AllGood (outlineOf s k)
-  outline-good k h j l =
-      let m : length (outlineOf s k) ≡ vertexCountOf s k =
-      ap length (outline-whole s fine k h) ∙ vertices-length s k (vertexCountOf s k) in
-      let g : j < vertexCountOf s k = omega arith in
-      ap (λ (ps : List Point). badPoint (getD ps j nowhere)) (outline-whole s fine k h)
-      ∙ ap badPoint (vertex-at s k (vertexCountOf s k) j g)
-      ∙ accepted s fine .vertex-near k j h g
+  offers-near : (k : ℕ) → k < contoursOf s → AllAt (Near outmost) (offersOf s k)
+  offers-near k h =
+      offered-at (Near outmost) s k
+      (each-near (asksGrid s) (wayOf s k) (outlineOf s k) (perContourOf s)
+      (outline-at s k (λ (p : Point). badPoint p ≡ false) (λ j g. accepted s fine .vertex-near k j h g))
+      (outline-few s k))
 
-  offers-near : (k : ℕ) → k < contoursOf s → AllNear (offersOf s k)
-  unfolding offersOf
-  offers-near k h a l =
-      let m : length (outlineOf s k) ≡ vertexCountOf s k =
-      ap length (outline-whole s fine k h) ∙ vertices-length s k (vertexCountOf s k) in
-      let f = accepted s fine .few-vertices k h in
-      subst (λ (c : Candidate). Near 160 (pierced c))
-      (any-default (candidatesOf (wayOf s k) (outlineOf s k) (perContourOf s)) a blank absent l)
-      (each-near (wayOf s k) (outlineOf s k) (perContourOf s) (outline-good k h) (omega arith) a l)
-
-  gathered-near : (n : ℕ) → n ≤ contoursOf s → AllNear (gathered s n)
-  unfolding gathered
-  gathered-near zero h a l = absurd (omega arith)
-  gathered-near (suc n) h a l =
-      near-both (gathered s n) (offersOf s n) (gathered-near n (omega arith)) (offers-near n (omega arith)) a l
-
-  pub candidate-near : AllNear (gathered s (contoursOf s))
-  candidate-near = gathered-near (contoursOf s) (omega arith)
+  pub candidate-near : AllAt (Near outmost) (gathered s (contoursOf s))
+  candidate-near = gathered-at (Near outmost) s (contoursOf s) offers-near

@@ -9,6 +9,7 @@ use lib.Dec.{lit≤}
 use lib.ListN.{length, getD, length-map, length-append}
 use Rattle.answer.specs.declared.Check.the-variants.{Fine}
 use Rattle.points.proofs.SizeLaws.{Near, near-more, good-near, distance-below}
+use Rattle.candidates.proofs.SizeLaws.{outmost}
 use Rattle.keep.specs.Legal.{EachOnce, Legal}
 use Rattle.keep.proofs.OrderLaws.{keeps-legal, legal-keeps}
 use Rattle.fields.specs.Layout.{contoursOf, passesOf, moveLimitOf}
@@ -62,8 +63,8 @@ module _ (s : List ℕ) (fine : checkOf s ≡ Fine) where
   -- ---- what the start asks for
 
   -- home lies near enough for every distance from it to be finite
-  pub home-near : Near 160 (homeOn s)
-  home-near = near-more 20 160 (homeOn s) (lit≤ tt) (good-near (homeOn s) (accepted s fine .home-near))
+  pub home-near : Near outmost (homeOn s)
+  home-near = near-more 20 outmost (homeOn s) (lit≤ tt) (good-near (homeOn s) (accepted s fine .home-near))
 
   among : (k a : ℕ) → InContour (firstsOn s) k a → a < countOn s
   among k a m = let l = firsts-below s (contoursOf s) (suc k) in omega (arith, m .to)
@@ -78,7 +79,7 @@ module _ (s : List ℕ) (fine : checkOf s ≡ Fine) where
     home = λ k a h m.
         let l = among k a m in
         rw (homes-at (candidatesOn s) (homeOn s) a l)
-        (distance-below 160 (homeOn s) (stopOf (candidatesOn s) a) (lit≤ tt) home-near (candidate-near s fine a l));
+        (distance-below outmost (homeOn s) (stopOf (candidatesOn s) a) (lit≤ tt) home-near (candidate-near s fine a l));
     apart = λ k j a b hk hj d m w.
         let here = among k a m in
         let there = among j b w in
@@ -86,7 +87,7 @@ module _ (s : List ℕ) (fine : checkOf s ≡ Fine) where
         let y = grouped s (contoursOf s) j b (w .from) (w .to) in
         rw (leg-is (candidatesOn s) (ownersOn s) (ends-gathered s (contoursOf s)) b a there here
         (λ e. d (sym x ∙ sym e ∙ y)))
-        (distance-below 160 (stopOf (candidatesOn s) b) (stopOf (candidatesOn s) a) (lit≤ tt)
+        (distance-below outmost (stopOf (candidatesOn s) b) (stopOf (candidatesOn s) a) (lit≤ tt)
         (candidate-near s fine b there) (candidate-near s fine a here));
   }
 

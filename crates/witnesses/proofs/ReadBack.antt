@@ -1,5 +1,6 @@
 -- Each card written and read back, computed. Assumes nothing.
 use mathlib.Core.Path.{refl}
+use mathlib.Core.Bool.{true, false}
 use mathlib.Core.List.{[], _∷_}
 use Rattle.card_laws.specs.Card.{tabulated}
 use Rattle.card_laws.specs.Examples.{asJob41, waits, job41, selfPair, waiting}
@@ -7,6 +8,7 @@ use Rattle.tour_laws.proofs.Computes.{tour-computes}
 use Rattle.witnesses.specs.Examples.{limited}
 use Rattle.witnesses.specs.Taken.{aligned, bound}
 use Rattle.witnesses.specs.Slit.{slit}
+use Rattle.witnesses.specs.Gridded.{thirds, ties}
 use Rattle.witnesses.specs.ReadBack.{ReadBack, AllReadBack, Claim}
 
 of-empty : ReadBack (asJob41 [] [])
@@ -49,6 +51,26 @@ of-slit : ReadBack slit
 unfolding tour-computes tabulated
 of-slit = refl
 
+of-thirds : ReadBack (thirds true)
+unfolding tour-computes tabulated
+of-thirds = refl
+
+of-not-asking : ReadBack (thirds false)
+unfolding tour-computes tabulated
+of-not-asking = refl
+
+of-ties : ReadBack (ties 4 true)
+unfolding tour-computes tabulated
+of-ties = refl
+
+of-ties-not-asking : ReadBack (ties 4 false)
+unfolding tour-computes tabulated
+of-ties-not-asking = refl
+
+of-eighths : ReadBack (ties 8 true)
+unfolding tour-computes tabulated
+of-eighths = refl
+
 pub claim : Claim
 claim = record {
   of-empty = of-empty;
@@ -61,4 +83,9 @@ claim = record {
   of-capped = of-capped;
   of-bound = of-bound;
   of-slit = of-slit;
+  of-thirds = of-thirds;
+  of-not-asking = of-not-asking;
+  of-ties = of-ties;
+  of-ties-not-asking = of-ties-not-asking;
+  of-eighths = of-eighths;
 }

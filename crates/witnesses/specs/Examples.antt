@@ -1,6 +1,7 @@
 -- Cards that meet what the demands ask for, so that none of them speaks of nothing: job 41, one whose search is cut,
 -- and one sent back with 12. And what is printed of the first and the last, byte for byte. Assumes nothing.
 use mathlib.Core.Path.{_≡_}
+use mathlib.Core.Bool.{false}
 use mathlib.Core.List.{[], _∷_}
 use Prim.Native.Nat.{ℕ, _*_, _<_}
 use lib.Ieee.{binary64, ofBits}
@@ -41,6 +42,7 @@ limited =
       home = at 0 0;
       exterior = Auto;
       interior = Auto;
+      grid = false;
       contours = boxed 5 0 0 0x4010_0000_0000_0000 0x4010_0000_0000_0000
           ∷ boxed 6 0x4020_0000_0000_0000 0 0x4028_0000_0000_0000 0x4010_0000_0000_0000
           ∷ boxed 7 0x4020_0000_0000_0000 0x4020_0000_0000_0000 0x4028_0000_0000_0000 0x4028_0000_0000_0000

@@ -1,4 +1,5 @@
 pub mod Examples
 pub mod Taken
 pub mod Slit
+pub mod Gridded
 pub mod ReadBack

@@ -36,6 +36,7 @@ slit =
       home = on 7;
       exterior = Auto;
       interior = Auto;
+      grid = false;
       contours = along 5 (on 4 ∷ on 10 ∷ []) ∷ along 6 (on 2 ∷ []) ∷ along 7 (on 1 ∷ []) ∷ [];
       pairs = [];
     }

@@ -49,6 +49,7 @@ aligned limit =
       home = on 5;
       exterior = Auto;
       interior = Auto;
+      grid = false;
       contours = along 5 (on 2 ∷ on 10 ∷ []) ∷ along 6 (on 1 ∷ on 8 ∷ []) ∷ along 7 (on 9 ∷ []) ∷ [];
       pairs = waits 5 6 ∷ [];
     }
@@ -65,6 +66,7 @@ bound =
       home = on 0;
       exterior = Auto;
       interior = Auto;
+      grid = false;
       contours = along 5 (on 1 ∷ []) ∷ along 6 (on 3 ∷ []) ∷ along 7 (on 2 ∷ []) ∷ [];
       pairs = waits 6 7 ∷ [];
     }

@@ -14,7 +14,7 @@ fn shortest(mut call: impl FnMut()) -> Duration {
 }
 
 fn main() {
-    for name in ["job-41", "sheet", "refused", "slit", "holes", "panel"] {
+    for name in ["job-41", "sheet", "refused", "slit", "holes", "panel", "grid"] {
         let folder = concat!(env!("CARGO_MANIFEST_DIR"), "/../../examples");
         let card = std::fs::read(format!("{folder}/{name}.card")).unwrap();
         let check = shortest(|| _ = black_box(jambolive::check(black_box(&card))));

@@ -2,11 +2,12 @@
 //!
 //! A job comes as a card, a file of 512-byte blocks (docs/CARD.md). [`check`] says whether a card can be
 //! followed, [`tour`] finds its tour, [`list`] prints it as the machine reads it. A card of version 1 or 2 will do; in
-//! version 2 a hole is cut before the first outline of its part and instance without a pair that says so. A card that
-//! arrives in pieces goes into a [`Feed`]. Of any contour [`bridges`] says where the stretches are that stay uncut. The
-//! work is done by a library in which every function is proved: these calls only hand slices over and make numbers into
-//! words. They take any bytes and numbers, never panic, and keep nothing but what a [`Feed`] holds. They may run side by
-//! side. hosts/c/jambolive.h says how much stack the library takes.
+//! version 2 a hole is cut before the first outline of its part and instance without a pair that says so, and a card may
+//! ask that its contours are begun at points of a grid. A card that arrives in pieces goes into a [`Feed`]. Of any contour
+//! [`bridges`] says where the stretches are that stay uncut. The work is done by a library in which every function is
+//! proved: these calls only hand slices over and make numbers into words. They take any bytes and numbers, never panic,
+//! and keep nothing but what a [`Feed`] holds. They may run side by side. hosts/c/jambolive.h says how much stack the
+//! library takes.
 //!
 //! ```
 //! let mut card = std::fs::read("../../examples/job-41.card").unwrap();
@@ -55,7 +56,8 @@ pub struct Tour {
 /// before request 2026-01 did not: with three candidates a contour or more the tour may be another than then, mostly shorter
 /// and now and then longer; with fewer it is the same (docs/DIFFERENCES.md). A card with more contours or pairs than a
 /// library from before request 2026-04 takes is refused by it (docs/CARD.md, "Larger cards"); that request changed no tour of
-/// a card that it takes.
+/// a card that it takes. Where byte 34 of the head's payload is 1 on a card of version 2, candidates found along a contour are
+/// moved to the nearest point of a grid of 1/1024 mm (docs/CARD.md, "The grid").
 pub fn tour(card: &[u8]) -> Result<Tour, Refusal> {
     let mut room = [0; CONTOURS];
     let (moves, length) = tour_into(card, &mut room)?;

@@ -25,7 +25,7 @@ pub enum Refusal {
         block: u32,
     },
     /// A field of the head is out of its limits: contours 1, pairs 2, candidates 3, passes 4, directions 5
-    /// and 6, candidates in all 7.
+    /// and 6, candidates in all 7 and, in version 2, the byte that asks for the grid 8.
     Field {
         /// The first such field.
         field: u32,
@@ -192,6 +192,7 @@ fn due(field: u32) -> String {
         5 => "the direction of outlines is 0, 1 or 2".to_string(),
         6 => "the direction of holes is 0, 1 or 2".to_string(),
         7 => format!("a card has at most {CANDIDATES} candidates in all"),
+        8 => "the byte that asks for the grid is 0 or 1".to_string(),
         _ => "a field of the head is out of its limits".to_string(),
     }
 }
@@ -250,7 +251,7 @@ impl std::error::Error for Refusal {}
 fn codes() {
     assert_eq!(Refusal::of(0), Ok(()));
     for number in (1..=13).chain([15]) {
-        for place in (0..8).chain([u64::from(u32::MAX)]) {
+        for place in (0..9).chain([u64::from(u32::MAX)]) {
             let refusal = Refusal::of((number << 32) + place).unwrap_err();
             assert_eq!((u64::from(refusal.number()), u64::from(refusal.place())), (number, place));
         }
@@ -286,6 +287,7 @@ fn sentences() {
     says(4, 5, "the direction of outlines is 0, 1 or 2");
     says(4, 6, "the direction of holes is 0, 1 or 2");
     says(4, 7, &format!("a card has at most {CANDIDATES} candidates in all"));
+    says(4, 8, "the byte that asks for the grid is 0 or 1");
     says(5, 2, "the head speaks of another number of blocks than 2");
     let contour = format!("contour 0 has no 1 to {VERTICES} vertices, no known type, or a byte that should be zero");
     says(6, 0, &contour);

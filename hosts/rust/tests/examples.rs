@@ -9,9 +9,21 @@ fn example(name: &str) -> Vec<u8> {
     fs::read(folder.join(name)).unwrap()
 }
 
+/// The card with another byte at this place, and the check that its block then has: byte p counts p + 1 times.
+fn with_byte(card: &[u8], at: usize, byte: u8) -> Vec<u8> {
+    let mut card = card.to_vec();
+    let check_at = at / BLOCK * BLOCK + BLOCK - 4;
+    let weight = (at % BLOCK + 1) as u32;
+    let sum = u32::from_le_bytes(card[check_at..check_at + 4].try_into().unwrap());
+    let sum = sum - weight * u32::from(card[at]) + weight * u32::from(byte);
+    card[at] = byte;
+    card[check_at..check_at + 4].copy_from_slice(&sum.to_le_bytes());
+    card
+}
+
 #[test]
 fn every_example_prints_its_list() {
-    for name in ["job-41", "sheet", "refused", "slit", "holes", "panel"] {
+    for name in ["job-41", "sheet", "refused", "slit", "holes", "panel", "grid"] {
         let due = String::from_utf8(example(&format!("{name}.list"))).unwrap();
         assert_eq!(list(&example(&format!("{name}.card"))), due, "{name}");
     }
@@ -36,15 +48,25 @@ fn slit() {
 /// than the head's is refused there.
 #[test]
 fn holes() {
-    let mut card = example("holes.card");
+    let card = example("holes.card");
     assert_eq!(tour(&card).unwrap().candidates, [2, 1, 0]);
-    // the last block's version, and so its check, which counts that byte twice
     let last = card.len() - BLOCK;
-    card[last + 1] = 1;
-    let check_at = last + BLOCK - 4;
-    let sum = u32::from_le_bytes(card[check_at..].try_into().unwrap()) - 2;
-    card[check_at..].copy_from_slice(&sum.to_le_bytes());
-    assert_eq!(check(&card), Err(Refusal::Start { block: 3 }));
+    assert_eq!(check(&with_byte(&card, last + 1, 1)), Err(Refusal::Start { block: 3 }));
+}
+
+/// The square is cut at a third of its way, which is no point of the grid: moved there the way is another than where the card
+/// does not ask. A byte above 1 asks for nothing that there is.
+#[test]
+fn grid() {
+    let asks_at = 8 + 34;
+    let card = example("grid.card");
+    let moved = tour(&card).unwrap();
+    let found = tour(&with_byte(&card, asks_at, 0)).unwrap();
+    assert_eq!(moved.candidates, found.candidates);
+    assert!(moved.length != found.length && (moved.length - found.length).abs() < 1.0 / 1024.0);
+    assert_eq!(check(&with_byte(&card, asks_at, 2)), Err(Refusal::Field { field: 8 }));
+    // job 41 is of version 1, where the byte is spare
+    assert_eq!(check(&with_byte(&example("job-41.card"), asks_at, 1)), Err(Refusal::Spare { block: 0 }));
 }
 
 /// As many contours as a card has: each is cut once, the outline last.

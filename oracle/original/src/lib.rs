@@ -1,7 +1,8 @@
 //! The original's own modules, as build.rs copies them, and stand-ins for what they import.
 //!
 //! `given` is the original search, unchanged. `gtsp` is the same file with the rule for a rejected candidate
-//! mended, and `counted` that with its limit by the clock replaced by a count of trials.
+//! mended and with the move to the grid, which is made where it is asked for; `counted` is that with its limit by the
+//! clock replaced by a count of trials.
 
 #![allow(dead_code, unused, unexpected_cfgs, clippy::all)]
 
@@ -72,6 +73,36 @@ pub mod geom {
         pub fn contains_point(_: &[(f64, f64)], _: (f64, f64)) -> bool {
             unreachable!("no part is looked for in a hole")
         }
+    }
+}
+
+/// The move of request 2026-07 in the copies `gtsp` and `counted`. It is off but where a question asks for it.
+pub mod grid {
+    use std::cell::Cell;
+    thread_local! {
+        static ASKED: Cell<bool> = const { Cell::new(false) };
+    }
+
+    /// Makes candidates, with the move or without it.
+    pub fn with<T>(asked: bool, make: impl FnOnce() -> T) -> T {
+        ASKED.set(asked);
+        let made = make();
+        ASKED.set(false);
+        made
+    }
+
+    /// A point that was found at a perimeter distance, moved where that is asked for.
+    pub fn moved(point: (f64, f64)) -> (f64, f64) {
+        if ASKED.get() {
+            (nearest(point.0), nearest(point.1))
+        } else {
+            point
+        }
+    }
+
+    /// The nearest whole number of steps of 1/1024 mm: halves go away from zero, and a zero is +0.
+    pub fn nearest(v: f64) -> f64 {
+        (v * 1024.0).round() / 1024.0 + 0.0
     }
 }
 

@@ -73,20 +73,22 @@ fn check() {
     }
 }
 
-/// The classes of cards: version, contours, candidates a contour, written pairs. In version 2 each two contours are a hole and
-/// its outline. All but the third have as many candidates as a card takes.
+/// The classes of cards: version, the byte that asks for the grid, contours, candidates a contour, written pairs. In version 2
+/// each two contours are a hole and its outline. All but the third have as many candidates as a card takes.
 #[cfg(feature = "original")]
-const CLASSES: [(u8, usize, usize, usize); 8] = {
+const CLASSES: [(u8, u8, usize, usize, usize); 10] = {
     use oracle::limits::{CANDIDATES as ALL, CONTOURS, Limits, PAIRS, PER_CONTOUR as EACH};
     [
-        (1, ALL / 2, 2, 0),
-        (1, ALL / 2, 2, ALL / 2),
-        (1, Limits::BEFORE.contours, 1, Limits::BEFORE.pairs),
-        (1, CONTOURS, 1, 0),
-        (1, CONTOURS, 1, PAIRS),
-        (1, ALL / 4, 4, 0),
-        (1, ALL / EACH, EACH, 0),
-        (2, ALL / 2, 2, 0),
+        (1, 0, ALL / 2, 2, 0),
+        (1, 0, ALL / 2, 2, ALL / 2),
+        (1, 0, Limits::BEFORE.contours, 1, Limits::BEFORE.pairs),
+        (1, 0, CONTOURS, 1, 0),
+        (1, 0, CONTOURS, 1, PAIRS),
+        (1, 0, ALL / 4, 4, 0),
+        (1, 0, ALL / EACH, EACH, 0),
+        (2, 0, ALL / 2, 2, 0),
+        (2, 0, ALL / EACH, EACH, 0),
+        (2, 1, ALL / EACH, EACH, 0),
     ]
 };
 
@@ -97,19 +99,19 @@ fn classes<A: FnMut(), B: FnMut()>(
     ours: impl Fn(&oracle::card::Card) -> A,
     theirs: impl Fn(&oracle::card::Card) -> B,
 ) {
-    use oracle::{answer::Problem, generate, random::Random};
+    use oracle::{answer::Problem, card::Card, generate, random::Random};
     const CARDS: u64 = 10;
-    for (version, n, c, m) in CLASSES {
+    for (version, grid, n, c, m) in CLASSES {
         let (mut a, mut b, mut trials) = (0.0, 0.0, 0);
         for case in 0..CARDS {
             let sheet = generate::sheet(&Random::of(1, "bench", case), n, c, m);
-            let card = if version == 2 { generate::holed(sheet) } else { sheet };
+            let card = Card { grid, ..if version == 2 { generate::holed(sheet) } else { sheet } };
             let times = both(5, ours(&card), theirs(&card));
             (a, b) = (a + times.0, b + times.1);
             trials += Problem::of(&card).search(0).moves;
         }
         println!(
-            "{what} n={n} c={c} m={m} version {version}: {:.0} µs a card, {:.0} ns a trial; the original {:.0} µs, {:.0} ns; {:.1} times as fast",
+            "{what} n={n} c={c} m={m} version {version}, grid {grid}: {:.0} µs a card, {:.0} ns a trial; the original {:.0} µs, {:.0} ns; {:.1} times as fast",
             a / 1e3 / CARDS as f64,
             a / trials as f64,
             b / 1e3 / CARDS as f64,

@@ -3,15 +3,19 @@
 //! where an answer differs or a name is no part's. With a time it goes on from seed to seed until the time is over.
 
 use oracle::run::Wanted;
-use oracle::{bridge, candidates, check, cost, feed, hierarchy, large, root, rules, search, start, table, tour};
+use oracle::{
+    bridge, candidates, check, cost, exact, feed, grid, hierarchy, large, moved, root, rules, search, start, table,
+    tour,
+};
 
 /// A part's name, how it is compared, and whether that is quick: in full size a few seconds.
 type Part = (&'static str, fn(Wanted) -> bool, bool);
 
-const PARTS: [Part; 13] = [
+const PARTS: [Part; 16] = [
     ("root", root::compare, true),
     ("cost", cost::compare, true),
     ("hierarchy", hierarchy::compare, true),
+    ("moved", moved::compare, true),
     ("candidates", candidates::compare, true),
     ("bridge", bridge::compare, true),
     ("table", table::compare, true),
@@ -22,6 +26,8 @@ const PARTS: [Part; 13] = [
     ("tour", tour::compare, false),
     ("feed", feed::compare, true),
     ("large", large::compare, false),
+    ("grid", grid::compare, false),
+    ("exact", exact::compare, true),
 ];
 
 fn main() {

@@ -4,9 +4,9 @@
 use oracle::answer::printed;
 use oracle::bridge;
 use oracle::card::{Card, Contour};
-use oracle::edges::{Edge, edges, edges_of_parts, edges_of_size};
+use oracle::edges::{Edge, edges, edges_of_grid, edges_of_parts, edges_of_size};
 use oracle::generate;
-use oracle::limits::{AUTO, BLOCK, CARD_BYTES, CONTOURS, Limits, VERSION_AT};
+use oracle::limits::{AUTO, BLOCK, CARD_BYTES, CONTOURS, Limits, VERSION_AT, head};
 use oracle::random::Random;
 use std::fs;
 use std::path::Path;
@@ -71,6 +71,7 @@ fn examples() {
         ("slit", generate::slit()),
         ("holes", generate::holes()),
         ("panel", panel()),
+        ("grid", generate::moved_square()),
     ];
     for (name, card) in cards {
         fs::write(format!("examples/{name}.card"), card.bytes()).unwrap();
@@ -103,24 +104,35 @@ fn large(case: u64) -> Vec<u8> {
     if case % 2 == 0 { card.bytes() } else { generate::damaged_within(&r, card, Limits::TODAY) }
 }
 
+/// Small cards about the grid, by turns on it and beside it, every third with another byte where the move is asked for.
+fn gridded(case: u64) -> Vec<u8> {
+    let r = Random::of(2026, "replay, grid", case);
+    let card = generate::gridded(&r, case % 2 == 0);
+    if case % 3 == 2 { generate::regridded_within(&r, card, Limits::TODAY) } else { card.bytes() }
+}
+
 /// The cards that the program `replay` runs over, each after its length in four bytes, and what it must print: first the
 /// edges that the paper names, then the card with a slit, then cards from the generator; then the same again for version 2;
-/// then the edges of request 2026-04 and larger cards. The first of them stay as they are, so that what a request leaves
-/// alone is seen.
+/// then the edges of request 2026-04 and larger cards; then those of request 2026-07 and cards about the grid. The first of
+/// them stay as they are, so that what a request leaves alone is seen.
 fn replay(crate_folder: &Path) {
-    let (mut cards, mut lists, mut of_two) = (Vec::new(), String::new(), 0);
+    let (mut cards, mut lists, mut of_two, mut of_grid) = (Vec::new(), String::new(), 0, 0);
     let written = |edges: Vec<Edge>| edges.into_iter().map(|edge| edge.0);
     let one = written(edges()).chain([generate::slit().bytes()]).chain(random("replay", 2000, 1));
     let two = written(edges_of_parts()).chain([generate::holes().bytes()]).chain(random("replay, version 2", 400, 2));
     // no reader of the list has room for more
     let three = written(edges_of_size()).chain((0..16).map(large)).filter(|card| card.len() <= CARD_BYTES + 1);
-    for bytes in one.chain(two).chain(three) {
+    let small = |card: &Vec<u8>| card.len() <= 6 * BLOCK;
+    let four = written(edges_of_grid()).chain((0..120).map(gridded).filter(small));
+    for bytes in one.chain(two).chain(three).chain(four) {
         cards.extend((bytes.len() as u32).to_le_bytes());
         cards.extend(&bytes);
         lists += &printed(&bytes);
         of_two += u32::from(bytes.get(VERSION_AT) == Some(&2));
+        of_grid += u32::from(bytes.get(head::GRID).is_some_and(|&asked| asked > 0));
     }
     assert!(of_two >= 60, "{of_two} cards of version 2");
+    assert!(of_grid >= 60, "{of_grid} cards whose byte 34 is not 0");
     fs::create_dir_all(crate_folder.join("data")).unwrap();
     fs::write(crate_folder.join("data/cards"), cards).unwrap();
     fs::write(crate_folder.join("stdout"), lists).unwrap();

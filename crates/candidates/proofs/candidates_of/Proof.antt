@@ -8,7 +8,7 @@ use Rattle.candidates.proofs.candidates_of.Statement.{statement}
 use Rattle.candidates.proofs.candidates_of.Tie as tie
 
 returns : tie.Need-returns
-returns c = rw (c .none .ensures, no-vertices _ _ _ (c .before .if1 .taken))
+returns c = rw (c .none .ensures, no-vertices _ _ _ _ (c .before .if1 .taken))
 
 returns-2 : tie.Need-returns-2
 unfolding candidatesFrom
@@ -16,7 +16,7 @@ returns-2 c =
     rw (
       c .first-vertex .ensures,
       c .before .before .before .before .determine-direction .ensures,
-      some-vertices _ _ _
+      some-vertices _ _ _ _
           (c .before .before .before .if1 .left),
       ← (c .before .before .held .ensures),
       eq-eqb _ _ (c .before .if2 .taken),
@@ -28,7 +28,7 @@ returns-3 c =
     rw (
       c .first-vertex2 .ensures,
       c .before .before .before .before .before .before .determine-direction .ensures,
-      some-vertices _ _ _ (c .before .before .before .before .before .if1 .left),
+      some-vertices _ _ _ _ (c .before .before .before .before .before .if1 .left),
       ←
           (c .before .before .before .before .held .ensures),
       ne-eqb _ _ (c .before .before .before .if2 .left),
@@ -43,7 +43,7 @@ returns-4 c =
     rw (
       c .spaced .ensures,
       c .before .before .before .before .before .before .determine-direction .ensures,
-      some-vertices _ _ _ (c .before .before .before .before .before .if1 .left),
+      some-vertices _ _ _ _ (c .before .before .before .before .before .if1 .left),
       ←
           (c .before .before .before .before .held .ensures),
       ne-eqb _ _ (c .before .before .before .if2 .left),

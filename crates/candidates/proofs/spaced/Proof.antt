@@ -10,10 +10,11 @@ use Rattle.candidates.proofs.spaced.Statement.{statement}
 use Rattle.candidates.proofs.spaced.Tie as tie
 
 abbrev Inv-loop : tie.InvT-loop
-Inv-loop direction numbers total c items₀ k₀ items k = (k ≤ c) × (items ≡ room direction (points numbers) total c k)
+Inv-loop grid direction numbers total c items₀ k₀ items k =
+    (k ≤ c) × (items ≡ room grid direction (points numbers) total c k)
 
 abbrev μ-loop : tie.MeasureT-loop
-μ-loop direction numbers total c items₀ k₀ items k = c - k
+μ-loop grid direction numbers total c items₀ k₀ items k = c - k
 
 loop-holds : tie.Need-loop-holds Inv-loop μ-loop
 unfolding spaced
@@ -24,17 +25,17 @@ loop-again c = (
   omega arith,
   rw (
     c .candidate-at .ensures,
-    c .before .spot-at .ensures,
-    c .before .before .target-of .ensures,
-    c
-        .before .before .before .before .loop .inv .1,
-  ) (room-more _ _ _ _ _ (omega arith)),
+    c .before .moved-if .ensures,
+    c .before .before .spot-at .ensures,
+    c .before .before .before .target-of .ensures,
+    c .before .before .before .before .before .loop .inv .1,
+  ) (room-more _ _ _ _ _ _ (omega arith)),
 )
 
 returns : tie.Need-returns Inv-loop μ-loop
 returns c =
     let e : c .before .loop .k ≡ c .before .before .before .before .args .c = omega arith in
-    rw (c .before .loop .inv .1, e) (room-full _ _ _ _)
+    rw (c .before .loop .inv .1, e) (room-full _ _ _ _ _)
 
 pub spaced-spec : {M : Type 1} → statement M
 spaced-spec =
@@ -44,7 +45,7 @@ spaced-spec =
     μ-loop
     (λ c κs. tt)
     loop-holds
-    (λ c κs. tt) (λ c κs. tt) (λ c κs. tt)
+    (λ c κs. tt) (λ c κs. tt) (λ c κs. tt) (λ c κs. tt)
     (λ c. omega arith) (λ c. omega arith) (λ c. omega arith) (λ c. omega arith)
     loop-again
     returns)

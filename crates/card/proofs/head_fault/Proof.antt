@@ -13,10 +13,10 @@ use Rattle.card.proofs.head_fault.Statement.{statement}
 use Rattle.card.proofs.head_fault.Tie as tie
 
 abbrev Inv-loop : tie.InvT-loop
-Inv-loop card faults f₀ f = (faults ≡ headFaults card) × (f ≤ 8) × Nowhere (λ i. getD (headFaults card) i false) f
+Inv-loop card faults f₀ f = (faults ≡ headFaults card) × (f ≤ 9) × Nowhere (λ i. getD (headFaults card) i false) f
 
 abbrev μ-loop : tie.MeasureT-loop
-μ-loop card faults f₀ f = 8 - f
+μ-loop card faults f₀ f = 9 - f
 
 loop-holds : tie.Need-loop-holds Inv-loop μ-loop
 loop-holds c = (
@@ -30,7 +30,7 @@ returns : tie.Need-returns Inv-loop μ-loop
 unfolding headFaultWithin
 returns c = let s = now (c .before .before .before .before .before .args .card) in
     let i = c .before .before .loop .inv in
-    found-here (λ i. getD (headFaults s) i false) 8 _ (c .before .loop-test .taken) (i .2)
+    found-here (λ i. getD (headFaults s) i false) 9 _ (c .before .loop-test .taken) (i .2)
     (field-is s _ _ _ (i .0) (c .if1 .taken))
 
 loop-again : tie.Need-loop-again Inv-loop μ-loop
@@ -41,7 +41,7 @@ loop-again c = let s = now (c .before .before .before .before .before .args .car
 returns-2 : tie.Need-returns-2 Inv-loop μ-loop
 unfolding headFaultWithin
 returns-2 c = let s = now (c .before .before .before .before .args .card) in
-    none-found (λ i. getD (headFaults s) i false) 8 _ (c .loop-test .left) (c .before .loop .inv .2)
+    none-found (λ i. getD (headFaults s) i false) 9 _ (c .loop-test .left) (c .before .loop .inv .2)
 
 pub head-fault-spec : {M : Type 1} → statement M
 head-fault-spec =

@@ -1,4 +1,5 @@
 -- `card::used` meets its contract. Assumes nothing.
+use mathlib.Core.Path.{_∙_}
 use native.Mathlib.Omega.{arith}
 use denote.Ref.{now}
 use borrow.Author.Needs.{needs}
@@ -8,7 +9,8 @@ use Rattle.card.proofs.used.Statement.{statement}
 use Rattle.card.proofs.used.Tie as tie
 
 returns : tie.Need-returns
-returns c = let a = c .before .before .args in used-head (now (a .card)) (a .b) (c .if1 .taken)
+returns c = let a = c .before .before .before .args in
+    c .head-used .ensures ∙ used-head (now (a .card)) (a .b) (c .before .if1 .taken)
 
 returns-2 : tie.Need-returns-2
 returns-2 c = let a = c .before .before .before .before .before .before .args in
@@ -33,6 +35,7 @@ pub used-spec : {M : Type 1} → statement M
 used-spec =
     tie.close
     (tie.spec
+    (λ c κs. search needs)
     returns
     (λ c κs. search needs) (λ c. search needs) (λ c. search needs) (λ c κs. search needs) (λ c κs. search needs)
     (λ c. search needs) (λ c. search needs) (λ c. search needs)

@@ -9,11 +9,11 @@ returns : tie.Need-returns
 returns c =
     let c₂ = c .before .before in
     let c₃ = c₂ .before in
-    group-is _ _ _ _ _ (sym (c₃ .before .has-parts .ensures) ∙ c₃ .if1 .taken) (c₂ .contour-offset .ensures)
+    group-is _ _ _ _ _ (sym (c₃ .before .is-two .ensures) ∙ c₃ .if1 .taken) (c₂ .contour-offset .ensures)
     (c .before .read-field .ensures) (c .read-field2 .ensures)
 
 returns-2 : tie.Need-returns-2
-returns-2 c = no-group _ _ (sym (c .before .has-parts .ensures) ∙ c .if1 .left)
+returns-2 c = no-group _ _ (sym (c .before .is-two .ensures) ∙ c .if1 .left)
 
 pub read-group-spec : {M : Type 1} → statement M
 read-group-spec =

@@ -1,0 +1,4 @@
+pub mod UnitLaws
+pub mod MoveLaws
+pub mod SizeLaws
+pub mod Words
