@@ -182,4 +182,8 @@ fn what_is_not_as_demanded_is_seen() {
     assert!(of(&[1, 3, 4], length, &[1, 3, 4]) && !of(&[1, 3, 4], length, &tour));
     card.contours[1].vertices = vec![(20.0 + 1.0 / 2048.0, 0.0)];
     assert!(demanded(&card, &tour, 24f64.to_bits(), &tour).is_err());
+    // a vertex off the grid, though every candidate is moved to it
+    card.contours[1].vertices = vec![(20.0, 0.0)];
+    card.contours[0].vertices[2] = (10.0 + 1.0 / 2048.0, 10.0);
+    assert!(demanded(&card, &tour, 24f64.to_bits(), &tour).is_err());
 }

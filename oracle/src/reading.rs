@@ -323,8 +323,8 @@ pub fn card(bytes: &[u8]) -> Result<Card, Refusal> {
     })
 }
 
-/// A number of millimetres at the nearest point of the grid of 1/1024 mm, halves away from zero and a zero always +0, as
-/// request 2026-07 says it: by whole numbers. What is not a number or infinite stays as it is.
+/// A number of millimetres at the nearest point of the grid of 1/1024 mm; a half goes outward, and no zero has a sign: request
+/// 2026-07 by whole numbers. What is not a number or infinite stays as it is.
 pub fn moved(x: f64) -> f64 {
     let (exponent, fraction) = (x.to_bits() >> 52 & 0x7ff, x.to_bits() & ((1 << 52) - 1));
     // its size is `digits` times 2^`power`; of infinities and of what is not a number the power is the largest

@@ -6,7 +6,7 @@
 -- the list is made); a candidate that is found and lost again (Trials .other-left, Keeping, AlwaysEven); an invented
 -- number of moves (Told .moves, Cut); another length told than that of the tour (Told .rapid). That `tour` promises
 -- tourOf and nothing else is said in contracts/specs/Doors; what the candidates of one contour are, in
--- candidates/specs/Generate, two cases of it in Starred; which of them are moved to the grid, and how, in OnTheGrid.
+-- candidates/specs/Generate, two cases of it in Starred; when they are moved to the grid, which, and how, in OnTheGrid.
 -- Assumes nothing.
 use mathlib.Core.Path.{_≡_}
 use mathlib.Core.Bool.{Bool, true, false}

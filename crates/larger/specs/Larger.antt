@@ -1,5 +1,6 @@
 -- Cards that only the limits of today take, beside one that those from before take too: so what is said of larger cards
--- (filed's Before, Demand 3's first statement above 40 contours) is not said of nothing. Assumes nothing.
+-- (filed's Before, and Demand 3 above 40 contours where all candidates are on the grid) is not said of nothing. Assumes
+-- nothing.
 use mathlib.Core.Path.{_≡_}
 use mathlib.Core.List.{List, [], _∷_}
 use Prim.Native.Nat.{ℕ, zero, suc, _+_, _*_, _-_, _/_, _<_}

@@ -3,11 +3,11 @@
 //! A job comes as a card, a file of 512-byte blocks (docs/CARD.md). [`check`] says whether a card can be
 //! followed, [`tour`] finds its tour, [`list`] prints it as the machine reads it. A card of version 1 or 2 will do; in
 //! version 2 a hole is cut before the first outline of its part and instance without a pair that says so, and a card may
-//! ask that its contours are begun at points of a grid. A card that arrives in pieces goes into a [`Feed`]. Of any contour
-//! [`bridges`] says where the stretches are that stay uncut. The work is done by a library in which every function is
-//! proved: these calls only hand slices over and make numbers into words. They take any bytes and numbers, never panic,
-//! and keep nothing but what a [`Feed`] holds. They may run side by side. hosts/c/jambolive.h says how much stack the
-//! library takes.
+//! ask that the points found along its contours are moved to a grid. A card that arrives in pieces goes into a [`Feed`].
+//! Of any contour [`bridges`] says where the stretches are that stay uncut. The work is done by a library in which every
+//! function is proved: these calls only hand slices over and make numbers into words. They take any bytes and numbers,
+//! never panic, and keep nothing but what a [`Feed`] holds. They may run side by side. hosts/c/jambolive.h says how much
+//! stack the library takes.
 //!
 //! ```
 //! let mut card = std::fs::read("../../examples/job-41.card").unwrap();
