@@ -58,7 +58,8 @@ use Rattle.tour.specs.declared.Toured.the-variants.{Done}
 use Rattle.instance.specs.Search.{homeOn, candidatesOn, countOn, ownersOn, chartOn}
 use Rattle.tour.specs.Search.{startOn, endWithin, tourOn, outcomeOn}
 use Rattle.tour.specs.Tour.{Left, tourOf}
-use Rattle.demands.specs.Demand2.{ownOn, Numbered, OnTheGrid, Sized, Rooted, Apart, Paired, longOn, Measured, Terms}
+use Rattle.demands.specs.Demand2.{ownOn, Numbered, OnTheGrid, Sized, Rooted, Apart, Paired, longOn, Measured}
+use Rattle.demands.specs.Demand2.{Terms}
 use Rattle.demands.specs.Demand2.{Leaves, Trials, begunOn, searchOn, Between, othersOn, passesOn, allOn, Making}
 use Rattle.demands.specs.Demand2.{Turns, Rows, Passes, Order, Keeping, AlwaysEven, Begins, Cut, Claim}
 use Rattle.demands.proofs.AskedLaws.{toured-if, done-fine, fine-nothing}

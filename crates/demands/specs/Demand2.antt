@@ -74,8 +74,8 @@ pub record Numbered (s : List ℕ) : Type 0 where
   pub closed : (k j : ℕ) → k < contoursOf s → j < length (ownOn s k)
       → leaving (getD (ownOn s k) j absent) ≡ pierced (getD (ownOn s k) j absent)
 
--- the grid: the card asks for it by a 1 at byte 34 of a version 2 head and not otherwise; which candidates are moved where
--- it does, and what a move is: no other function is so
+-- the grid: the card asks for it by a 1 at byte 34 of a version 2 head and not otherwise; which candidates are moved
+-- where it does, and what a move is: no other function is so
 pub record OnTheGrid (s : List ℕ) : Type 0 where
   pub asks : (cardOf s .grid ≡ true) ↔ ((versionOf s ≡ 2) × (byteAt s (payload 0 + gridOffset) ≡ 1))
   pub which : candidates.Claim

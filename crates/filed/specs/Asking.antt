@@ -1,6 +1,6 @@
--- Byte 34 of the head before request 2026-07, when it was spare in both versions: a card with a 0 there, and any card of
--- version 1, has the verdict and the candidates that it had then, and a fine one that asks for the grid went back with 7
--- at block 0. Assumes nothing.
+-- Byte 34 of the head before request 2026-07, when it was spare in both versions: a card with a 0 there, and any card
+-- of version 1, has the verdict and the candidates that it had then, and a fine one that asks for the grid went back
+-- with 7 at block 0. Assumes nothing.
 use mathlib.Core.Path.{_≡_}
 use mathlib.Core.Bool.{Bool, true, false, not, cond}
 use mathlib.Core.List.{List, [], _∷_, _++_}
@@ -49,7 +49,8 @@ unfoldable pub spareFaultThen : List ℕ → Found
 unfolding lowest
 spareFaultThen s = lowest (badSpareThen s) (blocksOf s)
 
--- all else was as today: of its stages, in their order, number 3 is the one on the head and number 7 that on spare bytes
+-- all else was as today: of its stages, in their order, number 3 is the one on the head and number 7 that on spare
+-- bytes
 unfoldable pub checkThen : List ℕ → Check
 unfolding firstRefusal headFaultThen spareFaultThen
 checkThen s =
@@ -73,8 +74,8 @@ candidatesThen way (v ∷ more) c =
 
 -- ---- what is claimed
 
--- the verdict is that of then, and so are the candidates of each contour; what is made of them, the distances, the start
--- and the tour, is not said once more: its definitions are the same text
+-- the verdict is that of then, and so are the candidates of each contour; what is made of them, the distances, the
+-- start and the tour, is not said once more: its definitions are the same text
 pub record NotAsked (s : List ℕ) : Type 0 where
   pub verdict : checkOf s ≡ checkThen s
   pub candidates : (k : ℕ) → offersOf s k ≡ candidatesThen (wayOf s k) (outlineOf s k) (perContourOf s)
@@ -87,8 +88,8 @@ Asked s = asksGrid s ≡ true → checkOf s ≡ Fine → checkThen s ≡ Refused
 abbrev pub headWith : ℕ → ℕ → List ℕ
 headWith version byte = blockOf 1 version 0 (headBytes (asJob41 [] []) ++ (byte ∷ []))
 
--- such cards today: in version 2 with 0 and 1 fine, with 2 and 255 4 at 8; in version 1 with 0 fine, with 1, 2 and 255 7
--- at block 0
+-- such cards today: in version 2 with 0 and 1 fine, with 2 and 255 4 at 8; in version 1 with 0 fine, with 1, 2 and 255
+-- 7 at block 0
 pub record Today : Type 0 where
   pub not-asking : checkOf (headWith 2 0) ≡ Fine
   pub asking : checkOf (headWith 2 1) ≡ Fine

@@ -76,8 +76,8 @@ oneStepDown = 0xbf50_0000_0000_0000
 abbrev pub halfStepDown : ℕ
 halfStepDown = 0xbf40_0000_0000_0000
 
--- a slit a step long above zero and one below, with c candidates each: of four the second and the fourth are half a step
--- from zero. Home three steps below zero
+-- a slit a step long above zero and one below, with c candidates each: of four the second and the fourth are half a
+-- step from zero. Home three steps below zero
 abbrev pub ties : ℕ → Bool → Card
 ties c asking =
     record {
@@ -94,8 +94,8 @@ ties c asking =
       pairs = [];
     }
 
--- each of the halves goes to the step farther from zero; the vertex is the one found. A quarter of a step goes to +0 from
--- either side, three quarters to the step
+-- each of the halves goes to the step farther from zero; the vertex is the one found. A quarter of a step goes to +0
+-- from either side, three quarters to the step
 pub record TiesMoved : Type 0 where
   pub answered : Answered (ties 4 true) 2 8
   pub outlines-on-grid : OutlinesOnGrid (written (ties 4 true))
