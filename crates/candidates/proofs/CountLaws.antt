@@ -2,12 +2,12 @@
 use mathlib.Core.Path.{_≡_, refl}
 use mathlib.Core.Bool.{Bool, true, false, cond}
 use mathlib.Core.List.{List, [], _∷_}
-use Prim.Native.Nat.{ℕ, zero, suc, _-_, _≤_, _<_, min}
-use native.Mathlib.Nat.{not-suc-le-zero, le-of-suc-le-suc}
+use Prim.Native.Nat.{ℕ, _≤_, _<_, min}
+use native.Mathlib.Nat.{not-suc-le-zero}
 use native.Mathlib.Omega.{arith}
 use lib.Dec.{eqb}
 use lib.ListN.{length, getD, length-append, length-replicate}
-use lib.Ieee.{Float, lt}
+use lib.Ieee.{lt}
 use Rattle.answer.specs.declared.Point.{Point}
 use Rattle.answer.specs.declared.CutDirection.{CutDirection}
 use Rattle.fields.specs.Limits.{perContourLimit}
@@ -17,6 +17,7 @@ use Rattle.candidates.specs.declared.Spot.{Spot}
 use Rattle.candidates.specs.Along.{perimeterOf, spot}
 use Rattle.candidates.specs.Generate.{candidateAt, blank, spaced, candidatesFrom, candidatesOf, filled}
 use Rattle.candidates.proofs.FillLaws.{spaced-length}
+use Rattle.candidates.proofs.EachLaws.{each-has}
 
 -- ---- how many
 
@@ -56,37 +57,13 @@ pub record Closed (way : CutDirection) (q : Candidate) : Type 0 where
   pub same-y : q .«end_y» ≡ q .y
   pub same-way : q .direction ≡ way
 
-AllClosed : CutDirection → List Candidate → Type 0
-AllClosed way l = (k : ℕ) → k < length l → Closed way (getD l k blank)
-
-one-closed : (way : CutDirection) (s : Spot) → AllClosed way (candidateAt way s ∷ [])
-unfolding AllClosed
-one-closed way s zero h = record { same-x = refl; same-y = refl; same-way = refl }
-one-closed way s (suc k) h = absurd (not-suc-le-zero (le-of-suc-le-suc h))
-
-spaced-closed : (grid : Bool) (way : CutDirection) (ps : List Point) (total : Float) (c k n : ℕ)
-    → AllClosed way (spaced grid way ps total c k n)
-unfolding AllClosed spaced
-spaced-closed grid way ps total c k zero j h = absurd (not-suc-le-zero h)
-spaced-closed grid way ps total c k (suc n) zero h = record { same-x = refl; same-y = refl; same-way = refl }
-spaced-closed grid way ps total c k (suc n) (suc j) h =
-    spaced-closed grid way ps total c (suc k) n j (le-of-suc-le-suc h)
+at-closed : (way : CutDirection) (s : Spot) → Closed way (candidateAt way s)
+at-closed way s = record { same-x = refl; same-y = refl; same-way = refl }
 
 pub each-closed : (grid : Bool) (way : CutDirection) (ps : List Point) (c k : ℕ)
     → k < length (candidatesOf grid way ps c)
     → Closed way (getD (candidatesOf grid way ps c) k blank)
-unfolding candidatesOf candidatesFrom AllClosed
-each-closed grid way [] c k h = absurd (not-suc-le-zero h)
-each-closed grid way (v ∷ more) c k h = go (eqb (min c perContourLimit) 1) (lt (perimeterOf (v ∷ more)) tiny) k h
-  where
-    go : (p q : Bool)
-        → AllClosed way (cond p (candidateAt way (spot v 0) ∷ [])
-        (cond q (candidateAt way (spot v 0)
-        ∷ []) (spaced grid way (v ∷ more) (perimeterOf (v ∷ more)) (min c perContourLimit) 0 (min c perContourLimit))))
-    go true q = one-closed way (spot v 0)
-    go false true = one-closed way (spot v 0)
-    go false false =
-        spaced-closed grid way (v ∷ more) (perimeterOf (v ∷ more)) (min c perContourLimit) 0 (min c perContourLimit)
+each-closed grid way ps c = each-has (Closed way) grid way ps c (λ _. at-closed way _) (λ _ _ _ _. at-closed way _)
 
 -- ---- where they stand
 

@@ -1,8 +1,8 @@
 pub mod AlongLaws
 pub mod FillLaws
 pub mod GenerateLaws
-pub mod CountLaws
 pub mod EachLaws
+pub mod CountLaws
 pub mod SizeLaws
 pub mod Moved
 pub mod Starred

@@ -25,6 +25,7 @@ use Rattle.points.proofs.PointLaws.{edges-length, EndsBoth, AllEnds, edges-ends
 use Rattle.points.proofs.SizeLaws.{Under, Plus, Over, Near, under-more, plus-under, plus-more, near-more, add-under}
 use Rattle.points.proofs.SizeLaws.{sub-under, add-plus, mul-under, div-under, rem-under, distance-plus, good-near}
 use Rattle.points.proofs.SizeLaws.{not-tiny}
+use Rattle.candidates.specs.declared.Candidate.{Candidate}
 use Rattle.candidates.specs.declared.Spot.{Spot}
 use Rattle.candidates.specs.Along.{edgeLength, around, perimeterOf, spot, reaches, onEdge, spotFrom, lastSpot}
 use Rattle.candidates.specs.Along.{spotAt}
@@ -185,7 +186,7 @@ pub each-near : (grid : Bool) (way : CutDirection) (ps : List Point) (c : ℕ) �
     → (k : ℕ) → k < length (candidatesOf grid way ps c)
     → Near outmost (point (getD (candidatesOf grid way ps c) k blank .x) (getD (candidatesOf grid way ps c) k blank .y))
 each-near grid way ps c good few =
-    each-has (Near outmost) grid way ps c
+    each-has (λ (q : Candidate). Near outmost (point (q .x) (q .y))) grid way ps c
     (λ some. near-more 160 outmost (getD ps 0 nowhere) (lit≤ tt) (vertex-near ps good few some 0 some))
     (λ some h k l.
     placed-near ps good few some grid (target (perimeterOf ps) (min c perContourLimit) k)

@@ -16,13 +16,11 @@ use Rattle.points.specs.Distance.{squares, distanceSqOf, distanceOf}
 use Rattle.bytes.specs.Bytes.{rev}
 use Rattle.answer.specs.declared.Point.{Point}
 use Rattle.answer.specs.declared.Check.the-variants.{Fine}
-use Rattle.answer.proofs.RoomLaws.{any-default}
 use Rattle.candidates.specs.declared.Candidate.{Candidate}
-use Rattle.answer.specs.declared.CutDirection.{CutDirection}
-use Rattle.candidates.specs.Generate.{candidatesOf, blank}
+use Rattle.candidates.specs.Generate.{candidatesOf}
 use Rattle.candidates.proofs.Moved.{claim as candidates-moved}
 use Rattle.grid.proofs.Words.{claim as words}
-use Rattle.candidates.proofs.CountLaws.{Closed, each-closed}
+use Rattle.candidates.proofs.CountLaws.{each-closed}
 use Rattle.closure.specs.Limits.{contourLimit}
 use Rattle.closure.proofs.PairLaws.{same-or}
 use Rattle.keep.proofs.OrderLaws.{keeps-exactly}
@@ -36,7 +34,7 @@ use Rattle.card_laws.proofs.Facts.{accepted}
 use Rattle.card_laws.proofs.JoinedLaws.{joined}
 use Rattle.card_laws.proofs.OrderLaws.{by-positions, by-ids}
 use Rattle.card_laws.proofs.Verdicts.{exactly}
-use Rattle.table.specs.Distances.{absent, pierced, leaving, listed, chained}
+use Rattle.table.specs.Distances.{absent, listed, chained}
 use Rattle.table.specs.Evaluate.{lengthOf}
 use Rattle.table.specs.Walk.{legs, walk}
 use Rattle.table.proofs.DistanceLaws.{distances-length, same-contour, other-contour, homes-length, homes-at}
@@ -64,6 +62,7 @@ use Rattle.demands.specs.Demand2.{Leaves, Trials, begunOn, searchOn, Bet
 use Rattle.demands.specs.Demand2.{Turns, Rows, Passes, Order, Keeping, AlwaysEven, Begins, Cut, Claim}
 use Rattle.demands.proofs.AskedLaws.{toured-if, done-fine, fine-nothing}
 use Rattle.demands.proofs.NextLaws.{starts}
+use Rattle.tour_laws.proofs.GatherLaws.{ends-closed}
 use Rattle.tour_laws.proofs.TourLaws.{start-long, tour-long, tour-legal}
 
 -- ---- candidates
@@ -100,15 +99,6 @@ module _ (s : List ℕ) (fine : checkOf s ≡ Fine) where
       ap (λ (ps : List Point). candidatesOf (asksGrid s) (wayOf s k) ps (perContourOf s))
       (outline-whole s fine k h ∙ vertices-are s k (vertexCountOf s k))
 
-  -- of a list of closed candidates each ends where it began
-  own-closed : (cs : List Candidate) (j : ℕ) {way : CutDirection}
-      → ((k : ℕ) → k < length cs → Closed way (getD cs k blank)) → j < length cs
-      → leaving (getD cs j absent) ≡ pierced (getD cs j absent)
-  own-closed cs j all l =
-      let c = all j l in
-      subst (λ (q : Candidate). leaving q ≡ pierced q) (any-default cs j blank absent l)
-      (λ i. record { x = c .same-x i; y = c .same-y i })
-
   numbered : Numbered s
   unfolding gathered
   numbered = record {
@@ -127,7 +117,7 @@ module _ (s : List ℕ) (fine : checkOf s ≡ Fine) where
         let next = length-append (gathered s k) (offersOf s k) in
         rw (first-at s (contoursOf s) k (omega arith))
         (owner-at s (contoursOf s) k (length (gathered s k) + j) h (omega arith) (omega arith));
-    closed = λ k j h l. own-closed (ownOn s k) j (each-closed _ _ _ _) l;
+    closed = λ k j h l. ends-closed (ownOn s k) (each-closed _ _ _ _) j;
   }
 
 on-the-grid : (s : List ℕ) → OnTheGrid s

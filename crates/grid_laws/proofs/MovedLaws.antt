@@ -21,6 +21,7 @@ use Rattle.fields.specs.Limits.{vertexLimit, perContourLimit}
 use Rattle.grid.specs.Move.{perMm, unitsNear, moved, movedPoint}
 use Rattle.grid.proofs.UnitLaws.{not-past}
 use Rattle.grid.proofs.MoveLaws.{signFor, beside, moved-value}
+use Rattle.candidates.specs.declared.Candidate.{Candidate}
 use Rattle.candidates.specs.Along.{perimeterOf}
 use Rattle.candidates.specs.Generate.{blank, candidatesOf}
 use Rattle.candidates.proofs.EachLaws.{each-has}
@@ -74,5 +75,5 @@ pub each-on-grid : (way : CutDirection) (ps : List Point) (c : ℕ) → length p
     → let cs = candidatesOf true way ps c in
     (k : ℕ) → k < length cs → T (gridPoint (point (getD cs k blank .x) (getD cs k blank .y)))
 each-on-grid way ps c few all =
-    each-has (λ (p : Point). T (gridPoint p)) true way ps c (λ some. all 0 some .on-grid)
+    each-has (λ (q : Candidate). T (gridPoint (point (q .x) (q .y)))) true way ps c (λ some. all 0 some .on-grid)
     (λ some h k l. moved-grid-point _ (target-inside ps some few all (perimeterOf ps) (min c perContourLimit) k))

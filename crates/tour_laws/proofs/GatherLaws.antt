@@ -1,27 +1,24 @@
 -- The candidates of a card: each ends where it was pierced, what holds of each contour's holds of all, and on a fine
 -- card each lies near enough for every distance to be finite. Assumes nothing.
-use mathlib.Core.Bool.{Bool, true, false, cond}
+use mathlib.Core.Bool.{false}
 use mathlib.Core.Path.{_≡_, refl, sym, ap, _∙_, subst}
 use mathlib.Core.Logic.{_⊎_, inl, inr}
 use mathlib.Core.List.{List, [], _∷_, _++_}
 use Prim.Native.Nat.{ℕ, zero, suc, _≤_, _<_, min}
 use native.Mathlib.Omega.{arith}
-use lib.Dec.{eqb}
-use lib.Ieee.{Float, lt}
 use lib.ListN.{length, getD, List·getD-append, List·getD-eq-default}
 use lib.Seq.{getD-at}
 use Rattle.answer.specs.declared.Point.{Point}
 use Rattle.answer.specs.declared.CutDirection.{CutDirection}
 use Rattle.answer.specs.declared.Check.the-variants.{Fine}
 use Rattle.answer.proofs.RoomLaws.{any-default}
-use Rattle.fields.specs.Limits.{perContourLimit, vertexLimit}
+use Rattle.fields.specs.Limits.{vertexLimit}
 use Rattle.points.specs.Points.{point, nowhere}
 use Rattle.points.specs.Bad.{badPoint}
-use Rattle.points.specs.Numbers.{tiny}
 use Rattle.points.proofs.SizeLaws.{Near}
 use Rattle.candidates.specs.declared.Candidate.{Candidate}
-use Rattle.candidates.specs.Along.{perimeterOf, spot}
-use Rattle.candidates.specs.Generate.{candidateAt, blank, spaced, candidatesFrom, candidatesOf}
+use Rattle.candidates.specs.Generate.{blank, candidatesOf}
+use Rattle.candidates.proofs.CountLaws.{Closed, each-closed}
 use Rattle.candidates.proofs.SizeLaws.{outmost, each-near}
 use Rattle.closure.proofs.PairLaws.{lt-or, same-or}
 use Rattle.fields.specs.Layout.{contoursOf, perContourOf, asksGrid, vertexCountOf, vertexOffset}
@@ -59,35 +56,24 @@ ends-both : (l m : List Candidate) → EndsThere l → EndsThere m → EndsThere
 ends-both [] m h g = g
 ends-both (c ∷ l) m h g = ends-one c (l ++ m) (h 0) (ends-both l m (λ a. h (suc a)) g)
 
-ends-spaced : (grid : Bool) (way : CutDirection) (ps : List Point) (total : Float) (c k n : ℕ)
-    → EndsThere (spaced grid way ps total c k n)
-unfolding spaced
-ends-spaced grid way ps total c k zero = ends-none
-ends-spaced grid way ps total c k (suc n) =
-    ends-one _ (spaced grid way ps total c (suc k) n) refl (ends-spaced grid way ps total c (suc k) n)
-
-ends-from : (grid : Bool) (way : CutDirection) (v : Point) (ps : List Point) (c : ℕ)
-    → EndsThere (candidatesFrom grid way v ps c)
-unfolding candidatesFrom
-ends-from grid way v ps c = go (eqb c 1) (lt (perimeterOf ps) tiny)
+-- the candidates of a contour do: each is closed, and past their end there is nothing to leave
+pub ends-closed : (cs : List Candidate) {way : CutDirection}
+    → ((k : ℕ) → k < length cs → Closed way (getD cs k blank)) → EndsThere cs
+ends-closed cs all a = go (lt-or a (length cs))
   where
-    go : (b d : Bool)
-        → EndsThere (cond b (candidateAt way (spot v 0) ∷ [])
-        (cond d (candidateAt way (spot v 0) ∷ []) (spaced grid way ps (perimeterOf ps) c 0 c)))
-    go true d = ends-one _ [] refl ends-none
-    go false true = ends-one _ [] refl ends-none
-    go false false = ends-spaced grid way ps (perimeterOf ps) c 0 c
-
-ends-of : (grid : Bool) (way : CutDirection) (ps : List Point) (c : ℕ) → EndsThere (candidatesOf grid way ps c)
-unfolding candidatesOf
-ends-of grid way [] c = ends-none
-ends-of grid way (v ∷ more) c = ends-from grid way v (v ∷ more) (min c perContourLimit)
+    go : (a < length cs) ⊎ (length cs ≤ a) → leaving (getD cs a absent) ≡ pierced (getD cs a absent)
+    go (inl h) =
+        let c = all a h in
+        subst (λ (q : Candidate). leaving q ≡ pierced q) (any-default cs a blank absent h)
+        (λ i. record { x = c .same-x i; y = c .same-y i })
+    go (inr h) = rw (List·getD-eq-default cs absent {n = a} h)
 
 pub ends-gathered : (s : List ℕ) (n : ℕ) → EndsThere (gathered s n)
 unfolding gathered offersOf
 ends-gathered s zero = ends-none
 ends-gathered s (suc n) =
-    ends-both (gathered s n) (offersOf s n) (ends-gathered s n) (ends-of (asksGrid s) (wayOf s n) (outlineOf s n) _)
+    ends-both (gathered s n) (offersOf s n) (ends-gathered s n)
+    (ends-closed (offersOf s n) (each-closed (asksGrid s) (wayOf s n) (outlineOf s n) _))
 
 -- ---- what holds of each contour's candidates holds of the card's
 
