@@ -1,6 +1,8 @@
 // The words that every part shares: what a refusal is, a point, what a contour is and which way it is
 // cut, a lookup's answer, a count's. The definitions that say which of several faults is told, and where,
 // are in specs/, with the laws that say exactly when; and rooms, of which the front is written.
+#![tactic(auto)]
+
 ghost use Rattle.std.specs.Prelude.{◌≡◌};
 ghost use Rattle.answer.specs.Code.{code_of};
 

@@ -1,6 +1,8 @@
 // Blocks of 512 bytes, the form that cards and stores share: numbers in a slice of bytes, the lowest byte first,
 // how a block starts, its check, and runs of zeros. Every question is answered on any bytes and at any place: a byte past the
 // end reads 0.
+#![tactic(auto)]
+
 ghost use Rattle.std.specs.Prelude.{◌≡◌, true, ◌+◌, ◌≤◌, ◌<◌, length};
 ghost use Rattle.std.specs.Float.{binary64};
 ghost use Rattle.std.specs.Float.Ieee.{of_bits};

@@ -1,5 +1,7 @@
 // Holding bridges: stretches of a contour that stay uncut, so that its part does not tip up. From a contour, a width and the centres along its
 // way, each bridge's start, end and middle, the edge that the middle is on, and the centre's place on that edge.
+#![tactic(auto)]
+
 ghost use Rattle.std.specs.Prelude.{◌≡◌, ◌/◌, ◌≤◌, length};
 ghost use Rattle.answer.specs.Room.{padded};
 ghost use Rattle.fields.specs.Limits.{vertex_limit};

@@ -1,4 +1,6 @@
 // Where on a contour's boundary, or on the grid beside it, the beam may pierce, and which way round the contour is cut.
+#![tactic(auto)]
+
 ghost use Rattle.std.specs.Prelude.{◌≡◌, ◌≤◌, min, [], ◌∷◌, slice_index_or};
 ghost use Rattle.fields.specs.Limits.{per_contour_limit};
 ghost use Rattle.points.specs.Points.{points, nowhere};

@@ -1,5 +1,7 @@
 // When a card goes back: the first fault of any bytes, with its place; and which contours its pairs name. What a card's fields say
 // stands in the crate `fields`.
+#![tactic(auto)]
+
 ghost use Rattle.std.specs.Prelude.{◌≡◌, false, get_or, ◌+◌, ◌*◌, ◌<◌, ◌≤◌};
 ghost use Rattle.answer.specs.declared.Check.TheVariants.{Fine};
 ghost use Rattle.answer.specs.declared.Found.TheVariants.{Absent};

@@ -1,5 +1,7 @@
 // Where pairs of positions lead: one flag for each ordered pair of contours, closed under
 // reachability, and the lowest position on a cycle read off the diagonal.
+#![tactic(auto)]
+
 ghost use Rattle.std.specs.Prelude.{true, [], ◌∷◌, ◌≡◌, ◌<◌, ◌≤◌, min};
 ghost use Rattle.answer.specs.Lowest.{lowest};
 ghost use Rattle.closure.specs.Limits.{contour_limit};

@@ -1,4 +1,6 @@
 // Distances, the closest point of a polygon, the length of all rapid moves, and what a sequence costs.
+#![tactic(auto)]
+
 ghost use Rattle.std.specs.Prelude.{◌≡◌, ◌/◌, ◌<◌, length, slice_index_or};
 ghost use Rattle.points.specs.Points.{points, no_ends, legs};
 ghost use Rattle.cost.specs.Distance.{two_points, point_distance_sq_of, point_distance_of};

@@ -1,5 +1,7 @@
 // Reads standard input to its end and writes the list of the card on it to standard output. Of an input longer than any card's what
 // comes after the first byte too many is dropped: its refusal needs no more.
+#![tactic(auto)]
+
 use fields::CARD_BYTES;
 
 // One byte more than the longest card has.

@@ -1,5 +1,7 @@
 // A card that arrives in pieces, in a byte room that the caller lends to each call; the first asking is the end. The state goes in
 // and comes back by value, and each call decides its answer whatever the state says.
+#![tactic(auto)]
+
 ghost use Rattle.std.specs.Prelude.{◌≡◌, ◌≤◌, min, length};
 ghost use Rattle.fields.specs.Limits.{card_bytes};
 ghost use Rattle.feed.specs.Feed.{begun, taken_of, filled, stored, add_of, reply, ask_of};

@@ -1,5 +1,7 @@
 // A card's fields: where each stands, and what it reads on any bytes: a byte past the end reads 0. What they say is worth asking once `card::check`
 // finds nothing wrong.
+#![tactic(auto)]
+
 ghost use Rattle.std.specs.Prelude.{◌≡◌, ◌+◌, ◌<◌, min, length};
 ghost use Rattle.block.specs.Field.{byte_at, u32_at};
 ghost use Rattle.fields.specs.Layout.{payload, version_of, is_two, job_of, contours_of, pairs_of, per_contour_of, passes_of, move_limit_of, home_offset, exterior_of, interior_of, grid_of, asks_grid, pair_size, id_of, tag_of, vertex_count_of, type_of, part_of, copy_of, vertex_offset, pair_offset, before_id_of, before_tag_of, after_id_of, after_tag_of};

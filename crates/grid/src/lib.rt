@@ -1,4 +1,6 @@
 // The move to the grid of 1/1024 mm that a version 2 card may ask for: the grid point nearest to a coordinate.
+#![tactic(auto)]
+
 ghost use Rattle.std.specs.Prelude.{◌≡◌, ◌^◌, ◌≤◌, true};
 ghost use Rattle.std.specs.Float.Ieee.{lt};
 ghost use Rattle.points.specs.Numbers.{zero64};

@@ -1,4 +1,6 @@
 // The questions on a list of pairs, each of which puts one contour before another.
+#![tactic(auto)]
+
 ghost use Rattle.std.specs.Prelude.{◌≡◌, ◌&&◌, eqb, ◌-◌, ◌*◌, ◌≤◌, ◌<◌, length, replicate};
 ghost use Rattle.answer.specs.declared.Check.{Check};
 ghost use Rattle.closure.specs.Limits.{contour_limit, pair_limit};

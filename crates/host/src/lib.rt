@@ -1,6 +1,8 @@
 // What C and Rust hosts call: the card's check, its tour, where a candidate is, a card fed in pieces, and the bridges of a contour. Each
 // answers one number, 0 or the refusal's number times 2^32 plus its place, and tells the rest through lent numbers that a refusal keeps, but
 // for a feed's state, which an asking ends unless it is refused for the byte room.
+#![tactic(auto)]
+
 ghost use Rattle.std.specs.Prelude.{◌≡◌, ◌*◌, ◌^◌, ◌<◌, ◌≤◌, length, take};
 ghost use Rattle.std.proofs.lemmas.List.Edits.{sets};
 ghost use Rattle.answer.specs.declared.Check.TheVariants.{Refused};

@@ -1,5 +1,7 @@
 // Constrained 2-opt: other candidates of a contour, then stretches of the tour the other way round.
 // Each trial counts one, and the search stops where one more would pass the limit.
+#![tactic(auto)]
+
 ghost use Rattle.std.specs.Prelude.{◌≡◌, false, ◌&&◌, [], ◌+◌, ◌-◌, ◌≤◌, ◌<◌, ◌^◌, length, set};
 ghost use Rattle.table.specs.Evaluate.{length_of};
 ghost use Rattle.closure.specs.Limits.{contour_limit};

@@ -1,6 +1,8 @@
 // A card prepared for the search: all its candidates, contour after contour, with the contour that each belongs to and the number of
 // each contour's first; how far each is from home; and the pairs as positions. Every question takes the card as any bytes; a card whose
 // head asks for more than can be held has no contours here.
+#![tactic(auto)]
+
 ghost use Rattle.std.specs.Prelude.{◌≡◌, [], min};
 ghost use Rattle.fields.specs.Limits.{vertex_limit};
 ghost use Rattle.table.specs.Distances.{homed};

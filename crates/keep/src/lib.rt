@@ -1,5 +1,7 @@
 // Whether an order of positions keeps to the pairs, and whether all that must come before a position has been visited: the two questions that
 // the searches ask in every trial, on positions held as bytes.
+#![tactic(auto)]
+
 ghost use Rattle.std.specs.Prelude.{◌≡◌, ◌<◌, length, get_or};
 ghost use Rattle.keep.specs.Keep.{kept_at, keeps_pairs, ready_by, ready_in};
 ghost use Rattle.keep.specs.Code.{RanksOf};

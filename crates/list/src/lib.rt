@@ -1,4 +1,6 @@
 // A card's list as a text: the stops of its tour, one to a line, or the one line of a refusal; and that text on standard output.
+#![tactic(auto)]
+
 ghost use Rattle.std.specs.Prelude.{◌≡◌, ◌≤◌, min, length, take};
 ghost use Rattle.answer.specs.declared.Check.TheVariants.{Fine};
 ghost use Rattle.card.specs.Verdict.{check_of};

@@ -1,5 +1,7 @@
 // Points and edges out of a flat list of numbers, which numbers can be coordinates, and distances: total on every float, for the questions of `cost`
 // and for the search.
+#![tactic(auto)]
+
 ghost use Rattle.std.specs.Prelude.{◌≡◌, get_or};
 ghost use Rattle.points.specs.Points.{points, nowhere, no_ends, edges};
 ghost use Rattle.points.specs.Bad.{bad_number, bad_point, first_bad};

@@ -1,6 +1,8 @@
 // Test doors: inner functions under plain names for C and Rust, for comparisons and speed runs only. A door forwards, and
 // promises what the function behind it promises. One that can refuse answers 0 and writes, or answers the refusal as one
 // number and keeps all it is lent.
+#![tactic(auto)]
+
 ghost use Rattle.std.specs.Prelude.{◌≡◌, []};
 ghost use Rattle.probe.specs.Told.{root_code, root_or, length_code, length_or, closest_code, nearest_or, count_code, count_or, verdict_code, kind_of, preference_of, way_of, asked_of, nth_of, place_of, fine_or};
 ghost use Rattle.root.specs.Root.{sqrt_of, root_of};

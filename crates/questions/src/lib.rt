@@ -1,5 +1,7 @@
 // Questions on a card: how long a given order is, the start that no pair binds, which candidate a number is, and where it is. The card's
 // own refusals come first.
+#![tactic(auto)]
+
 ghost use Rattle.std.specs.Prelude.{◌≡◌, ◌+◌, ◌-◌, leb, get_or};
 ghost use Rattle.answer.specs.declared.Check.TheVariants.{Fine};
 ghost use Rattle.card.specs.Verdict.{check_of};

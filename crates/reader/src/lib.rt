@@ -1,6 +1,8 @@
 // The thin reader: a slice and a place in it. Its functions take the struct apart and leave the work to a function on the slice and
 // the number. A field is read at any place: a byte past the end reads 0, and the place after a field is never beyond the end. A reader
 // that goes from field to field walks a card's head, its contours and its pairs, in file order.
+#![tactic(auto)]
+
 ghost use Rattle.std.specs.Prelude.{◌≡◌, ◌+◌, ◌*◌, ◌-◌, ◌≤◌, min, length};
 ghost use Rattle.fields.specs.Limits.{vertex_limit};
 ghost use Rattle.fields.specs.Layout.{grid_of};

@@ -1,5 +1,7 @@
 // Runs over the fixed list of cards in data/ and writes the list of each; what is due was made from the original's answers. Each card
 // stands after its length, a number of four bytes.
+#![tactic(auto)]
+
 ghost use Rattle.io.specs.Counts.{IsPrefixLen};
 
 use fields::CARD_BYTES;

@@ -1,6 +1,8 @@
 // The square root of IEEE 754, worked out from the number's bits: correctly rounded, the same bits everywhere.
 // A guess from a table gives the first 27 digits of the significand's root and is tested by squares; one exact division gives 27 more.
 // Where the test fails, which no input has been seen to do, the digits are found one by one.
+#![tactic(auto)]
+
 mod rows;
 
 ghost use Rattle.std.specs.Prelude.{◌≡◌, false, ◌+◌, ◌*◌, ◌/◌, ◌^◌, ◌≤◌, ◌<◌};

@@ -1,4 +1,6 @@
 // Where a search begins: step by step to the nearest candidate of a contour that is ready.
+#![tactic(auto)]
+
 ghost use Rattle.std.specs.Prelude.{◌≡◌, [], ◌-◌};
 ghost use Rattle.closure.specs.Limits.{contour_limit};
 ghost use Rattle.table.specs.Each.{each};

@@ -1,4 +1,6 @@
 // The distances between candidates, and how long a tour over them is.
+#![tactic(auto)]
+
 ghost use Rattle.std.specs.Prelude.{◌≡◌, true, cond, ◌++◌, ◌*◌, ◌≤◌, ◌<◌, get_or, take, drop};
 ghost use Rattle.std.proofs.Math.Seq.{paste};
 ghost use Rattle.std.specs.Float.{nan};

@@ -1,4 +1,6 @@
 // Texts and numbers put on a page, a lent slice of bytes, one after the other and as far as the page reaches.
+#![tactic(auto)]
+
 ghost use Rattle.std.specs.Prelude.{◌≡◌, ◌++◌};
 ghost use Rattle.text.specs.Page.{paged, put_byte, put};
 ghost use Rattle.text.specs.Text.{decimal_of, hex_of};
