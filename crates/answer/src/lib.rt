@@ -7,56 +7,56 @@ ghost use Rattle.std.specs.Prelude.{◌≡◌};
 ghost use Rattle.answer.specs.Code.{code_of};
 
 // Why something goes back: the number of the fault and its place.
-#[derive(Drop)]
+#[derive(Clone, Copy)]
 pub struct Refusal {
     pub number: u32,
     pub place: usize,
 }
 
 // Nothing is wrong, or what is.
-#[derive(Drop)]
+#[derive(Clone, Copy)]
 pub enum Check {
     Fine,
     Refused(Refusal),
 }
 
 // What a lookup finds: the place, or that there is none.
-#[derive(Drop)]
+#[derive(Clone, Copy)]
 pub enum Found {
     At(usize),
     Absent,
 }
 
 // A count, or why there is none.
-#[derive(Drop)]
+#[derive(Clone, Copy)]
 pub enum Count {
     Is(usize),
     Refused(Refusal),
 }
 
 // A point of the sheet, in millimetres.
-#[derive(Drop)]
+#[derive(Clone, Copy)]
 pub struct Point {
     pub x: f64,
     pub y: f64,
 }
 
 // An outline of a part, or a hole in one.
-#[derive(Drop)]
+#[derive(Clone, Copy)]
 pub enum ContourType {
     Exterior,
     Interior,
 }
 
 // Which way round a contour is cut.
-#[derive(Drop)]
+#[derive(Clone, Copy)]
 pub enum CutDirection {
     Ccw,
     Cw,
 }
 
 // Which way round is asked for. Auto leaves it to the contour's type.
-#[derive(Drop)]
+#[derive(Clone, Copy)]
 pub enum CutDirectionPreference {
     Ccw,
     Cw,

@@ -24,7 +24,7 @@ pub const BRIDGES: usize = 16;
 const MARKS: usize = VERTICES + 1;
 
 // A stretch that stays uncut: where it starts, ends and has its middle, the edge that the middle is on, and how far along that edge the centre is.
-#[derive(Drop)]
+#[derive(Clone, Copy)]
 pub struct Bridge {
     pub start: Point,
     pub end: Point,
@@ -34,7 +34,7 @@ pub struct Bridge {
 }
 
 // A contour's bridges, the first `count` of the items, or why there are none.
-#[derive(Drop)]
+#[derive(Clone, Copy)]
 pub struct Bridges {
     pub check: Check,
     pub items: [Bridge; BRIDGES],

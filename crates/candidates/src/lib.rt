@@ -15,7 +15,7 @@ use points::{Ends, TINY};
 
 // A place where the beam may pierce: the point, where the beam stands after the cut, the vertex at which the edge starts that
 // the point was found on, and which way round the contour is cut.
-#[derive(Drop)]
+#[derive(Clone, Copy)]
 pub struct Candidate {
     pub x: f64,
     pub y: f64,
@@ -26,7 +26,7 @@ pub struct Candidate {
 }
 
 // A contour's candidates: the first `count` of the items.
-#[derive(Drop)]
+#[derive(Clone, Copy)]
 pub struct Candidates {
     pub items: [Candidate; PER_CONTOUR],
     pub count: usize,
@@ -34,14 +34,14 @@ pub struct Candidates {
 
 // A place found on a contour's boundary, or moved from there to the grid, and the vertex at which the edge starts that it was
 // found on.
-#[derive(Drop)]
+#[derive(Clone, Copy)]
 pub struct Spot {
     pub point: Point,
     pub vertex: usize,
 }
 
 // What is answered to a question: the candidates, or why there are none.
-#[derive(Drop)]
+#[derive(Clone, Copy)]
 pub struct Offered {
     pub check: Check,
     pub found: Candidates,

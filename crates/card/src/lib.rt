@@ -40,7 +40,7 @@ const STAGES: usize = 10;
 
 // A card's pairs as positions of contours, before and after in turn: the first count of the positions, the rest 0. They are all of
 // its pairs, or those before the written one at which the work stopped.
-#[derive(Drop)]
+#[derive(Clone, Copy)]
 pub struct Named {
     pub stopped: Found,
     pub positions: [u8; SEATS],
@@ -49,7 +49,7 @@ pub struct Named {
 
 // What a row of the table looks at, one after the other: each block's check, start or spare bytes, each contour's numbers or id, or
 // the points of home and of each contour.
-#[derive(Drop)]
+#[derive(Clone, Copy)]
 enum Asked {
     Checks,
     Starts,

@@ -15,14 +15,14 @@ use points::{Ends, HUGE, TINY};
 pub const MOST_PIERCES: usize = 1000;
 
 // A length, or why there is none.
-#[derive(Drop)]
+#[derive(Clone, Copy)]
 pub enum Measured {
     Is(f64),
     Refused(Refusal),
 }
 
 // A place on a polygon's boundary: the point, the vertex its edge starts at, and how far along the edge it is.
-#[derive(Drop)]
+#[derive(Clone, Copy)]
 pub struct Nearest {
     pub point: Point,
     pub vertex: usize,
@@ -30,14 +30,14 @@ pub struct Nearest {
 }
 
 // The closest place found so far, and its squared distance.
-#[derive(Drop)]
+#[derive(Clone, Copy)]
 pub struct Best {
     pub distance: f64,
     pub nearest: Nearest,
 }
 
 // The closest place, that there is none, or why the question goes back.
-#[derive(Drop)]
+#[derive(Clone, Copy)]
 pub enum Closest {
     At(Nearest),
     Nowhere,

@@ -11,7 +11,7 @@ use fields::CARD_BYTES;
 use tour::Toured;
 
 // How far a card has come: the bytes kept, whether there were more than the longest card has, whether it was asked about.
-#[derive(Drop)]
+#[derive(Clone, Copy)]
 pub struct Feed {
     pub kept: usize,
     pub over: bool,
@@ -19,14 +19,14 @@ pub struct Feed {
 }
 
 // What is said of a piece: the state behind it, and how many bytes are held or why it is refused.
-#[derive(Drop)]
+#[derive(Clone, Copy)]
 pub struct Fed {
     pub feed: Feed,
     pub answer: Count,
 }
 
 // What is said at the end: the state behind it, and the tour or why there is none.
-#[derive(Drop)]
+#[derive(Clone, Copy)]
 pub struct Asked {
     pub feed: Feed,
     pub answer: Toured,

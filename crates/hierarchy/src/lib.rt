@@ -15,14 +15,14 @@ use answer::{Check, Count, Found, Refusal};
 use closure::{CONTOURS, PAIRS};
 
 // Yes or no, or why neither.
-#[derive(Drop)]
+#[derive(Clone, Copy)]
 pub enum Verdict {
     Is(bool),
     Refused(Refusal),
 }
 
 // Pairs, two ids a pair: the first count pairs of the array, the rest 0.
-#[derive(Drop)]
+#[derive(Clone, Copy)]
 pub struct PairList {
     pub check: Check,
     pub ids: [u32; 2 * PAIRS],
@@ -30,7 +30,7 @@ pub struct PairList {
 }
 
 // Ids: the first count of the array, the rest 0.
-#[derive(Drop)]
+#[derive(Clone, Copy)]
 pub struct Ids {
     pub check: Check,
     pub ids: [u32; PAIRS],
@@ -38,7 +38,7 @@ pub struct Ids {
 }
 
 // Positions in order: the first count of the array, the rest 0.
-#[derive(Drop)]
+#[derive(Clone, Copy)]
 pub struct Order {
     pub check: Check,
     pub positions: [u32; CONTOURS],

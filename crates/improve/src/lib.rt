@@ -14,7 +14,7 @@ use closure::CONTOURS;
 
 // Where a search stands beside its tour: the length last accepted, whether this pass accepted a
 // trial, the trials so far, and whether the limit has ended the search.
-#[derive(Drop)]
+#[derive(Clone, Copy)]
 struct Progress {
     cost: f64,
     better: bool,
@@ -23,7 +23,7 @@ struct Progress {
 }
 
 // How a trial ended: whether it was accepted, and the length that counts from now on.
-#[derive(Drop)]
+#[derive(Clone, Copy)]
 struct Tried {
     cost: f64,
     accepted: bool,

@@ -25,7 +25,7 @@ const FIRSTS: usize = CONTOURS + 1;
 
 // What is held of a card: the first `count` items are its candidates, each with the contour that it belongs to, and of `first` the
 // first `contours` are the numbers of the contours' first candidates, with the count after them.
-#[derive(Drop)]
+#[derive(Clone, Copy)]
 pub struct Instance {
     pub items: [Candidate; CANDIDATES],
     pub owner: [u8; CANDIDATES],
@@ -36,7 +36,7 @@ pub struct Instance {
 
 // What every door reads of a card: what is held of it, the distances of its candidates from home, and of `pairs` the first `seats` are
 // its pairs as positions of contours, before and after in turn.
-#[derive(Drop)]
+#[derive(Clone, Copy)]
 pub struct Prepared {
     pub all: Instance,
     pub homes: [f64; CANDIDATES],
@@ -45,7 +45,7 @@ pub struct Prepared {
 }
 
 // A contour's vertices, two numbers each: the first `count` of the numbers.
-#[derive(Drop)]
+#[derive(Clone, Copy)]
 struct Outline {
     numbers: [f64; NUMBERS],
     count: usize,

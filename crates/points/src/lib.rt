@@ -20,7 +20,7 @@ pub const HUGE: f64 = 1.7976931348623157e308;
 pub const TINY: f64 = 1e-12;
 
 // Where something begins and where it ends: an edge of a polygon, or a leg of a sequence.
-#[derive(Drop)]
+#[derive(Clone, Copy)]
 pub struct Ends {
     pub start: Point,
     pub finish: Point,

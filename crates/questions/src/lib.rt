@@ -23,28 +23,28 @@ use instance::{Instance, Prepared};
 use table::ENTRIES;
 
 // The candidate asked for, or why there is none.
-#[derive(Drop)]
+#[derive(Clone, Copy)]
 pub enum Picked {
     Is(Candidate),
     Refused(Refusal),
 }
 
 // Where a candidate is: its contour, and its number within that contour.
-#[derive(Drop)]
+#[derive(Clone, Copy)]
 pub struct Local {
     pub contour: usize,
     pub within: usize,
 }
 
 // Where the candidate asked for is, or why there is none.
-#[derive(Drop)]
+#[derive(Clone, Copy)]
 pub enum Located {
     At(Local),
     Refused(Refusal),
 }
 
 // The stops of a start, the first count of the entries, or why there are none.
-#[derive(Drop)]
+#[derive(Clone, Copy)]
 pub struct Stops {
     pub check: Check,
     pub entries: [u8; CONTOURS],

@@ -16,14 +16,14 @@ use fields::{GRID_AT, PART_AT, PAYLOAD_AT, VERTICES};
 const COORDINATES: usize = 2 * VERTICES;
 
 // A slice and the place in it where the next field begins.
-#[derive(Drop)]
+#[derive(Clone, Copy)]
 pub struct Reader<'a> {
     pub src: &'a [u8],
     pub at: usize,
 }
 
 // How many bytes a field has.
-#[derive(Drop)]
+#[derive(Clone, Copy)]
 pub enum Width {
     One,
     Two,
@@ -32,7 +32,7 @@ pub enum Width {
 }
 
 // A field's value, and the place after it.
-#[derive(Drop)]
+#[derive(Clone, Copy)]
 pub struct Field {
     pub value: u64,
     pub after: usize,
@@ -135,7 +135,7 @@ pub fn read_field(s: &[u8], at: usize, width: Width) -> Field
 }
 
 // Four fields' values, and the place after the last.
-#[derive(Drop)]
+#[derive(Clone, Copy)]
 struct Walked {
     first: u64,
     second: u64,
@@ -168,7 +168,7 @@ fn read_four(s: &[u8], at: usize, a: Width, b: Width, c: Width, d: Width) -> Wal
 // ---- a card, in file order
 
 // A card's head: its fields as numbers, home's coordinates as the bits of theirs.
-#[derive(Drop)]
+#[derive(Clone, Copy)]
 pub struct Head {
     pub job: u64,
     pub contours: u64,
@@ -183,7 +183,7 @@ pub struct Head {
 }
 
 // A contour's fields before its vertices, and the place after them.
-#[derive(Drop)]
+#[derive(Clone, Copy)]
 pub struct ContourHead {
     pub id: u64,
     pub tag: u64,
@@ -194,7 +194,7 @@ pub struct ContourHead {
 }
 
 // The part that a contour belongs to, and which copy of that part.
-#[derive(Drop)]
+#[derive(Clone, Copy)]
 struct Group {
     part: u64,
     copy: u64,
@@ -202,7 +202,7 @@ struct Group {
 
 // A contour: its fields, and its vertices' coordinates as bits, x and y in turn, those without a vertex zero; its part
 // and its copy, zero in version 1.
-#[derive(Drop)]
+#[derive(Clone, Copy)]
 pub struct Contour {
     pub id: u64,
     pub tag: u64,
@@ -215,7 +215,7 @@ pub struct Contour {
 }
 
 // A pair: the id and the tag of the contour that comes before, and those of the one after it.
-#[derive(Drop)]
+#[derive(Clone, Copy)]
 pub struct Pair {
     pub before_id: u64,
     pub before_tag: u64,

@@ -14,7 +14,7 @@ ghost use Rattle.root.specs.Root.{sqrt_of, root_of};
 use answer::Refusal;
 
 // A root, or why there is none.
-#[derive(Drop)]
+#[derive(Clone, Copy)]
 pub enum Rooted {
     Is(f64),
     Refused(Refusal),

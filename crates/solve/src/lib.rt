@@ -5,7 +5,7 @@ ghost use Rattle.improve.specs.Code.{chart_of};
 ghost use Rattle.solve.specs.Solve.{end_in, Solved};
 
 // What is told of a tour: how many trials it took, and how long it is.
-#[derive(Drop)]
+#[derive(Clone, Copy)]
 pub struct Outcome {
     pub moves: u64,
     pub length: f64,

@@ -14,7 +14,7 @@ use points::HUGE;
 const FLAGS: usize = 256;
 
 // The nearest candidate so far, the contour that it belongs to, and how far it is.
-#[derive(Drop)]
+#[derive(Clone, Copy)]
 struct Choice {
     distance: f64,
     contour: u8,

@@ -18,7 +18,7 @@ use instance::Prepared;
 use solve::Outcome;
 
 // A tour that was found, or why there is none.
-#[derive(Drop)]
+#[derive(Clone, Copy)]
 pub enum Toured {
     Done(Outcome),
     Refused(Refusal),

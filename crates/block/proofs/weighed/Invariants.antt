@@ -1,0 +1,14 @@
+-- `block::weighed` meets its contract. Assumes nothing.
+use mathlib.Core.Path.{◌≡◌, refl, ◌∙◌}
+use Prim.Native.Nat.{◌≤◌, ◌*◌, ◌-◌}
+use native.Mathlib.Omega.{arith}
+use lib.ListN.{length, take}
+use Rattle.block.proofs.BlockLaws.{weigh_all, weigh-step, weight-bound}
+use Rattle.block.specs.Block.{check_offset, weigh}
+use Rattle.block.proofs.weighed.Given as goal
+
+abbrev pub invariant-loop-p : goal.invariant-loop-p
+invariant-loop-p l = (l.p ≤ length l.t) × (l.sum ≡ weigh 1 (take l.p l.t)) × (l.sum ≤ check_offset * 255 * l.p)
+
+abbrev pub decreases-loop-p : goal.decreases-loop-p
+decreases-loop-p l = length l.t - l.p

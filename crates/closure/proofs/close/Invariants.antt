@@ -1,0 +1,11 @@
+-- `closure::close` meets its contract. Assumes nothing.
+use Prim.Native.Nat.{◌-◌}
+use borrow.Author.Rules.{rules}
+use Rattle.closure.proofs.FlagLaws.{ClosedPart, closed_none, closed_more, closed_all}
+use Rattle.closure.proofs.close.Given as goal
+
+abbrev pub invariant-loop-k : goal.invariant-loop-k
+invariant-loop-k l = ClosedPart l.n l.k l.initial.flags l.flags
+
+abbrev pub decreases-loop-k : goal.decreases-loop-k
+decreases-loop-k l = l.n - l.k

@@ -1,0 +1,11 @@
+-- `closure::join_row` meets its contract. Assumes nothing.
+use Prim.Native.Nat.{◌-◌}
+use borrow.Author.Rules.{rules}
+use Rattle.closure.proofs.FlagLaws.{RowPart, row-none, row_more, row-joined, row_kept}
+use Rattle.closure.proofs.join_row.Given as goal
+
+abbrev pub invariant-loop-j : goal.invariant-loop-j
+invariant-loop-j l = RowPart l.n l.k l.i l.j l.initial.flags l.flags
+
+abbrev pub decreases-loop-j : goal.decreases-loop-j
+decreases-loop-j l = l.n - l.j
