@@ -1,0 +1,16 @@
+-- `cost::foot` meets its contract: the test on the squared length decides it. Assumes nothing.
+use Rattle.std.proofs.Common.{rules}
+use Rattle.cost.specs.Closest.{foot_of}
+use Rattle.cost.proofs.foot.Goals as goal
+
+pub returns-then-length_sq : goal.returns-then-length_sq
+unfolding foot_of
+returns-then-length_sq c = rw (← c.distance_sq-length_sq.ensures, c.if-length_sq.true)
+
+pub returns : goal.returns
+unfolding foot_of
+returns c =
+    rw (
+      ← c.distance_sq-length_sq.ensures,
+      c.if-length_sq.false,
+    )
