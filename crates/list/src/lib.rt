@@ -98,7 +98,7 @@ fn put_outcome(o: Outcome, page: &mut [u8], at: usize) -> usize
     ensures { paged result page.new ≡ put (outcome_lines o) (paged at page.old) }
 {
     let moves = text::put_number(page, at, b"MOVES ", o.moves);
-    let rapid = text::put(page, moves, b"\n_rapid ");
+    let rapid = text::put(page, moves, b"\nRAPID ");
     let length = text::put_hex(page, rapid, tour::bits_of(o.length));
     text::put(page, length, b"\n")
 }
