@@ -9,12 +9,10 @@ pub loop-i-init : goal.loop-i-init
 loop-i-init c = latest-none _ _
 
 pub loop-i-preserved-then-x-id : goal.loop-i-preserved-then-x-id
-loop-i-preserved-then-x-id c = let h =
-    c in latest_here _ _ _ _ h.loop-test.taken h.before.loop.inv c.if-x-id.true
+loop-i-preserved-then-x-id c = latest_here _ _ _ _ c.loop-i-test.true c.loop-i.invariant c.if-x-id.true
 
 pub loop-i-preserved : goal.loop-i-preserved
-loop-i-preserved c = let h =
-    c in latest_other _ _ _ _ h.loop-test.taken h.before.loop.inv c.if-x-id.false
+loop-i-preserved c = latest_other _ _ _ _ c.loop-i-test.true c.loop-i.invariant c.if-x-id.false
 
 pub returns : goal.returns
 returns c = latest_all _ _ _ _ c.loop-i-test.false c.loop-i.invariant

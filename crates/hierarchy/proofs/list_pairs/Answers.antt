@@ -14,11 +14,10 @@ pub loop-i-init : goal.loop-i-init
 loop-i-init c = (search rules, filled_none (2 * pair_limit))
 
 pub loop-i-preserved : goal.loop-i-preserved
-loop-i-preserved c = let h =
-    c in (
+loop-i-preserved c = (
       search rules,
-      copy_more (2 * pair_limit) _ _ _ h.loop-test.taken (search rules)
-          h.before.loop.inv.1,
+      copy_more (2 * pair_limit) _ _ _ c.loop-i-test.true (search rules)
+          c.loop-i.invariant.1,
     )
 
 pub returns : goal.returns

@@ -10,5 +10,4 @@ pub returns-then-w-eq1 : goal.returns-then-w-eq1
 returns-then-w-eq1 c = loosen_last _ _ _ _ c.requires.1 c.requires.0 c.if-w-eq1.true
 
 pub returns : goal.returns
-returns c = let g =
-    c in loosen-one _ _ _ _ g.pre.1 g.pre.0 _ c.less.ensures c.if-w-eq1.false
+returns c = loosen-one _ _ _ _ c.requires.1 c.requires.0 _ c.less.ensures c.if-w-eq1.false

@@ -19,14 +19,12 @@ loosen-count-requires c = (
 )
 
 pub loop-at-preserved-then-counts : goal.loop-at-preserved-then-counts
-loop-at-preserved-then-counts c = let h =
-    c in release_hit _ _ _ _ _ _ _ _ _
-    h.loop-test.taken h.before.loop.inv c.counts.ensures _ _ _ _
+loop-at-preserved-then-counts c = release_hit _ _ _ _ _ _ _ _ _
+    c.loop-at-test.true c.loop-at.invariant c.counts.ensures _ _ _ _
     c.wide32.ensures c.if-counts.true c.loosen-count.ensures
 
 pub loop-at-preserved : goal.loop-at-preserved
-loop-at-preserved c = let h =
-    c in release_miss _ _ _ _ _ _ _ _ _ h.loop-test.taken h.before.loop.inv
+loop-at-preserved c = release_miss _ _ _ _ _ _ _ _ _ c.loop-at-test.true c.loop-at.invariant
     c.counts.ensures c.if-counts.false
 
 pub returns : goal.returns

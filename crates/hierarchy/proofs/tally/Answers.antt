@@ -11,7 +11,7 @@ pub loop-at-init : goal.loop-at-init
 loop-at-init c = tally-none _ _
 
 pub offset_bounds-waits-k : goal.offset_bounds-waits-k
-offset_bounds-waits-k c = omega (arith, array-read-waits c)
+offset_bounds-waits-k c = omega (arith, (tally_low _ _ _ _ c.loop-at-test.true c.loop-at.invariant _ c.wide32-k.ensures (sym c.both_below.ensures ∙ c.if-both_below.true) (search rules)))
 
 pub bounds-waits-k : goal.bounds-waits-k
 bounds-waits-k c =
@@ -21,6 +21,11 @@ bounds-waits-k c =
 pub overflow_add-waits : goal.overflow_add-waits
 overflow_add-waits c =
     omega (arith, c.loop-at.invariant.small c.wide32-k.result)
+
+pub bounds-waits-k-then-both_below : goal.bounds-waits-k-then-both_below
+bounds-waits-k-then-both_below c =
+    tally_low _ _ _ _ c.loop-at-test.true c.loop-at.invariant _ c.wide32-k.ensures
+    (sym c.both_below.ensures ∙ c.if-both_below.true) (search rules)
 
 pub loop-at-preserved-then-both_below : goal.loop-at-preserved-then-both_below
 loop-at-preserved-then-both_below c =
