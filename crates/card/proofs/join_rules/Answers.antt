@@ -38,7 +38,7 @@ pub overflow_cast-positions : goal.overflow_cast-positions
 overflow_cast-positions c = omega (arith, c.loop-k.invariant.0, c.requires.few_contours)
 
 pub bounds-positions-count : goal.bounds-positions-count
-bounds-positions-count c = let h = (let i = c.loop-k.invariant in omega ( arith, i.3, joined_room c.args.card.now c.loop-k.k c.requires.few_contours c.requires.few_pairs (omega (arith, c, i.0)), )) in omega (arith, h)
+bounds-positions-count c = let i = c.loop-k.invariant in omega ( arith, i.3, joined_room c.args.card.now c.loop-k.k c.requires.few_contours c.requires.few_pairs (omega (arith, c, i.0)), )
 
 pub overflow_cast-positions-in-loop-k : goal.overflow_cast-positions-in-loop-k
 overflow_cast-positions-in-loop-k c = omega (
@@ -48,7 +48,7 @@ overflow_cast-positions-in-loop-k c = omega (
     )
 
 pub overflow_add-positions : goal.overflow_add-positions
-overflow_add-positions c = let h = (let i = c.loop-k.invariant in omega ( arith, i.3, joined_room c.args.card.now c.loop-k.k c.requires.few_contours c.requires.few_pairs (omega (arith, c, i.0)), )) in omega (arith, h)
+overflow_add-positions c = let i = c.loop-k.invariant in omega ( arith, i.3, joined_room c.args.card.now c.loop-k.k c.requires.few_contours c.requires.few_pairs (omega (arith, c, i.0)), )
 
 -- there is room for one more pair
 pub bounds-positions-count-in-loop-k : goal.bounds-positions-count-in-loop-k
@@ -61,7 +61,7 @@ bounds-positions-count-in-loop-k c = let i = c.loop-k.invariant in
     )
 
 pub overflow_add-count : goal.overflow_add-count
-overflow_add-count c = let h = (let i = c.loop-k.invariant in omega ( arith, i.3, joined_room c.args.card.now c.loop-k.k c.requires.few_contours c.requires.few_pairs (omega (arith, c, i.0)), )) in omega (arith, h)
+overflow_add-count c = let i = c.loop-k.invariant in omega ( arith, i.3, joined_room c.args.card.now c.loop-k.k c.requires.few_contours c.requires.few_pairs (omega (arith, c, i.0)), )
 
 pub overflow_add-k-in-loop-k : goal.overflow_add-k-in-loop-k
 overflow_add-k-in-loop-k c = omega arith
