@@ -73,7 +73,7 @@ fn keep(kept: usize, held: &mut [u8], piece: &[u8]) -> usize
     if n == 0 {
         return 0;
     }
-    bytes::copy(&piece[..n], &mut held[kept..]);
+    held[kept..kept + n].copy_from_slice(&piece[..n]);
     n
 }
 

@@ -2,12 +2,12 @@
 // Each trial counts one, and the search stops where one more would pass the limit.
 #![tactic(auto)]
 
-ghost use Rattle.std.specs.Prelude.{◌≡◌, false, ◌&&◌, [], ◌+◌, ◌-◌, ◌≤◌, ◌<◌, ◌^◌, length, set};
+ghost use Rattle.std.specs.Prelude.{◌≡◌, false, ◌&&◌, [], ◌+◌, ◌-◌, ◌≤◌, ◌<◌, ◌^◌, ◌++◌, length, set, take, drop, reverse};
 ghost use Rattle.table.specs.Evaluate.{length_of};
 ghost use Rattle.closure.specs.Limits.{contour_limit};
 ghost use Rattle.keep.specs.Keep.{keeps_pairs};
 ghost use Rattle.table.specs.Each.{each};
-ghost use Rattle.improve.specs.Search.{owner_of, contours, shorter, at_limit, alternative, turn, reversed, begun, repeated, searched};
+ghost use Rattle.improve.specs.Search.{owner_of, contours, shorter, at_limit, alternative, turn, slice, reversed, begun, repeated, searched};
 ghost use Rattle.improve.specs.Code.{Judged, Taken, Reached, going, state_of, chart_of};
 
 use closure::CONTOURS;
@@ -263,6 +263,14 @@ fn weigh(
     }
 }
 
+// A stretch of the tour, from one place up to another, the other way round.
+fn reverse(tour: &mut [u8], from: usize, to: usize)
+    requires { (from ≤ to) × (to ≤ length tour.old) }
+    ensures { tour.new ≡ take from tour.old ++ (reverse (slice from to tour.old) ++ drop to tour.old) }
+{
+    tour[from..to].reverse();
+}
+
 // Tries the tour with its stretch from i + 1 to j reversed.
 fn try_reversal(
     home: &[f64],
@@ -285,12 +293,12 @@ fn try_reversal(
 {
     let from = i + 1;
     let to = j + 1;
-    bytes::reverse(tour, from, to);
+    reverse(tour, from, to);
     let r = weigh(home, table, t, owner, pairs, tour, cost);
     if r.accepted {
         return r;
     }
-    bytes::reverse(tour, from, to);
+    reverse(tour, from, to);
     r
 }
 

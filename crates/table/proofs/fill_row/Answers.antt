@@ -20,7 +20,7 @@ pub byte_at-k-requires : goal.byte_at-k-requires
 byte_at-k-requires c = tt
 
 pub loop-b-init : goal.loop-b-init
-loop-b-init c = (omega arith, refl, begun_with c.args.known _ _ c.requires.t_bound.1.1)
+loop-b-init c = (omega arith, refl, begun_with c.args.known _ _ c.requires.known_le_t.1)
 
 pub offset_bounds-items-b : goal.offset_bounds-items-b
 offset_bounds-items-b c = omega arith
@@ -52,7 +52,7 @@ loop-b-preserved c =
       omega arith,
       simp length-set c.loop-b.invariant.1,
       row_more _ _ _ _ _ _ _ c.loop-b.invariant.2 _ _ _ c.requires.t_le_candidate_limit.1
-          c.loop-b-test.true c.requires.t_bound.0 c.byte_at-k.ensures
+          c.loop-b-test.true c.requires.t_bound c.byte_at-k.ensures
           c.byte_at.ensures c.leg.ensures,
     )
 

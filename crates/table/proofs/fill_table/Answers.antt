@@ -73,24 +73,18 @@ slice_bounds-fill_row-end c = omega arith
 pub fill_row-requires : goal.fill_row-requires
 fill_row-requires c =
     let s = c.args in
-    let items = s.t2 in
+    let items = s.items in
     let h = c.loop-a in
     let asked = c.is_closed-closed in
     let known = c.known_in-known in
     let some = known_some (h.closed && asked.result) h.a known.result known.ensures in
-    let copy = c.copy_known in (
-      (omega arith, omega arith),
-      (
-        simp (length-take, length-drop) (omega (arith, row_fits h.a s.t s.t (omega arith))),
-        (
+    let copy = c.copy_known in record { t_le_candidate_limit = (omega arith, omega arith); t_bound = simp (length-take, length-drop) (omega (arith, row_fits h.a s.t s.t (omega arith))); known_le_t = (
           omega (arith, some.0),
           row-begun items s.t s.owner.now h.a known.result s.room.now h.room
-              copy.new.0 h.invariant.2 (omega arith) some.0
+              copy.new.room h.invariant.2 (omega arith) some.0
               (λ k. closed_more items h.closed asked.result h.a h.invariant.3 asked.ensures (some.1 k))
               (omega arith) copy.ensures,
-        ),
-      ),
-    )
+        ) }
 
 pub overflow_add-a : goal.overflow_add-a
 overflow_add-a c = omega arith
@@ -101,7 +95,7 @@ loop-a-smaller c = omega arith
 pub loop-a-preserved : goal.loop-a-preserved
 loop-a-preserved c =
     let s = c.args in
-    let items = s.t2 in
+    let items = s.items in
     let h = c.loop-a in
     let asked = c.is_closed-closed in
     let closed = closed_more items h.closed asked.result h.a h.invariant.3 asked.ensures in
@@ -112,8 +106,8 @@ loop-a-preserved c =
       omega arith,
       omega (arith, c.room-in-loop-a-1.given.1, c.room-1.given, h.invariant.1),
       row_done items s.t s.owner.now h.a known.result s.room.now h.room
-          copy.new.0 h.invariant.2 (omega arith) some.0 (λ k. closed (some.1 k)) (omega arith) copy.ensures
-          row.new.0 row.ensures,
+          copy.new.room h.invariant.2 (omega arith) some.0 (λ k. closed (some.1 k)) (omega arith) copy.ensures
+          row.new.room row.ensures,
       closed,
     )
 

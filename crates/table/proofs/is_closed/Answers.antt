@@ -6,7 +6,7 @@ use Rattle.points.specs.Points.{point}
 use Rattle.table.proofs.is_closed.Goals as goal
 
 pub returns-then-same_bits : goal.returns-then-same_bits
-returns-then-same_bits c = ap₂ point (c.same_bits.ensures c.if-same_bits.true) (c.same_bits-then-same_bits.ensures told)
+returns-then-same_bits c told = ap₂ point (c.same_bits.ensures c.if-same_bits.true) (c.same_bits-then-same_bits.ensures told)
 
 pub returns : goal.returns
-returns c = absurd (true≢false (sym told))
+returns c told = absurd (true≢false (sym told))

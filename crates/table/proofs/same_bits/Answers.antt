@@ -34,8 +34,8 @@ pub float_to_bits-result-then-x-y : goal.float_to_bits-result-then-x-y
 float_to_bits-result-then-x-y c = right-real c.args.x c.args.y c.if-x-y.true
 
 pub returns-then-x-y : goal.returns-then-x-y
-returns-then-x-y c =
+returns-then-x-y c told =
     by_bits c.args.x c.args.y (rw c.well_formed.0.1 tt) (rw c.well_formed.1.0.1 tt) (eqb-true _ _ told)
 
 pub returns : goal.returns
-returns c = absurd (true≢false (sym told))
+returns c told = absurd (true≢false (sym told))
