@@ -112,7 +112,6 @@ met_append owner x (y ∷ a) b = let e : met owner x (a ++ b) ≡ met owner x a 
     met_append owner x a b in omega arith
 
 met_rev : (owner : List ℕ) (x : ℕ) (b : List ℕ) → met owner x (reverse b) ≡ met owner x b
-unfolding reverse
 met_rev owner x [] = refl
 met_rev owner x (y ∷ b) =
     let e : reverse (y ∷ b) ≡ reverse b ++ (y ∷ []) = reverse-append (y ∷ []) b in

@@ -67,7 +67,7 @@ loop-a-preserved c =
           c.at_limit.ensures _ _ _
           c.if-at_limit.false refl
           c.try_candidate-r.ensures),
-      c.try_candidate-r.auto.1.1.1.0 ∙ l.invariant.1,
+      c.try_candidate-r.auto.tour ∙ l.invariant.1,
       omega arith,
       omega arith,
       omega arith,

@@ -42,7 +42,7 @@ try_reversal-tried-requires c =
     omega (
       arith,
       c.search.invariant,
-      c.turns-r.auto.1.1.1.1.1.0,
+      c.turns-r.auto.tour,
       c.loop-i.invariant,
       c.loop-j.invariant,
     )
@@ -78,7 +78,7 @@ loop-j-preserved c =
       carry _ _ _ _ _ _ l.invariant.0 c.loop-j-test.true
           (reversal_goes _ _ _ _ _ _ _ _ _ c.at_limit.ensures _ _
           c.if-at_limit.false c.try_reversal-tried.ensures),
-      c.try_reversal-tried.auto.1.1.1.1.1.0 ∙ l.invariant.1,
+      c.try_reversal-tried.auto.tour ∙ l.invariant.1,
       omega arith,
       omega arith,
       omega arith,
@@ -110,7 +110,7 @@ search-preserved c =
     let l = c.loop-i in (
       pass_again _ _ _ _ _ _ _ _ _ s.invariant.0 c.search-test.true _ _ (rw c.search.invariant.1 at c.turns-r.ensures.result_after)
           c.if-r.false _ _ _ _ (omega arith) _ l.invariant.0 (c.if-not-better.false),
-      l.invariant.1 ∙ c.turns-r.auto.1.1.1.1.1.0 ∙ s.invariant.1,
+      l.invariant.1 ∙ c.turns-r.auto.tour ∙ s.invariant.1,
       omega arith,
       omega arith,
     )
@@ -123,7 +123,7 @@ returns-after-search c = reached _ _ (repeat_over _ _ _ _ _ _ _ _ _ c.search.inv
 
 pub shape_of-tour-then-r : goal.shape_of-tour-then-r
 shape_of-tour-then-r c =
-    c.turns-r.auto.1.1.1.1.1.0
+    c.turns-r.auto.tour
     ∙ c.search.invariant.1
 
 pub returns-then-r : goal.returns-then-r
@@ -136,7 +136,7 @@ returns-then-r c =
 pub shape_of-tour-then-at_limit : goal.shape_of-tour-then-at_limit
 shape_of-tour-then-at_limit c =
     c.loop-j.invariant.1 ∙ c.loop-i.invariant.1
-    ∙ c.turns-r.auto.1.1.1.1.1.0
+    ∙ c.turns-r.auto.tour
     ∙ c.search.invariant.1
 
 pub returns-then-at_limit : goal.returns-then-at_limit
@@ -149,7 +149,7 @@ returns-then-at_limit c =
 
 pub shape_of-tour-then-not-better : goal.shape_of-tour-then-not-better
 shape_of-tour-then-not-better c =
-    c.loop-i.invariant.1 ∙ c.turns-r.auto.1.1.1.1.1.0
+    c.loop-i.invariant.1 ∙ c.turns-r.auto.tour
     ∙ c.search.invariant.1
 
 pub returns-then-not-better : goal.returns-then-not-better

@@ -22,7 +22,7 @@ turn_at-r-requires c = omega (arith, c.loop-p.invariant.1)
 
 pub shape_of-tour-then-r : goal.shape_of-tour-then-r
 shape_of-tour-then-r c =
-    c.turn_at-r.auto.1.1.1.1.1.0
+    c.turn_at-r.auto.tour
     ∙ c.loop-p.invariant.1
 
 pub returns-then-r : goal.returns-then-r
@@ -41,7 +41,7 @@ loop-p-preserved c =
     let l = c.loop-p in (
       carry _ _ _ _ _ _ l.invariant.0 c.loop-p-test.true
           (goes_on _ _ _ c.turn_at-r.ensures.result_after c.if-r.false),
-      c.turn_at-r.auto.1.1.1.1.1.0 ∙ l.invariant.1,
+      c.turn_at-r.auto.tour ∙ l.invariant.1,
       omega arith,
       omega arith,
     )

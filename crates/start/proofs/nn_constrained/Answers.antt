@@ -1,7 +1,8 @@
 -- `start::nn_constrained` meets its contract. The invariant: the steps still to come lead from the tour written so far
 -- to where all of them lead from nothing; the room's rest is as it was. Assumes nothing.
+use mathlib.Core.Bool.{not}
 use mathlib.Core.List.{List, [], ◌∷◌, ◌++◌}
-use mathlib.Core.Path.{◌≡◌, refl, sym}
+use mathlib.Core.Path.{◌≡◌, refl, sym, ap}
 use Prim.Native.Nat.{ℕ, ◌<◌, ◌-◌, ◌≤◌}
 use native.Mathlib.Omega.{arith}
 use borrow.Author.Rules.{rules}
@@ -45,7 +46,7 @@ loop-step-preserved-then-not-choice c =
         carry _ _ _ _ _ _ l.invariant.0.2 c.loop-step-test.true
             (step_waits _ _ _ _ _ _ _ h
             (c.choose-choice.ensures _ _ (way-told _ _ _ _ _ _ _ _ _ h l.invariant.5) refl refl l.invariant.0.1)
-            (c.if-not-choice.true)),
+            (not-true _ c.if-not-choice.true)),
       ),
       l.invariant.1,
       omega arith,
@@ -59,7 +60,7 @@ pub bounds-tour-made : goal.bounds-tour-made
 bounds-tour-made c = omega (arith, c.loop-step.invariant.1)
 
 pub bounds-visited-choice : goal.bounds-visited-choice
-bounds-visited-choice c = omega (arith, c.choose-choice.type-inv)
+bounds-visited-choice c = omega (arith, c.choose-choice.type_inv)
 
 pub overflow_add-made : goal.overflow_add-made
 overflow_add-made c = omega arith
@@ -72,7 +73,7 @@ loop-step-preserved c =
     let l = c.loop-step in
     let h : l.made < length l.tour = omega (arith, l.invariant.1) in
     let k = c.choose-choice.result.contour in
-    let room : k < length l.visited = omega (arith, l.invariant.4, c.choose-choice.type-inv) in (
+    let room : k < length l.visited = omega (arith, l.invariant.4, c.choose-choice.type_inv) in (
       (
         l.invariant.0.0 ++ (k ∷ []),
         flags_more _ _ k room l.invariant.0.1,
@@ -80,7 +81,7 @@ loop-step-preserved c =
             (step_goes _ _ _ _ _ _ _ h
             (c.choose-choice.ensures _ _ (way-told _ _ _ _ _ _ _ _ _ h l.invariant.5) refl refl
             l.invariant.0.1)
-            (c.if-not-choice.false)),
+            (not-false _ c.if-not-choice.false)),
       ),
       simp length-set l.invariant.1,
       omega arith,
