@@ -17,5 +17,5 @@ returns c =
     let part : drop from (take to tour) ≡ take (to - from) (drop from tour) =
     rw whole at (drop-take from (to - from) tour) in
     let rest : drop (to - from) (drop from tour) ≡ drop to tour =
-    rw whole at (drop-drop from (to - from) tour) in
+    rw whole at (drop-drop (to - from) from tour) in
     rw (c.reverse.ensures.after, part, rest)
