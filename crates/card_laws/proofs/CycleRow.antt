@@ -5,7 +5,6 @@ use mathlib.Core.Bool.{true}
 use mathlib.Core.List.{List}
 use Prim.Native.Nat.{ℕ, ◌≤◌, ◌<◌, min}
 use native.Mathlib.Omega.{arith}
-use Rattle.answer.specs.Lowest.{lowest}
 use Rattle.closure.specs.Limits.{contour_limit}
 use Rattle.closure.specs.Cycle.{linked, on_cycle, Reaches, step, onward}
 use Rattle.closure.proofs.PathLaws.{cycle_exactly}

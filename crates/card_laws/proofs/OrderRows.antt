@@ -14,7 +14,6 @@ use Rattle.fields.specs.Layout.{contours_of}
 use Rattle.card.specs.Names.{pairs_on}
 use Rattle.card.specs.Verdict.{check_of}
 use Rattle.card_laws.specs.Table.{Past10, Past11, Row12, OnCycle, twelve}
-use Rattle.card_laws.specs.Card.{Accepted}
 use Rattle.card_laws.specs.Orders.{SomeOrder, RefusedWith, Twelve, Links}
 use Rattle.card_laws.proofs.ExactLaws.{lowest_exact}
 use Rattle.card_laws.proofs.LinkLaws.{link_precedes, precedes_link, pairs_below}

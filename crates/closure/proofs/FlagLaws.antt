@@ -13,7 +13,7 @@ use Rattle.answer.proofs.LowestLaws.{lowest_same}
 use borrow.Author.Tests.{lt-ltb}
 use Rattle.closure.proofs.PairLaws.{same_or, both-or, lt-or, pair_at, paired_more, paired_end, is_pair_lem, no_pair}
 use Rattle.closure.specs.Limits.{contour_limit}
-use Rattle.closure.specs.Pairs.{Pair, paired, some_of, is_pair}
+use Rattle.closure.specs.Pairs.{paired, some_of, is_pair}
 use Rattle.closure.specs.Cycle.{linked, leads, on_cycle, first_on_cycle}
 use Rattle.closure.specs.Flags.{flag, Whole, RowJoined, RowsJoined, Noted, Says}
 

@@ -13,7 +13,6 @@ use lib.ListN.{length, get_or, set, take, drop, length-append, get_or-append}
 use lib.Seq.{take_at, get_or-append-add}
 use Rattle.root.proofs.IeeeLaws.{claim as ieee}
 use Rattle.points.specs.Distance.{squares, distance_sq_of, distance_of}
-use Rattle.std.specs.Prelude.{reverse}
 use Rattle.answer.specs.declared.Point.{Point}
 use Rattle.answer.specs.declared.Check.TheVariants.{Fine}
 use Rattle.candidates.specs.declared.Candidate.{Candidate}
@@ -42,7 +41,7 @@ use Rattle.improve.specs.Search.{Chart, State, length_in, shorter, judged, at_li
 use Rattle.improve.specs.Search.{contours, worthwhile, searched_within}
 use Rattle.improve.specs.Kept.{accepted_of}
 use Rattle.improve.specs.Trials.{other, all_made, others, turn_trials, turns_trials, row_trials, pass_trials, passes_trials}
-use Rattle.improve.specs.Trials.{trials_of, Proper, Level}
+use Rattle.improve.specs.Trials.{trials_of, Proper}
 use Rattle.improve.proofs.States.{claim as states}
 use Rattle.improve.proofs.ReversalLaws.{turned_parts}
 use Rattle.improve.proofs.Trials.{claim as search-makes}

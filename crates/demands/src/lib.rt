@@ -1,3 +1,2 @@
 // What was asked for, as theorems: statements in specs/, their proofs in proofs/, no code.
 #![tactic(auto)]
-

@@ -1,5 +1,5 @@
 -- `moved` is the move that the words say, and no other function is. Assumes nothing.
-use Rattle.std.proofs.Common.{◌≡◌, ℕ, zero, suc, ◌+◌, ◌*◌, ◌<◌, ◌≤◌, Bool, true, false, cond, ltb, sym, refl, ap, ◌∙◌, subst, le_trans, le_of_eq, mul-le-mul_right, suc-mul, le_antisymm, one-mul, zero-mul, arith, lit<, lt-ltb}
+use Rattle.std.proofs.Common.{◌≡◌, ℕ, zero, suc, ◌+◌, ◌*◌, ◌<◌, ◌≤◌, Bool, true, false, cond, ltb, sym, refl, ap, ◌∙◌, subst, le_trans, le_of_eq, mul-le-mul_right, le_antisymm, one-mul, zero-mul, arith, lit<, lt-ltb}
 use mathlib.Core.Bool.{beq}
 use lib.Ieee.{Float, nan, inf, fin, up, down}
 use lib.Ieee.Fits.{down_pos}

@@ -1,7 +1,7 @@
 -- An edge between vertices on the grid: twice its length covers the differences of their coordinates, and it is at most
 -- 2^15 mm. Assumes nothing.
 use mathlib.Core.Path.{◌≡◌, refl, sym}
-use mathlib.Core.Bool.{true, false, not, true≢false}
+use mathlib.Core.Bool.{true, false, true≢false}
 use Prim.Native.Nat.{ℕ, ◌+◌, ◌*◌, ◌^◌, ◌≤◌, ◌<◌}
 use native.Mathlib.Nat.{le_trans, le_of_eq, lt_of_le_of_lt, le_of_mul-le-mul_right, mul-le-mul_right, mul-mul-mul_comm}
 use native.Mathlib.Omega.{arith}

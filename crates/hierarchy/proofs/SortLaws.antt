@@ -16,7 +16,6 @@ use Rattle.closure.specs.Limits.{contour_limit}
 use Rattle.closure.specs.Pairs.{Pair, paired, both}
 use Rattle.closure.proofs.PairLaws.{same_or, pair_at, paired_more, paired_end}
 use mathlib.Mathlib.Data.Bool.Basic.{and_elim_right}
-use Rattle.answer.specs.Room.{padded}
 use Rattle.answer.proofs.RoomLaws.{padded-length}
 use Rattle.hierarchy.specs.Fill.{Filled}
 use Rattle.hierarchy.specs.Sort.{Kahn, held_back, tallied, free_below, untaken, loosened, released, front_taken}

@@ -1,5 +1,5 @@
 -- Kahn's topological order: positions are taken in the order in which they come free. Assumes nothing.
-use Rattle.std.specs.Prelude.{Bool, cond, ◌&&◌, List, [], ◌∷◌, ◌++◌, ℕ, zero, suc, ◌+◌, ◌-◌, ltb, eqb, length, get_or, set, drop, replicate}
+use Rattle.std.specs.Prelude.{cond, ◌&&◌, List, [], ◌∷◌, ◌++◌, ℕ, zero, suc, ◌+◌, ◌-◌, ltb, eqb, length, get_or, set, drop, replicate}
 use Rattle.closure.specs.Limits.{contour_limit}
 use Rattle.closure.specs.Pairs.{Pair, paired, both}
 

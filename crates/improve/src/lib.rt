@@ -185,8 +185,8 @@ fn turns(
     requires moves_bound { moves + 65536 ≤ 2 ^ 64 }
     ensures result_after { let n = length tour.old in
         state_of tour.new result
-          ≡ each (turn (chart_of home.now table.now t owner.now first.now []) limit) n 0
-          (going tour.old cost false moves) }
+        ≡ each (turn (chart_of home.now table.now t owner.now first.now []) limit) n 0
+        (going tour.old cost false moves) }
     ensures moves_bound_2 { result.moves ≤ moves + 65280 }
 {
     let n = tour.len();
@@ -318,7 +318,7 @@ fn run(
     requires { length tour.old ≤ contour_limit }
     ensures { let n = length tour.old in
         let chart = chart_of home.now table.now t owner.now first.now pairs.now in
-          Reached result tour.new (repeated chart limit n passes (begun chart tour.old)) }
+        Reached result tour.new (repeated chart limit n passes (begun chart tour.old)) }
 {
     let n = tour.len();
     let mut cost = table::evaluate_solution(home, table, t, tour);

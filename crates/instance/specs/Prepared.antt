@@ -1,9 +1,9 @@
 -- All that the doors read of a card s, as the code holds it. Assumes nothing.
-use Rattle.std.specs.Prelude.{◌≡◌, List, ℕ, ◌+◌, ◌*◌, ◌≤◌, min, Float, length, take, replicate}
+use Rattle.std.specs.Prelude.{◌≡◌, List, ℕ, ◌+◌, ◌*◌, ◌≤◌, Float, length, take, replicate}
 use Rattle.points.specs.Numbers.{zero64}
-use Rattle.closure.specs.Limits.{contour_limit, pair_limit}
+use Rattle.closure.specs.Limits.{contour_limit}
 use Rattle.fields.specs.Limits.{candidate_limit}
-use Rattle.fields.specs.Layout.{contours_of, pairs_of}
+use Rattle.fields.specs.Layout.{contours_of}
 use Rattle.card.specs.Names.{named_of, named_within, pairs_on}
 use Rattle.table.specs.Distances.{entry_limit, homed, distances_of}
 use Rattle.improve.specs.Search.{Chart}

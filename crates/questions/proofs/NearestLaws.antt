@@ -9,7 +9,6 @@ use Rattle.answer.specs.declared.Check.{Check}
 use Rattle.answer.specs.declared.Check.TheVariants.{Fine, Refused}
 use Rattle.answer.specs.declared.Refusal.{Refusal}
 use Rattle.closure.specs.Limits.{contour_limit}
-use Rattle.fields.specs.Layout.{contours_of}
 use Rattle.card.specs.Verdict.{check_of}
 use Rattle.table.specs.Distances.{distances_of}
 use Rattle.start.specs.Nearest.{nearest}
@@ -17,7 +16,6 @@ use Rattle.start.specs.Code.{ground_of, Written}
 use Rattle.answer.specs.Room.{placed}
 use Rattle.answer.proofs.RoomLaws.{room_back}
 use Rattle.instance.specs.declared.Prepared.{Prepared}
-use Rattle.instance.specs.Search.{chart_on}
 use Rattle.instance.specs.Prepared.{PreparedOn, chart_in}
 use Rattle.instance.proofs.PreparedLaws.{chart_on_lem}
 use Rattle.questions.specs.declared.Stops.{Stops}

@@ -26,7 +26,7 @@ pub fn solve_constrained(
 ) -> Outcome
     ensures { let n = length tour.old in
         let chart = chart_of home.now table.now t owner.now first.now pairs.now in
-          Solved chart (end_in chart n passes limit) tour.old result tour.new }
+        Solved chart (end_in chart n passes limit) tour.old result tour.new }
 {
     let made = start::nn_constrained(home, table, t, first, pairs, tour);
     let moves = improve::improve(

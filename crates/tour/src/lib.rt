@@ -62,7 +62,7 @@ fn tour_of_fine(card: &[u8], room: &mut [u8], table: &mut [f64]) -> Toured
     ensures { let n = length room.old in
         let m = length table.old in
         left result room.new table.new
-          ≡ toured_unless (room_check card.now n m) (toured card.now room.old table.old) room.old table.old }
+        ≡ toured_unless (room_check card.now n m) (toured card.now room.old table.old) room.old table.old }
 {
     let p = instance::prepare(card);
     let all = p.all;

@@ -1,6 +1,5 @@
 -- What the tour of a card, written out, is computed through; for the examples. Assumes nothing.
 use lib.Ieee.{add, sub, mul, div, rem, neg, lt, le, eq, of_int, sum}
-use Rattle.std.specs.Prelude.{reverse}
 use Rattle.improve.specs.Search.{slice}
 use Rattle.root.specs.Whole.{digits, whole_root, halves}
 use Rattle.root.specs.Root.{root_finite, sqrt_of}

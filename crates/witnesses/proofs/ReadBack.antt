@@ -9,7 +9,7 @@ use Rattle.witnesses.specs.Examples.{limited}
 use Rattle.witnesses.specs.Taken.{aligned, bound}
 use Rattle.witnesses.specs.Slit.{slit}
 use Rattle.witnesses.specs.Gridded.{thirds, ties}
-use Rattle.witnesses.specs.ReadBack.{ReadBack, AllReadBack, Claim}
+use Rattle.witnesses.specs.ReadBack.{ReadBack, Claim}
 
 of_empty : ReadBack (as_job41 [] [])
 unfolding tour_computes tabulated

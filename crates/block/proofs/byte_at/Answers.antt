@@ -1,6 +1,5 @@
 -- `block::byte_at` meets its contract. Assumes nothing.
 use mathlib.Core.Path.{sym}
-use borrow.Author.Rules.{rules}
 use Rattle.block.proofs.FieldLaws.{past_byte}
 use Rattle.block.proofs.byte_at.Goals as goal
 

@@ -1,5 +1,4 @@
 -- `block::check_at` meets its contract. Assumes nothing.
-use borrow.Author.Rules.{rules}
 use Rattle.block.proofs.BlockLaws.{check-none, check_rest, check_whole}
 use Rattle.block.proofs.check_at.Goals as goal
 

@@ -1,5 +1,4 @@
 -- `block::f64_at` meets its contract. Assumes nothing.
-use borrow.Author.Rules.{rules}
 use Rattle.block.specs.Field.{f64_at}
 use Rattle.block.proofs.f64_at.Goals as goal
 

@@ -1,6 +1,5 @@
 -- `block::half_at` meets its contract. Assumes nothing.
 use native.Mathlib.Omega.{arith}
-use borrow.Author.Rules.{rules}
 use Rattle.block.proofs.FieldLaws.{u32_bytes}
 use Rattle.block.proofs.half_at.Goals as goal
 

@@ -1,5 +1,4 @@
 -- `block::is_checked` meets its contract. Assumes nothing.
-use borrow.Author.Rules.{rules}
 use Rattle.block.proofs.BlockLaws.{checked-none, checked_is}
 use Rattle.block.proofs.is_checked.Goals as goal
 

@@ -1,9 +1,6 @@
 -- `block::is_zero` meets its contract. Assumes nothing.
-use mathlib.Core.Path.{◌≡◌, refl, sym, ◌∙◌}
-use Prim.Native.Nat.{◌≤◌, ◌-◌}
+use mathlib.Core.Path.{refl, sym, ◌∙◌}
 use native.Mathlib.Omega.{arith}
-use lib.ListN.{length, drop}
-use Rattle.block.specs.Block.{all_zero}
 use Rattle.block.proofs.BlockLaws.{zero_so_far, zero_no_more, zero_to_end}
 use Rattle.block.proofs.is_zero.Goals as goal
 

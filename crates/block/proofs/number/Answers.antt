@@ -1,7 +1,6 @@
 -- `block::number` meets its contract. Assumes nothing.
 use mathlib.Core.Path.{sym}
 use lib.Ieee.{div, of_bits, of_fields, odd}
-use borrow.Author.Rules.{rules}
 use Rattle.block.proofs.FieldLaws.{above-nan, upto_number}
 use Rattle.block.proofs.number.Goals as goal
 

@@ -1,6 +1,5 @@
 -- `block::starts_as` meets its contract. Assumes nothing.
 use mathlib.Core.Path.{sym, ◌∙◌}
-use borrow.Author.Rules.{rules}
 use Rattle.block.proofs.BlockLaws.{starts-past, other_kind, other_version, other_number, as_due}
 use Rattle.block.proofs.starts_as.Goals as goal
 

@@ -1,7 +1,6 @@
 -- `block::u16_at` meets its contract. Assumes nothing.
 use mathlib.Core.Path.{sym}
 use native.Mathlib.Omega.{arith}
-use borrow.Author.Rules.{rules}
 use Rattle.block.specs.Field.{u16_at}
 use Rattle.block.proofs.FieldLaws.{past_u16}
 use Rattle.block.proofs.u16_at.Goals as goal

@@ -1,7 +1,6 @@
 -- `block::u32_at` meets its contract. Assumes nothing.
 use mathlib.Core.Path.{sym}
 use native.Mathlib.Omega.{arith}
-use borrow.Author.Rules.{rules}
 use Rattle.block.specs.Field.{u32_at}
 use Rattle.block.proofs.FieldLaws.{past_u32}
 use Rattle.block.proofs.u32_at.Goals as goal

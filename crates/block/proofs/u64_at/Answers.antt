@@ -1,7 +1,6 @@
 -- `block::u64_at` meets its contract. Assumes nothing.
 use mathlib.Core.Path.{sym}
 use native.Mathlib.Omega.{arith}
-use borrow.Author.Rules.{rules}
 use Rattle.block.specs.Field.{u64_at}
 use Rattle.block.proofs.FieldLaws.{past_u64}
 use Rattle.block.proofs.u64_at.Goals as goal

@@ -1,10 +1,8 @@
 -- `block::weighed` meets its contract. Assumes nothing.
-use mathlib.Core.Path.{◌≡◌, refl, ◌∙◌}
-use Prim.Native.Nat.{◌≤◌, ◌*◌, ◌-◌}
+use mathlib.Core.Path.{refl, ◌∙◌}
 use native.Mathlib.Omega.{arith}
-use lib.ListN.{length, take}
 use Rattle.block.proofs.BlockLaws.{weigh_all, weigh-step, weight-bound}
-use Rattle.block.specs.Block.{check_offset, weigh}
+use Rattle.block.specs.Block.{weigh}
 use Rattle.block.proofs.weighed.Goals as goal
 
 pub loop-p-init : goal.loop-p-init

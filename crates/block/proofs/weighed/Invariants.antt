@@ -1,9 +1,7 @@
 -- `block::weighed` meets its contract. Assumes nothing.
-use mathlib.Core.Path.{◌≡◌, refl, ◌∙◌}
+use mathlib.Core.Path.{◌≡◌}
 use Prim.Native.Nat.{◌≤◌, ◌*◌, ◌-◌}
-use native.Mathlib.Omega.{arith}
 use lib.ListN.{length, take}
-use Rattle.block.proofs.BlockLaws.{weigh_all, weigh-step, weight-bound}
 use Rattle.block.specs.Block.{check_offset, weigh}
 use Rattle.block.proofs.weighed.Given as goal
 

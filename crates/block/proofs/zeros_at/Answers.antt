@@ -1,5 +1,4 @@
 -- `block::zeros_at` meets its contract. Assumes nothing.
-use borrow.Author.Rules.{rules}
 use Rattle.block.proofs.BlockLaws.{zeros_none, zeros_rest, zeros_whole}
 use Rattle.block.proofs.zeros_at.Goals as goal
 

@@ -1,6 +1,5 @@
 -- `bridge::bad_width` meets its contract: each way out is a law of widths. Assumes nothing.
 use mathlib.Core.Path.{sym}
-use borrow.Author.Rules.{rules}
 use Rattle.bridge.proofs.QuestionLaws.{width_fits, too_wide, not-above}
 use Rattle.bridge.proofs.bad_width.Goals as goal
 

@@ -1,5 +1,4 @@
 -- `bridge::bridge_at` meets its contract: each number is worked out as the definition has it. Assumes nothing.
-use borrow.Author.Rules.{rules}
 use Rattle.bridge.specs.Create.{starts_at, ends_at, bridge_at}
 use Rattle.bridge.proofs.bridge_at.Goals as goal
 

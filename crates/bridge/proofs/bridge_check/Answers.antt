@@ -1,5 +1,4 @@
 -- `bridge::bridge_check` meets its contract: how many centres, else the contour, else the way. Assumes nothing.
-use borrow.Author.Rules.{rules}
 use borrow.Author.Tests.{lt-ltb, le-ltb}
 use Rattle.bridge.specs.Question.{bridge_check}
 use Rattle.bridge.proofs.bridge_check.Goals as goal
@@ -20,9 +19,9 @@ returns-in-Refused c =
 pub returns-in-Fine : goal.returns-in-Fine
 unfolding bridge_check
 returns-in-Fine c = rw (
-      le-ltb _ _ c.if-centres-gt-BRIDGES.false,
-      ← c.contour_check-check.ensures,
-      c.in-Fine.is,
-      ← c.perimeter.ensures,
-    )
+  le-ltb _ _ c.if-centres-gt-BRIDGES.false,
+  ← c.contour_check-check.ensures,
+  c.in-Fine.is,
+  ← c.perimeter.ensures,
+)
     c.way_check.ensures

@@ -1,12 +1,9 @@
 -- `bridge::each_centre` meets its contract. The loop's invariant: the bridges of the first k centres stand in their
 -- room. Assumes nothing.
-use mathlib.Core.Path.{◌≡◌}
-use Prim.Native.Nat.{◌≤◌, ◌-◌}
 use native.Mathlib.Omega.{arith}
-use lib.ListN.{length}
 use Rattle.points.specs.Points.{points}
 use Rattle.bridge.specs.Create.{bridges_at}
-use Rattle.bridge.proofs.FillLaws.{room, room_more, room_full}
+use Rattle.bridge.proofs.FillLaws.{room_more, room_full}
 use Rattle.bridge.proofs.each_centre.Goals as goal
 
 pub blank-items-requires : goal.blank-items-requires

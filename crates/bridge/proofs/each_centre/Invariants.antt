@@ -2,11 +2,9 @@
 -- room. Assumes nothing.
 use mathlib.Core.Path.{◌≡◌}
 use Prim.Native.Nat.{◌≤◌, ◌-◌}
-use native.Mathlib.Omega.{arith}
 use lib.ListN.{length}
 use Rattle.points.specs.Points.{points}
-use Rattle.bridge.specs.Create.{bridges_at}
-use Rattle.bridge.proofs.FillLaws.{room, room_more, room_full}
+use Rattle.bridge.proofs.FillLaws.{room}
 use Rattle.bridge.proofs.each_centre.Given as goal
 
 abbrev pub invariant-loop-k : goal.invariant-loop-k

@@ -1,12 +1,9 @@
 -- `bridge::edge_on` meets its contract. The loop's invariant: the distance falls on no edge passed. Assumes nothing.
-use mathlib.Core.Path.{◌≡◌, sym, ◌∙◌}
-use mathlib.Core.Bool.{false}
-use Prim.Native.Nat.{ℕ, ◌≤◌, ◌<◌, ◌-◌}
+use mathlib.Core.Path.{sym, ◌∙◌}
 use native.Mathlib.Omega.{arith}
 use borrow.Author.Count.{below_none, below_more}
-use lib.ListN.{length}
 use Rattle.answer.proofs.LowestLaws.{at_is, absent_is}
-use Rattle.bridge.specs.Lookup.{falls_on, edge_on}
+use Rattle.bridge.specs.Lookup.{edge_on}
 use Rattle.bridge.proofs.MarkLaws.{falls_here}
 use Rattle.bridge.proofs.edge_on.Goals as goal
 
@@ -54,13 +51,12 @@ pub loop-k-smaller : goal.loop-k-smaller
 loop-k-smaller c = omega arith
 
 pub loop-k-preserved : goal.loop-k-preserved
-loop-k-preserved c =
-    (
-      omega arith,
-      below_more _ _ c.loop-k.invariant.1
-          (falls_here c.args.marks.now _ c.loop-k.k _
-          (sym c.on_the_way.ensures ∙ c.if-on_the_way.false)),
-    )
+loop-k-preserved c = (
+  omega arith,
+  below_more _ _ c.loop-k.invariant.1
+      (falls_here c.args.marks.now _ c.loop-k.k _
+      (sym c.on_the_way.ensures ∙ c.if-on_the_way.false)),
+)
 
 pub returns : goal.returns
 unfolding edge_on

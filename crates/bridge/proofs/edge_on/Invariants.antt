@@ -1,13 +1,9 @@
 -- `bridge::edge_on` meets its contract. The loop's invariant: the distance falls on no edge passed. Assumes nothing.
-use mathlib.Core.Path.{◌≡◌, sym, ◌∙◌}
+use mathlib.Core.Path.{◌≡◌}
 use mathlib.Core.Bool.{false}
 use Prim.Native.Nat.{ℕ, ◌≤◌, ◌<◌, ◌-◌}
-use native.Mathlib.Omega.{arith}
-use borrow.Author.Count.{below_none, below_more}
 use lib.ListN.{length}
-use Rattle.answer.proofs.LowestLaws.{at_is, absent_is}
-use Rattle.bridge.specs.Lookup.{falls_on, edge_on}
-use Rattle.bridge.proofs.MarkLaws.{falls_here}
+use Rattle.bridge.specs.Lookup.{falls_on}
 use Rattle.bridge.proofs.edge_on.Given as goal
 
 abbrev pub invariant-loop-k : goal.invariant-loop-k

@@ -1,13 +1,9 @@
 -- `bridge::first_off` meets its contract. The loop's invariant: no centre passed is off the way. Assumes nothing.
-use mathlib.Core.Path.{◌≡◌, sym, ◌∙◌}
-use mathlib.Core.Bool.{false}
-use Prim.Native.Nat.{ℕ, ◌≤◌, ◌<◌, ◌-◌}
+use mathlib.Core.Path.{sym, ◌∙◌}
 use native.Mathlib.Omega.{arith}
 use borrow.Author.Count.{below_none, below_more}
-use lib.ListN.{length, get_or}
 use Rattle.answer.proofs.LowestLaws.{at_is, absent_is}
-use lib.Ieee.{nan}
-use Rattle.bridge.specs.Question.{off_the_way, first_off}
+use Rattle.bridge.specs.Question.{first_off}
 use Rattle.bridge.proofs.first_off.Goals as goal
 
 pub loop-k-init : goal.loop-k-init

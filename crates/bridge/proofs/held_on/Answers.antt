@@ -1,5 +1,4 @@
 -- `bridge::held_on` meets its contract: the test on the length decides it. Assumes nothing.
-use borrow.Author.Rules.{rules}
 use Rattle.bridge.specs.Lookup.{held_on}
 use Rattle.bridge.proofs.held_on.Goals as goal
 

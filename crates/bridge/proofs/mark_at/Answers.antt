@@ -1,5 +1,4 @@
 -- `bridge::mark_at` meets its contract: past the end it is no number. Assumes nothing.
-use borrow.Author.Rules.{rules}
 use lib.ListN.{get_or-eq_default}
 use lib.Ieee.{nan, div, of_bits}
 use Rattle.bridge.proofs.mark_at.Goals as goal

@@ -1,7 +1,6 @@
 -- `bridge::way_check` meets its contract: the tests that led to each answer decide it. Assumes nothing.
 use mathlib.Core.Path.{sym, ◌∙◌}
 use native.Mathlib.Omega.{arith}
-use borrow.Author.Rules.{rules}
 use Rattle.answer.specs.Stage.{first_refusal}
 use Rattle.bridge.specs.Question.{way_check}
 use Rattle.bridge.proofs.QuestionLaws.{off_within}
@@ -24,20 +23,20 @@ overflow_add-k c =
 pub returns-in-At : goal.returns-in-At
 unfolding way_check first_refusal
 returns-in-At c = rw (
-      c.if-whole.false,
-      ← c.bad_width.ensures,
-      c.if-bad_width.false,
-      ← c.first_off.ensures,
-      c.in-At.is,
-    )
+  c.if-whole.false,
+  ← c.bad_width.ensures,
+  c.if-bad_width.false,
+  ← c.first_off.ensures,
+  c.in-At.is,
+)
     c.refused-in-At.ensures
 
 pub returns-in-Absent : goal.returns-in-Absent
 unfolding way_check first_refusal
 returns-in-Absent c = rw (
-      c.if-whole.false,
-      ← c.bad_width.ensures,
-      c.if-bad_width.false,
-      ← c.first_off.ensures,
-      c.in-Absent.is,
-    )
+  c.if-whole.false,
+  ← c.bad_width.ensures,
+  c.if-bad_width.false,
+  ← c.first_off.ensures,
+  c.in-Absent.is,
+)

@@ -1,6 +1,5 @@
 -- `bridge::whole_of` meets its contract: the last mark, no number where there is none. Assumes nothing.
 use mathlib.Core.Path.{◌∙◌}
-use borrow.Author.Rules.{rules}
 use Rattle.bridge.proofs.MarkLaws.{no_marks}
 use Rattle.bridge.proofs.whole_of.Goals as goal
 

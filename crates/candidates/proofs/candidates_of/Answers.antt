@@ -1,6 +1,6 @@
 -- `candidates::candidates_of` meets its contract: the tests that led to each answer say which case of the definition it
 -- is. Assumes nothing.
-use Rattle.std.proofs.Common.{rules, eq-eqb, ne_eqb}
+use Rattle.std.proofs.Common.{eq-eqb, ne_eqb}
 use Rattle.candidates.specs.Generate.{candidates_from}
 use Rattle.candidates.proofs.GenerateLaws.{no_vertices, some_vertices}
 use Rattle.candidates.proofs.candidates_of.Goals as goal

@@ -1,5 +1,4 @@
 -- `candidates::contour_candidates` meets its contract: by what the check answers. Assumes nothing.
-use Rattle.std.proofs.Common.{rules}
 use Rattle.candidates.specs.Question.{offered_of}
 use Rattle.candidates.proofs.contour_candidates.Goals as goal
 

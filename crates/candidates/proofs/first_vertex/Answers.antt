@@ -1,5 +1,4 @@
 -- `candidates::first_vertex` meets its contract: one candidate, then blanks. Assumes nothing.
-use Rattle.std.proofs.Common.{rules}
 use Rattle.candidates.specs.Generate.{filled}
 use Rattle.candidates.proofs.first_vertex.Goals as goal
 

@@ -1,5 +1,5 @@
 -- `candidates::last_spot` meets its contract: the last of the whole points. Assumes nothing.
-use Rattle.std.proofs.Common.{sym, rules}
+use Rattle.std.proofs.Common.{sym}
 use Rattle.candidates.proofs.AlongLaws.{last_of_lem, last_of_none}
 use Rattle.candidates.proofs.last_spot.Goals as goal
 

@@ -1,5 +1,4 @@
 -- `candidates::moved_if` meets its contract: the flag decides. Assumes nothing.
-use Rattle.std.proofs.Common.{rules}
 use Rattle.candidates.proofs.moved_if.Goals as goal
 
 pub returns-then-grid : goal.returns-then-grid

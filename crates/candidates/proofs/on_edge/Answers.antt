@@ -1,5 +1,4 @@
 -- `candidates::on_edge` meets its contract: the test on the length decides it. Assumes nothing.
-use Rattle.std.proofs.Common.{rules}
 use Rattle.candidates.specs.Along.{on_edge}
 use Rattle.candidates.proofs.on_edge.Goals as goal
 

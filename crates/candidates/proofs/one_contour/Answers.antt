@@ -1,5 +1,4 @@
 -- `candidates::one_contour` meets its contract: the test on c, else the contour's check. Assumes nothing.
-use Rattle.std.proofs.Common.{rules}
 use Rattle.candidates.specs.Question.{one_contour}
 use Rattle.candidates.proofs.one_contour.Goals as goal
 

@@ -1,7 +1,7 @@
 -- `candidates::perimeter` meets its contract. The loop's invariant: adding up from edge i with the sum so far gives the
 -- perimeter. Assumes nothing.
-use Rattle.std.proofs.Common.{◌-◌, ◌/◌, ◌≤◌, length, arith, rules}
-use Rattle.candidates.proofs.AlongLaws.{Summed, summed_start, summed-step, summed_done}
+use Rattle.std.proofs.Common.{◌-◌, ◌/◌, ◌≤◌, length}
+use Rattle.candidates.proofs.AlongLaws.{Summed}
 use Rattle.candidates.proofs.perimeter.Given as goal
 
 abbrev pub invariant-loop-i : goal.invariant-loop-i

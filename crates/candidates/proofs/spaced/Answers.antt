@@ -1,9 +1,8 @@
 -- `candidates::spaced` meets its contract. The loop's invariant: the first k places are filled, the others blank.
 -- Assumes nothing.
-use Rattle.std.proofs.Common.{◌≡◌, ◌-◌, ◌≤◌, arith}
-use Rattle.points.specs.Points.{points}
+use Rattle.std.proofs.Common.{◌≡◌, arith}
 use Rattle.candidates.specs.Generate.{spaced}
-use Rattle.candidates.proofs.FillLaws.{room, room_more, room_full}
+use Rattle.candidates.proofs.FillLaws.{room_more, room_full}
 use Rattle.candidates.proofs.spaced.Goals as goal
 
 pub blank-items-requires : goal.blank-items-requires

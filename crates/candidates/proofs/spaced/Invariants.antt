@@ -1,9 +1,8 @@
 -- `candidates::spaced` meets its contract. The loop's invariant: the first k places are filled, the others blank.
 -- Assumes nothing.
-use Rattle.std.proofs.Common.{◌≡◌, ◌-◌, ◌≤◌, arith}
+use Rattle.std.proofs.Common.{◌≡◌, ◌-◌, ◌≤◌}
 use Rattle.points.specs.Points.{points}
-use Rattle.candidates.specs.Generate.{spaced}
-use Rattle.candidates.proofs.FillLaws.{room, room_more, room_full}
+use Rattle.candidates.proofs.FillLaws.{room}
 use Rattle.candidates.proofs.spaced.Given as goal
 
 abbrev pub invariant-loop-k : goal.invariant-loop-k

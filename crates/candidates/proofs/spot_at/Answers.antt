@@ -1,7 +1,7 @@
 -- `candidates::spot_at` meets its contract. The loop's invariant: looking on from edge i finds what looking from the
 -- start finds. Assumes nothing.
-use Rattle.std.proofs.Common.{◌-◌, ◌/◌, ◌≤◌, length, sym, ◌∙◌, arith, rules}
-use Rattle.candidates.proofs.AlongLaws.{Sought, sought_start, sought_here, sought_on, sought_last}
+use Rattle.std.proofs.Common.{sym, ◌∙◌, arith, rules}
+use Rattle.candidates.proofs.AlongLaws.{sought_start, sought_here, sought_on, sought_last}
 use Rattle.candidates.proofs.spot_at.Goals as goal
 
 pub loop-i-init : goal.loop-i-init

@@ -1,7 +1,7 @@
 -- `candidates::spot_at` meets its contract. The loop's invariant: looking on from edge i finds what looking from the
 -- start finds. Assumes nothing.
-use Rattle.std.proofs.Common.{◌-◌, ◌/◌, ◌≤◌, length, sym, ◌∙◌, arith, rules}
-use Rattle.candidates.proofs.AlongLaws.{Sought, sought_start, sought_here, sought_on, sought_last}
+use Rattle.std.proofs.Common.{◌-◌, ◌/◌, ◌≤◌, length}
+use Rattle.candidates.proofs.AlongLaws.{Sought}
 use Rattle.candidates.proofs.spot_at.Given as goal
 
 abbrev pub invariant-loop-i : goal.invariant-loop-i

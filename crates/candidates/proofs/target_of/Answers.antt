@@ -1,5 +1,4 @@
 -- `candidates::target_of` meets its contract: the code is the definition. Assumes nothing.
-use Rattle.std.proofs.Common.{rules}
 use Rattle.candidates.specs.Generate.{target}
 use Rattle.candidates.proofs.target_of.Goals as goal
 

@@ -1,5 +1,4 @@
 -- `card::bad_at` meets its contract: the match says what is asked. Assumes nothing.
-use borrow.Author.Rules.{rules}
 use Rattle.card.proofs.bad_at.Goals as goal
 
 pub returns-in-Checks : goal.returns-in-Checks

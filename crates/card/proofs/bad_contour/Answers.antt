@@ -1,5 +1,4 @@
 -- `card::bad_contour` meets its contract. Assumes nothing.
-use borrow.Author.Rules.{rules}
 use Rattle.card.proofs.bad_contour.Goals as goal
 
 pub returns : goal.returns

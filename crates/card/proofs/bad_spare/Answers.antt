@@ -1,6 +1,5 @@
 -- `card::bad_spare` meets its contract. Assumes nothing.
 use native.Mathlib.Omega.{arith}
-use borrow.Author.Rules.{rules}
 use Rattle.card.proofs.SpareLaws.{end_within_lem, none_spare, some_spare}
 use Rattle.card.proofs.bad_spare.Goals as goal
 

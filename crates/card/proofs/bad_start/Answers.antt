@@ -1,5 +1,4 @@
 -- `card::bad_start` meets its contract. Assumes nothing.
-use borrow.Author.Rules.{rules}
 use Rattle.card.proofs.bad_start.Goals as goal
 
 pub returns : goal.returns

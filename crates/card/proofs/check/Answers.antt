@@ -1,6 +1,5 @@
 -- `card::check` meets its contract. Assumes nothing.
 use mathlib.Core.Path.{sym, ◌∙◌}
-use borrow.Author.Rules.{rules}
 use Rattle.card.proofs.GroupLaws.{few_of_both, stages_stop, pairs_say}
 use Rattle.card.proofs.check.Goals as goal
 

@@ -1,6 +1,5 @@
 -- `card::check_pairs` meets its contract. Assumes nothing.
 use mathlib.Core.Path.{sym, ◌∙◌}
-use borrow.Author.Rules.{rules}
 use Rattle.card.proofs.GroupLaws.{stops_at, goes_past, fine_absent}
 use Rattle.card.proofs.NameLaws.{named_stopped, all_named}
 use Rattle.card.proofs.check_pairs.Goals as goal

@@ -1,5 +1,4 @@
 -- `card::check_seats` meets its contract. Assumes nothing.
-use borrow.Author.Rules.{rules}
 use Rattle.answer.specs.declared.Found.TheVariants.{Absent}
 use Rattle.card.specs.Names.{written_on}
 use Rattle.card.proofs.GroupLaws.{stops_at, goes_past, ends_with}

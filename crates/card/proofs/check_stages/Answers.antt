@@ -1,9 +1,7 @@
 -- `card::check_stages` meets its contract. The loop's invariant: no stage so far refuses. Assumes nothing.
-use Prim.Native.Nat.{◌≤◌, ◌-◌}
 use native.Mathlib.Omega.{arith}
-use borrow.Author.Rules.{rules}
 use Rattle.card.specs.Verdict.{card_stages}
-use Rattle.card.proofs.GroupLaws.{Passed, none_passed, one-passed, stopped-at, all_passed}
+use Rattle.card.proofs.GroupLaws.{none_passed, one-passed, stopped-at, all_passed}
 use Rattle.card.proofs.check_stages.Goals as goal
 
 pub loop-rank-init : goal.loop-rank-init

@@ -1,6 +1,5 @@
 -- `card::count_fault` meets its contract. Assumes nothing.
 use native.Mathlib.Omega.{arith}
-use borrow.Author.Rules.{rules}
 use Rattle.card.proofs.FaultLaws.{other_count, same_count}
 use Rattle.card.proofs.count_fault.Goals as goal
 

@@ -1,5 +1,4 @@
 -- `card::cycle_fault` meets its contract. Assumes nothing.
-use borrow.Author.Rules.{rules}
 use Rattle.answer.specs.declared.Found.TheVariants.{Absent}
 use Rattle.card.specs.Names.{pairs_on}
 use Rattle.card.proofs.GroupLaws.{cycle_is}

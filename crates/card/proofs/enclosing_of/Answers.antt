@@ -1,10 +1,6 @@
 -- `card::enclosing_of` meets its contract. Assumes nothing.
-use mathlib.Core.Path.{◌≡◌, sym, ◌∙◌}
-use Prim.Native.Nat.{◌≤◌, ◌-◌}
+use mathlib.Core.Path.{sym, ◌∙◌}
 use native.Mathlib.Omega.{arith}
-use borrow.Author.Rules.{rules}
-use borrow.Author.Tests.{not-true, not-false}
-use Rattle.answer.proofs.LowestLaws.{Nowhere}
 use Rattle.fields.specs.Layout.{contours_of}
 use Rattle.card.specs.Rules.{encloses}
 use Rattle.card.proofs.LoopLaws.{none_yet, one_more, found_here, none_found}

@@ -1,6 +1,5 @@
 -- `card::far_place` meets its contract. Assumes nothing.
 use mathlib.Core.Path.{◌∙◌}
-use borrow.Author.Rules.{rules}
 use Rattle.card.proofs.FarLaws.{at_home, at_contour}
 use Rattle.card.proofs.far_place.Goals as goal
 

@@ -1,5 +1,4 @@
 -- `card::far_point` meets its contract. Assumes nothing.
-use borrow.Author.Rules.{rules}
 use Rattle.card.proofs.far_point.Goals as goal
 
 pub returns : goal.returns

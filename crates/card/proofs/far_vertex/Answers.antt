@@ -1,9 +1,7 @@
 -- `card::far_vertex` meets its contract. Assumes nothing.
-use mathlib.Core.Path.{◌≡◌, ◌∙◌}
-use Prim.Native.Nat.{◌≤◌, ◌<◌, ◌-◌, ◌+◌, min}
+use mathlib.Core.Path.{◌∙◌}
+use Prim.Native.Nat.{◌+◌}
 use native.Mathlib.Omega.{arith}
-use lib.ListN.{length}
-use Rattle.answer.proofs.LowestLaws.{Nowhere}
 use Rattle.block.proofs.Readings.{u16_of}
 use Rattle.fields.specs.Layout.{payload, contour_size, vertex_offset, vertex_count_of}
 use Rattle.card.specs.Stages.{far_point, far_vertex}

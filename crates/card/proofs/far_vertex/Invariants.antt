@@ -1,14 +1,10 @@
 -- `card::far_vertex` meets its contract. Assumes nothing.
-use mathlib.Core.Path.{◌≡◌, ◌∙◌}
+use mathlib.Core.Path.{◌≡◌}
 use Prim.Native.Nat.{◌≤◌, ◌<◌, ◌-◌, ◌+◌, min}
-use native.Mathlib.Omega.{arith}
 use lib.ListN.{length}
 use Rattle.answer.proofs.LowestLaws.{Nowhere}
-use Rattle.block.proofs.Readings.{u16_of}
 use Rattle.fields.specs.Layout.{payload, contour_size, vertex_offset, vertex_count_of}
-use Rattle.card.specs.Stages.{far_point, far_vertex}
-use Rattle.card.proofs.LoopLaws.{none_yet, one_more, found_here, none_found}
-use Rattle.card.proofs.FarLaws.{vertex_looked_at}
+use Rattle.card.specs.Stages.{far_point}
 use Rattle.card.proofs.far_vertex.Given as goal
 
 abbrev pub invariant-loop-j : goal.invariant-loop-j

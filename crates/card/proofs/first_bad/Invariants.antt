@@ -1,10 +1,7 @@
 -- `card::first_bad` meets its contract. Assumes nothing.
 use Prim.Native.Nat.{◌≤◌, ◌-◌}
-use native.Mathlib.Omega.{arith}
-use mathlib.Core.Path.{sym, ◌∙◌}
 use Rattle.answer.proofs.LowestLaws.{Nowhere}
 use Rattle.card.specs.Stages.{fault_at}
-use Rattle.card.proofs.LoopLaws.{none_yet, one_more, found_here, none_found}
 use Rattle.card.proofs.first_bad.Given as goal
 
 abbrev pub invariant-loop-place : goal.invariant-loop-place

@@ -1,11 +1,8 @@
 -- `card::head_fault` meets its contract. Assumes nothing.
-use mathlib.Core.Path.{◌≡◌}
 use mathlib.Core.Bool.{false}
-use Prim.Native.Nat.{◌≤◌, ◌-◌}
 use native.Mathlib.Omega.{arith}
 use lib.ListN.{get_or}
 use Rattle.card.proofs.FaultLaws.{field_is}
-use Rattle.answer.proofs.LowestLaws.{Nowhere}
 use Rattle.card.specs.Stages.{head_faults, head_fault_within}
 use Rattle.card.proofs.LoopLaws.{none_yet, one_more, found_here, none_found}
 use Rattle.card.proofs.head_fault.Goals as goal

@@ -2,12 +2,9 @@
 use mathlib.Core.Path.{◌≡◌}
 use mathlib.Core.Bool.{false}
 use Prim.Native.Nat.{◌≤◌, ◌-◌}
-use native.Mathlib.Omega.{arith}
 use lib.ListN.{get_or}
-use Rattle.card.proofs.FaultLaws.{field_is}
 use Rattle.answer.proofs.LowestLaws.{Nowhere}
-use Rattle.card.specs.Stages.{head_faults, head_fault_within}
-use Rattle.card.proofs.LoopLaws.{none_yet, one_more, found_here, none_found}
+use Rattle.card.specs.Stages.{head_faults}
 use Rattle.card.proofs.head_fault.Given as goal
 
 abbrev pub invariant-loop-f : goal.invariant-loop-f

@@ -8,11 +8,11 @@ overflow_mul-all c = record { fits = small_product _ _ (search rules) (search ru
 
 pub returns : goal.returns
 returns c = rw (
-      c.u16_at-n.ensures,
-      c.u16_at-c.ensures,
-      c.grid-grid.ensures,
-      c.pairs.ensures,
-      c.passes.ensures,
-      c.byte_at.ensures,
-      c.byte_at-2.ensures,
-    )
+  c.u16_at-n.ensures,
+  c.u16_at-c.ensures,
+  c.grid-grid.ensures,
+  c.pairs.ensures,
+  c.passes.ensures,
+  c.byte_at.ensures,
+  c.byte_at-2.ensures,
+)

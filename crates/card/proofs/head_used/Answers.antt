@@ -1,5 +1,4 @@
 -- `card::head_used` meets its contract. Assumes nothing.
-use borrow.Author.Rules.{rules}
 use Rattle.card.proofs.head_used.Goals as goal
 
 pub returns-then-is_two : goal.returns-then-is_two

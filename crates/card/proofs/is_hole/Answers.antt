@@ -1,5 +1,4 @@
 -- `card::is_hole` meets its contract. Assumes nothing.
-use borrow.Author.Rules.{rules}
 use Rattle.card.proofs.is_hole.Goals as goal
 
 pub returns : goal.returns

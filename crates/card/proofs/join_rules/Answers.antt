@@ -1,15 +1,13 @@
 -- `card::join_rules` meets its contract. Assumes nothing.
 -- the pairs by rule of the first k contours stand behind the written ones
 use mathlib.Core.Path.{◌≡◌, sym, ap, ◌∙◌}
-use Prim.Native.Nat.{◌≤◌, ◌-◌}
 use native.Mathlib.Omega.{arith}
 use lib.ListN.{length}
-use borrow.Author.Rules.{rules}
 use Rattle.answer.specs.Room.{padded}
 use Rattle.fields.specs.Layout.{contours_of}
 use Rattle.card.specs.declared.Named.{Named}
 use Rattle.card.specs.Names.{seat_limit}
-use Rattle.card.proofs.RuleLaws.{joined_to, joined-none, joined_room, joined_same, joined_places, joined_count}
+use Rattle.card.proofs.RuleLaws.{joined-none, joined_room, joined_same, joined_places, joined_count}
 use Rattle.card.proofs.RuleLaws.{found_enclosing}
 use Rattle.card.proofs.join_rules.Goals as goal
 
@@ -38,17 +36,17 @@ pub overflow_cast-positions : goal.overflow_cast-positions
 overflow_cast-positions c = omega (arith, c.loop-k.invariant.0, c.requires.few_contours)
 
 pub bounds-positions-count : goal.bounds-positions-count
-bounds-positions-count c = let i = c.loop-k.invariant in omega ( arith, i.3, joined_room c.args.card.now c.loop-k.k c.requires.few_contours c.requires.few_pairs (omega (arith, c, i.0)), )
+bounds-positions-count c = let i = c.loop-k.invariant in omega (arith, i.3, joined_room c.args.card.now c.loop-k.k c.requires.few_contours c.requires.few_pairs (omega (arith, c, i.0)))
 
 pub overflow_cast-positions-in-loop-k : goal.overflow_cast-positions-in-loop-k
 overflow_cast-positions-in-loop-k c = omega (
-      arith,
-      c.requires.few_contours,
-      (found_enclosing c.args.card.now _ _ (sym c.enclosing_of.ensures ∙ c.in-At.is)).1.within,
-    )
+  arith,
+  c.requires.few_contours,
+  (found_enclosing c.args.card.now _ _ (sym c.enclosing_of.ensures ∙ c.in-At.is)).1.within,
+)
 
 pub overflow_add-positions : goal.overflow_add-positions
-overflow_add-positions c = let i = c.loop-k.invariant in omega ( arith, i.3, joined_room c.args.card.now c.loop-k.k c.requires.few_contours c.requires.few_pairs (omega (arith, c, i.0)), )
+overflow_add-positions c = let i = c.loop-k.invariant in omega (arith, i.3, joined_room c.args.card.now c.loop-k.k c.requires.few_contours c.requires.few_pairs (omega (arith, c, i.0)))
 
 -- there is room for one more pair
 pub bounds-positions-count-in-loop-k : goal.bounds-positions-count-in-loop-k
@@ -61,7 +59,7 @@ bounds-positions-count-in-loop-k c = let i = c.loop-k.invariant in
     )
 
 pub overflow_add-count : goal.overflow_add-count
-overflow_add-count c = let i = c.loop-k.invariant in omega ( arith, i.3, joined_room c.args.card.now c.loop-k.k c.requires.few_contours c.requires.few_pairs (omega (arith, c, i.0)), )
+overflow_add-count c = let i = c.loop-k.invariant in omega (arith, i.3, joined_room c.args.card.now c.loop-k.k c.requires.few_contours c.requires.few_pairs (omega (arith, c, i.0)))
 
 pub overflow_add-k-in-loop-k : goal.overflow_add-k-in-loop-k
 overflow_add-k-in-loop-k c = omega arith
@@ -74,7 +72,7 @@ loop-k-preserved c = let s = c.args.card.now in
     let i = c.loop-k.invariant in (
       i.0,
       omega arith,
-      joined_places s _ _ _ _ _ c.enclosing_of.ensures c.in-At.is i.2 i.3 ((let i = c.loop-k.invariant in omega ( arith, i.3, joined_room c.args.card.now c.loop-k.k c.requires.few_contours c.requires.few_pairs (omega (arith, c, i.0)), ))),
+      joined_places s _ _ _ _ _ c.enclosing_of.ensures c.in-At.is i.2 i.3 ((let i = c.loop-k.invariant in omega (arith, i.3, joined_room c.args.card.now c.loop-k.k c.requires.few_contours c.requires.few_pairs (omega (arith, c, i.0))))),
       joined_count s _ _ _ _ _ c.enclosing_of.ensures c.in-At.is i.2 i.3,
     )
 

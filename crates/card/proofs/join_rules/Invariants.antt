@@ -1,16 +1,12 @@
 -- `card::join_rules` meets its contract. Assumes nothing.
 -- the pairs by rule of the first k contours stand behind the written ones
-use mathlib.Core.Path.{◌≡◌, sym, ap, ◌∙◌}
+use mathlib.Core.Path.{◌≡◌}
 use Prim.Native.Nat.{◌≤◌, ◌-◌}
-use native.Mathlib.Omega.{arith}
 use lib.ListN.{length}
-use borrow.Author.Rules.{rules}
 use Rattle.answer.specs.Room.{padded}
 use Rattle.fields.specs.Layout.{contours_of}
-use Rattle.card.specs.declared.Named.{Named}
 use Rattle.card.specs.Names.{seat_limit}
-use Rattle.card.proofs.RuleLaws.{joined_to, joined-none, joined_room, joined_same, joined_places, joined_count}
-use Rattle.card.proofs.RuleLaws.{found_enclosing}
+use Rattle.card.proofs.RuleLaws.{joined_to}
 use Rattle.card.proofs.join_rules.Given as goal
 
 abbrev pub invariant-loop-k : goal.invariant-loop-k

@@ -1,6 +1,5 @@
 -- `card::kind_due` meets its contract. Assumes nothing.
 use native.Mathlib.Omega.{arith}
-use borrow.Author.Rules.{rules}
 use Rattle.card.proofs.FaultLaws.{kind_head, kind_contour, kind_pairs}
 use Rattle.card.proofs.kind_due.Goals as goal
 

@@ -1,5 +1,4 @@
 -- `card::length_fault` meets its contract. Assumes nothing.
-use borrow.Author.Rules.{rules}
 use Rattle.fields.specs.Limits.{card_bytes}
 use Rattle.card.proofs.FaultLaws.{too_long, no_blocks, whole_blocks}
 use Rattle.card.proofs.length_fault.Goals as goal

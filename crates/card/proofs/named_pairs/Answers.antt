@@ -1,13 +1,6 @@
 -- `card::named_pairs` meets its contract. Assumes nothing.
-use mathlib.Core.Path.{◌≡◌}
-use Prim.Native.Nat.{◌≤◌, ◌-◌}
 use native.Mathlib.Omega.{arith}
-use borrow.Author.Rules.{rules}
-use Rattle.answer.specs.Room.{padded}
-use Rattle.answer.proofs.LowestLaws.{Nowhere}
-use Rattle.fields.specs.Layout.{pairs_of}
 use Rattle.card.specs.Stages.{unnamed}
-use Rattle.card.specs.Names.{seats_of, seat_limit}
 use Rattle.card.proofs.LoopLaws.{none_yet, one_more}
 use Rattle.card.proofs.NameLaws.{position_below, first_unknown, second_unknown, both_known, before_is, after_is}
 use Rattle.card.proofs.NameLaws.{places_none, places_more, named_until, named_all}
@@ -52,11 +45,11 @@ returns-in_default-position_of c = let s = c.args.card.now in
 
 pub overflow_cast-positions : goal.overflow_cast-positions
 overflow_cast-positions c = omega (
-      arith,
-      c.requires,
-      position_below _ _ _ _
-          c.position_of.ensures c.in-At.is,
-    )
+  arith,
+  c.requires,
+  position_below _ _ _ _
+      c.position_of.ensures c.in-At.is,
+)
 
 pub overflow_mul-positions : goal.overflow_mul-positions
 overflow_mul-positions c = omega arith
@@ -66,10 +59,10 @@ bounds-positions-q c = omega arith
 
 pub overflow_cast-positions-in-loop-q : goal.overflow_cast-positions-in-loop-q
 overflow_cast-positions-in-loop-q c = omega (
-      arith,
-      c.requires,
-      position_below _ _ _ _ c.position_of-in-loop-q.ensures c.in-At-position_of.is,
-    )
+  arith,
+  c.requires,
+  position_below _ _ _ _ c.position_of-in-loop-q.ensures c.in-At-position_of.is,
+)
 
 pub overflow_mul-positions-in-loop-q : goal.overflow_mul-positions-in-loop-q
 overflow_mul-positions-in-loop-q c = omega arith

@@ -1,5 +1,4 @@
 -- `card::pair_places` meets its contract. Assumes nothing.
-use borrow.Author.Rules.{rules}
 use Rattle.card.proofs.NameLaws.{too_many, few_enough, all_named, stopped_named, joined_named}
 use Rattle.card.proofs.pair_places.Goals as goal
 

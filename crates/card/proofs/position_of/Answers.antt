@@ -1,7 +1,6 @@
 -- `card::position_of` meets its contract. Assumes nothing.
 use mathlib.Core.Path.{ap, ◌∙◌}
 use Prim.Native.Nat.{ℕ}
-use borrow.Author.Rules.{rules}
 use Rattle.card.specs.Stages.{seek_of}
 use Rattle.card.proofs.position_of.Goals as goal
 

@@ -1,5 +1,4 @@
 -- `card::repeats` meets its contract. Assumes nothing.
-use borrow.Author.Rules.{rules}
 use Rattle.card.proofs.repeats.Goals as goal
 
 pub returns : goal.returns

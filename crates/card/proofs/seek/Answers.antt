@@ -1,9 +1,7 @@
 -- `card::seek` meets its contract. Assumes nothing.
-use Prim.Native.Nat.{◌≤◌, ◌-◌}
 use native.Mathlib.Omega.{arith}
 use lib.Dec.{eqb}
 use borrow.Author.Tests.{eq-eqb, ne_eqb}
-use Rattle.answer.proofs.LowestLaws.{Nowhere}
 use Rattle.fields.specs.Layout.{id_of}
 use Rattle.card.specs.Stages.{seek_of}
 use Rattle.card.proofs.LoopLaws.{none_yet, one_more, found_here, none_found}

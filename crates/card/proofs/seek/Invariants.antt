@@ -1,12 +1,8 @@
 -- `card::seek` meets its contract. Assumes nothing.
 use Prim.Native.Nat.{◌≤◌, ◌-◌}
-use native.Mathlib.Omega.{arith}
 use lib.Dec.{eqb}
-use borrow.Author.Tests.{eq-eqb, ne_eqb}
 use Rattle.answer.proofs.LowestLaws.{Nowhere}
 use Rattle.fields.specs.Layout.{id_of}
-use Rattle.card.specs.Stages.{seek_of}
-use Rattle.card.proofs.LoopLaws.{none_yet, one_more, found_here, none_found}
 use Rattle.card.proofs.seek.Given as goal
 
 abbrev pub invariant-loop-k : goal.invariant-loop-k

@@ -1,5 +1,4 @@
 -- `card::spare_end` meets its contract. Assumes nothing.
-use borrow.Author.Rules.{rules}
 use Rattle.card.proofs.spare_end.Goals as goal
 
 pub returns-then-kind_due-is_two : goal.returns-then-kind_due-is_two

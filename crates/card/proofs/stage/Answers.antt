@@ -3,7 +3,6 @@
 use mathlib.Core.Path.{ap, ◌∙◌}
 use Prim.Native.Nat.{ℕ, ◌+◌}
 use native.Mathlib.Omega.{arith}
-use borrow.Author.Rules.{rules}
 use Rattle.answer.specs.Lowest.{lowest}
 use Rattle.card.specs.Stages.{check_fault, start_fault, contour_fault, spare_fault, far_fault, repeat_fault}
 use Rattle.card.specs.Stages.{bad_contour, far_place, repeats}

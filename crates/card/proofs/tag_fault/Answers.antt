@@ -1,9 +1,6 @@
 -- `card::tag_fault` meets its contract. Assumes nothing.
-use mathlib.Core.Path.{◌≡◌, ◌∙◌}
-use Prim.Native.Nat.{◌≤◌, ◌-◌, ◌*◌}
+use mathlib.Core.Path.{◌∙◌}
 use native.Mathlib.Omega.{arith}
-use lib.ListN.{length}
-use Rattle.answer.proofs.LowestLaws.{Nowhere}
 use Rattle.fields.specs.Layout.{pairs_of}
 use Rattle.card.specs.Stages.{other_tag, tag_fault}
 use Rattle.card.proofs.LoopLaws.{none_yet, one_more, found_here, none_found}

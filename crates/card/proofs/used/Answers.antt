@@ -1,7 +1,6 @@
 -- `card::used` meets its contract. Assumes nothing.
 use mathlib.Core.Path.{◌∙◌}
 use native.Mathlib.Omega.{arith}
-use borrow.Author.Rules.{rules}
 use Rattle.block.proofs.Readings.{u16_of}
 use Rattle.card.proofs.SpareLaws.{used_head, used_contour, used-pairs}
 use Rattle.card.proofs.used.Goals as goal

@@ -1,7 +1,6 @@
 -- `closure::close` meets its contract. Assumes nothing.
-use Prim.Native.Nat.{◌-◌}
 use borrow.Author.Rules.{rules}
-use Rattle.closure.proofs.FlagLaws.{ClosedPart, closed_none, closed_more, closed_all}
+use Rattle.closure.proofs.FlagLaws.{closed_none, closed_more, closed_all}
 use Rattle.closure.proofs.close.Goals as goal
 
 pub loop-k-init : goal.loop-k-init

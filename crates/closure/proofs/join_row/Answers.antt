@@ -1,7 +1,6 @@
 -- `closure::join_row` meets its contract. Assumes nothing.
-use Prim.Native.Nat.{◌-◌}
 use borrow.Author.Rules.{rules}
-use Rattle.closure.proofs.FlagLaws.{RowPart, row-none, row_more, row-joined, row_kept}
+use Rattle.closure.proofs.FlagLaws.{row-none, row_more, row-joined, row_kept}
 use Rattle.closure.proofs.join_row.Goals as goal
 
 pub loop-j-init : goal.loop-j-init

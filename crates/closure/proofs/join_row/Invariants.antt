@@ -1,7 +1,6 @@
 -- `closure::join_row` meets its contract. Assumes nothing.
 use Prim.Native.Nat.{◌-◌}
-use borrow.Author.Rules.{rules}
-use Rattle.closure.proofs.FlagLaws.{RowPart, row-none, row_more, row-joined, row_kept}
+use Rattle.closure.proofs.FlagLaws.{RowPart}
 use Rattle.closure.proofs.join_row.Given as goal
 
 abbrev pub invariant-loop-j : goal.invariant-loop-j

@@ -1,7 +1,6 @@
 -- `closure::join_rows` meets its contract. Assumes nothing.
-use Prim.Native.Nat.{◌-◌}
 use borrow.Author.Rules.{rules}
-use Rattle.closure.proofs.FlagLaws.{RowsPart, rows_none, rows_more, rows_joined}
+use Rattle.closure.proofs.FlagLaws.{rows_none, rows_more, rows_joined}
 use Rattle.closure.proofs.join_rows.Goals as goal
 
 pub loop-i-init : goal.loop-i-init

@@ -1,7 +1,6 @@
 -- `closure::join_rows` meets its contract. Assumes nothing.
 use Prim.Native.Nat.{◌-◌}
-use borrow.Author.Rules.{rules}
-use Rattle.closure.proofs.FlagLaws.{RowsPart, rows_none, rows_more, rows_joined}
+use Rattle.closure.proofs.FlagLaws.{RowsPart}
 use Rattle.closure.proofs.join_rows.Given as goal
 
 abbrev pub invariant-loop-i : goal.invariant-loop-i

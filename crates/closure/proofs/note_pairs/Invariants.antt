@@ -1,8 +1,7 @@
 -- `closure::note_pairs` meets its contract. Assumes nothing.
 use Prim.Native.Nat.{◌-◌}
 use lib.ListN.{length}
-use borrow.Author.Rules.{rules}
-use Rattle.closure.proofs.FlagLaws.{NotedPart, noted_none, noted_more, noted_all}
+use Rattle.closure.proofs.FlagLaws.{NotedPart}
 use Rattle.closure.proofs.note_pairs.Given as goal
 
 abbrev pub invariant-loop-at : goal.invariant-loop-at

@@ -1,8 +1,5 @@
 -- `closure::note_wide` meets its contract. Assumes nothing.
-use Prim.Native.Nat.{◌-◌}
-use lib.ListN.{length}
-use borrow.Author.Rules.{rules}
-use Rattle.closure.proofs.FlagLaws.{NotedPart, noted_none, noted_more, noted_all}
+use Rattle.closure.proofs.FlagLaws.{noted_none, noted_more, noted_all}
 use Rattle.closure.proofs.note_wide.Goals as goal
 
 pub loop-at-init : goal.loop-at-init

@@ -1,12 +1,9 @@
 -- `closure::on_diagonal` meets its contract. Assumes nothing.
-use Prim.Native.Nat.{ℕ, ◌≤◌, ◌<◌, ◌-◌}
-use mathlib.Core.Path.{◌≡◌, sym}
-use mathlib.Core.Bool.{false}
+use mathlib.Core.Path.{sym}
 use native.Mathlib.Omega.{arith}
 use borrow.Author.Rules.{rules}
 use borrow.Author.Count.{below_none, below_more}
 use Rattle.answer.proofs.LowestLaws.{at_is, absent_is}
-use Rattle.closure.specs.Flags.{flag}
 use Rattle.closure.proofs.on_diagonal.Goals as goal
 
 pub loop-k-init : goal.loop-k-init

@@ -1,11 +1,7 @@
 -- `closure::on_diagonal` meets its contract. Assumes nothing.
 use Prim.Native.Nat.{ℕ, ◌≤◌, ◌<◌, ◌-◌}
-use mathlib.Core.Path.{◌≡◌, sym}
+use mathlib.Core.Path.{◌≡◌}
 use mathlib.Core.Bool.{false}
-use native.Mathlib.Omega.{arith}
-use borrow.Author.Rules.{rules}
-use borrow.Author.Count.{below_none, below_more}
-use Rattle.answer.proofs.LowestLaws.{at_is, absent_is}
 use Rattle.closure.specs.Flags.{flag}
 use Rattle.closure.proofs.on_diagonal.Given as goal
 

@@ -1,5 +1,5 @@
 -- `cost::amounts` meets its contract: the tests that led to each answer decide it. Assumes nothing.
-use Rattle.std.proofs.Common.{refl, rules, le-ltb, lt-ltb}
+use Rattle.std.proofs.Common.{refl, le-ltb, lt-ltb}
 use Rattle.answer.proofs.StageLaws.{told_here, told_later, none_told}
 use Rattle.cost.specs.Sequence.{amounts}
 use Rattle.cost.proofs.amounts.Goals as goal

@@ -1,5 +1,4 @@
 -- `cost::closer` meets its contract: step by step what the definition names, and then its test. Assumes nothing.
-use Rattle.std.proofs.Common.{rules}
 use Rattle.cost.specs.Closest.{closer_of}
 use Rattle.cost.proofs.closer.Goals as goal
 

@@ -1,5 +1,4 @@
 -- `cost::closest_point_on_polygon` meets its contract: by what the check answers. Assumes nothing.
-use Rattle.std.proofs.Common.{rules}
 use Rattle.cost.specs.Closest.{closest_on_polygon_of}
 use Rattle.cost.proofs.Answers.{is_located, not-located}
 use Rattle.cost.proofs.closest_point_on_polygon.Goals as goal

@@ -1,7 +1,7 @@
 -- `cost::closest_to` meets its contract. The loop's invariant: finishing from edge i with the best so far gives what
 -- the whole walk gives. Assumes nothing.
-use Rattle.std.proofs.Common.{◌-◌, ◌/◌, ◌≤◌, length, arith, rules}
-use Rattle.cost.proofs.ClosestLaws.{Onwards, onwards_step, onwards_done, no_vertices}
+use Rattle.std.proofs.Common.{arith, rules}
+use Rattle.cost.proofs.ClosestLaws.{onwards_step, onwards_done, no_vertices}
 use Rattle.cost.proofs.closest_to.Goals as goal
 
 pub returns-then-n-eq0 : goal.returns-then-n-eq0

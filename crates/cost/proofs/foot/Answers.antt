@@ -1,5 +1,4 @@
 -- `cost::foot` meets its contract: the test on the squared length decides it. Assumes nothing.
-use Rattle.std.proofs.Common.{rules}
 use Rattle.cost.specs.Closest.{foot_of}
 use Rattle.cost.proofs.foot.Goals as goal
 

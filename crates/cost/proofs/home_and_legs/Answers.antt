@@ -1,6 +1,6 @@
 -- `cost::home_and_legs` meets its contract: the test on home, else the first bad point of the legs, counted on by one.
 -- Assumes nothing.
-use Rattle.std.proofs.Common.{sym, ◌∙◌, arith, rules}
+use Rattle.std.proofs.Common.{sym, ◌∙◌, arith}
 use Rattle.answer.specs.Stage.{first_refusal}
 use Rattle.cost.specs.Rapid.{home_and_legs}
 use Rattle.cost.proofs.RapidLaws.{bad_within}
@@ -17,11 +17,11 @@ overflow_add-k c =
 pub returns-in-At : goal.returns-in-At
 unfolding home_and_legs first_refusal
 returns-in-At c = rw (
-      ← c.bad_point.ensures,
-      c.if-bad_point.false,
-      ← c.first_bad.ensures,
-      c.in-At.is,
-    )
+  ← c.bad_point.ensures,
+  c.if-bad_point.false,
+  ← c.first_bad.ensures,
+  c.in-At.is,
+)
     c.refused-in-At.ensures
 
 pub returns-in-Absent : goal.returns-in-Absent

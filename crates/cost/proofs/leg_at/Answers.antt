@@ -1,5 +1,5 @@
 -- `cost::leg_at` meets its contract: a leg's two points stand side by side. Assumes nothing.
-use Rattle.std.proofs.Common.{sym, rules}
+use Rattle.std.proofs.Common.{sym}
 use Rattle.points.proofs.PointLaws.{leg_of_lem}
 use Rattle.cost.proofs.leg_at.Goals as goal
 

@@ -1,5 +1,4 @@
 -- `cost::point_distance` meets its contract: by what the check answers. Assumes nothing.
-use Rattle.std.proofs.Common.{rules}
 use Rattle.cost.specs.Distance.{point_distance_of}
 use Rattle.cost.proofs.Answers.{is_measured, not-measured}
 use Rattle.cost.proofs.point_distance.Goals as goal

@@ -1,5 +1,4 @@
 -- `cost::point_distance_sq` meets its contract: by what the check answers. Assumes nothing.
-use Rattle.std.proofs.Common.{rules}
 use Rattle.cost.specs.Distance.{point_distance_sq_of}
 use Rattle.cost.proofs.Answers.{is_measured, not-measured}
 use Rattle.cost.proofs.point_distance_sq.Goals as goal

@@ -1,7 +1,7 @@
 -- `cost::rapid_distance` meets its contract. The loop's invariant: going on from leg k with the sum so far gives what
 -- going on from leg 1 gave. Assumes nothing.
-use Rattle.std.proofs.Common.{◌-◌, ◌/◌, ◌≤◌, length, refl, arith, rules}
-use Rattle.cost.proofs.RapidLaws.{Onwards, onwards_step, onwards_done, no_legs}
+use Rattle.std.proofs.Common.{refl, arith}
+use Rattle.cost.proofs.RapidLaws.{onwards_step, onwards_done, no_legs}
 use Rattle.cost.proofs.rapid_distance.Goals as goal
 
 pub returns-then-n-eq0 : goal.returns-then-n-eq0

@@ -1,7 +1,7 @@
 -- `cost::rapid_distance` meets its contract. The loop's invariant: going on from leg k with the sum so far gives what
 -- going on from leg 1 gave. Assumes nothing.
-use Rattle.std.proofs.Common.{◌-◌, ◌/◌, ◌≤◌, length, refl, arith, rules}
-use Rattle.cost.proofs.RapidLaws.{Onwards, onwards_step, onwards_done, no_legs}
+use Rattle.std.proofs.Common.{◌-◌, ◌/◌, ◌≤◌, length}
+use Rattle.cost.proofs.RapidLaws.{Onwards}
 use Rattle.cost.proofs.rapid_distance.Given as goal
 
 abbrev pub invariant-loop-k : goal.invariant-loop-k

@@ -1,5 +1,4 @@
 -- `cost::sequence_cost` meets its contract: by what the check answers. Assumes nothing.
-use Rattle.std.proofs.Common.{rules}
 use Rattle.cost.specs.Sequence.{sequence_cost_of}
 use Rattle.cost.proofs.Answers.{is_measured, not-measured}
 use Rattle.cost.proofs.sequence_cost.Goals as goal

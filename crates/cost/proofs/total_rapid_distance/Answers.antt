@@ -1,5 +1,4 @@
 -- `cost::total_rapid_distance` meets its contract: by what the check answers. Assumes nothing.
-use Rattle.std.proofs.Common.{rules}
 use Rattle.cost.specs.Rapid.{total_rapid_of}
 use Rattle.cost.proofs.Answers.{is_measured, not-measured}
 use Rattle.cost.proofs.total_rapid_distance.Goals as goal

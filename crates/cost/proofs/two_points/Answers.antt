@@ -1,5 +1,4 @@
 -- `cost::two_points` meets its contract: the tests that led to each answer decide it. Assumes nothing.
-use Rattle.std.proofs.Common.{rules}
 use Rattle.answer.proofs.StageLaws.{told_here, told_later, none_told}
 use Rattle.cost.specs.Distance.{two_points}
 use Rattle.cost.proofs.two_points.Goals as goal

@@ -1,6 +1,5 @@
 -- `feed::add` meets its contract: a refusal, no bytes, or what is kept of the piece. Assumes nothing.
 use Rattle.feed.proofs.FeedLaws.{told_late, told_none, told_small, add_kept}
-use borrow.Author.Rules.{rules}
 use Rattle.feed.proofs.add.Goals as goal
 
 pub returns-then-f : goal.returns-then-f

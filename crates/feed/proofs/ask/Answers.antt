@@ -2,7 +2,6 @@
 use native.Mathlib.Omega.{arith}
 use Rattle.tour.proofs.DoorLaws.{part_lent}
 use Rattle.feed.proofs.FeedLaws.{told-unasked, ask-over, ask-kept}
-use borrow.Author.Rules.{rules}
 use Rattle.feed.proofs.ask.Goals as goal
 
 pub returns-then-held-lt-CARD_BYTES : goal.returns-then-held-lt-CARD_BYTES

@@ -1,6 +1,5 @@
 -- `fields::contour_byte` meets its contract. Assumes nothing.
 use Prim.Native.Nat.{◌+◌}
-use borrow.Author.Rules.{rules}
 use Rattle.fields.specs.Layout.{payload}
 use Rattle.block.proofs.Readings.{byte_of}
 use Rattle.fields.proofs.contour_byte.Goals as goal

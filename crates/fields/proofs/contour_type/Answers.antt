@@ -1,6 +1,5 @@
 -- `fields::contour_type` meets its contract. Assumes nothing.
 use borrow.Author.Tests.{eq-eqb, ne_eqb}
-use borrow.Author.Rules.{rules}
 use Rattle.fields.specs.Values.{as_type}
 use Rattle.fields.proofs.contour_type.Goals as goal
 

@@ -1,5 +1,4 @@
 -- `fields::contour_u32` meets its contract. Assumes nothing.
-use borrow.Author.Rules.{rules}
 use Rattle.block.proofs.Readings.{u32_of}
 use Rattle.fields.proofs.contour_u32.Goals as goal
 

@@ -1,5 +1,4 @@
 -- `fields::copy` meets its contract. Assumes nothing.
-use borrow.Author.Rules.{rules}
 use Rattle.fields.proofs.copy.Goals as goal
 
 pub returns-then-is_two : goal.returns-then-is_two

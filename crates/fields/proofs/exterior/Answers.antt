@@ -1,6 +1,5 @@
 -- `fields::exterior` meets its contract. Assumes nothing.
 use mathlib.Core.Path.{ap, ◌∙◌}
-use borrow.Author.Rules.{rules}
 use Rattle.fields.specs.Values.{as_preference}
 use Rattle.fields.proofs.exterior.Goals as goal
 

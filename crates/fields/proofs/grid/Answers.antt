@@ -1,6 +1,4 @@
 -- `fields::grid` meets its contract. Assumes nothing.
-use borrow.Author.Rules.{rules}
-use borrow.Author.Tests.{not-true, not-false}
 use Rattle.fields.proofs.grid.Goals as goal
 
 pub returns-then-not-is_two : goal.returns-then-not-is_two

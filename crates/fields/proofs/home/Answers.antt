@@ -1,5 +1,4 @@
 -- `fields::home` meets its contract. Assumes nothing.
-use borrow.Author.Rules.{rules}
 use Rattle.fields.specs.Values.{point_at}
 use Rattle.fields.proofs.home.Goals as goal
 

@@ -1,5 +1,4 @@
 -- `fields::pair_u32` meets its contract. Assumes nothing.
-use borrow.Author.Rules.{rules}
 use Rattle.block.proofs.Readings.{u32_on}
 use Rattle.fields.proofs.pair_u32.Goals as goal
 

@@ -1,5 +1,4 @@
 -- `fields::part` meets its contract. Assumes nothing.
-use borrow.Author.Rules.{rules}
 use Rattle.fields.proofs.part.Goals as goal
 
 pub returns-then-is_two : goal.returns-then-is_two

@@ -1,5 +1,4 @@
 -- `fields::vertex` meets its contract. Assumes nothing.
-use borrow.Author.Rules.{rules}
 use Rattle.fields.proofs.ValueLaws.{point_is}
 use Rattle.fields.proofs.vertex.Goals as goal
 

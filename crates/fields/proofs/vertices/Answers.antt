@@ -1,5 +1,4 @@
 -- `fields::vertices` meets its contract. Assumes nothing.
-use borrow.Author.Rules.{rules}
 use Rattle.block.proofs.Readings.{u16_of}
 use Rattle.fields.proofs.vertices.Goals as goal
 

@@ -1,5 +1,4 @@
 -- `grid::moved` meets its contract: by the side of zero on which the number lies, and by how far out. Assumes nothing.
-use Rattle.std.proofs.Common.{rules}
 use Rattle.grid.proofs.MoveLaws.{moved_below, moved-zero, above_of_below, stays_above, stays_below}
 use Rattle.grid.proofs.moved.Goals as goal
 

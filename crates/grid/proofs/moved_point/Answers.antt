@@ -1,5 +1,4 @@
 -- `grid::moved_point` meets its contract: each coordinate by itself. Assumes nothing.
-use Rattle.std.proofs.Common.{rules}
 use Rattle.grid.specs.Move.{moved_point}
 use Rattle.grid.proofs.moved_point.Goals as goal
 

@@ -1,6 +1,5 @@
 -- `grid::moved_up` meets its contract: so many units are a number, and so is their share of a millimetre. Assumes
 -- nothing.
-use Rattle.std.proofs.Common.{rules}
 use Rattle.grid.proofs.MoveLaws.{moved_up, small_is, units_small}
 use Rattle.grid.proofs.moved_up.Goals as goal
 

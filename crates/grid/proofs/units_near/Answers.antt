@@ -1,7 +1,6 @@
 -- `grid::units_near` meets its contract: each of its steps is exact. Assumes nothing.
 use Rattle.std.proofs.Common.{arith}
-use lib.Ieee.{mul, binary64, of_bits}
-use Rattle.grid.proofs.MoveLaws.{Halved, halved, small_is, units_small}
+use Rattle.grid.proofs.MoveLaws.{halved, small_is, units_small}
 use Rattle.grid.proofs.units_near.Goals as goal
 
 pub truncating_f64_to_u64-requires : goal.truncating_f64_to_u64-requires
@@ -12,5 +11,8 @@ overflow_add-result c = let few = ((halved c.args.a (rw c.well_formed.0.1 tt) (s
 
 pub returns : goal.returns
 returns c =
-    let a = c.args.a in record { value = rw c.truncating_f64_to_u64.ensures ((halved c.args.a (rw c.well_formed.0.1 tt) (small_is c.args.a c.requires.0 c.requires.1))).is; upper_bound = rw (c.truncating_f64_to_u64.ensures, ((halved c.args.a (rw c.well_formed.0.1 tt) (small_is c.args.a c.requires.0 c.requires.1))).is)
-          (units_small a (small_is a c.requires.0 c.requires.1)) }
+    let a = c.args.a in record {
+      value = rw c.truncating_f64_to_u64.ensures ((halved c.args.a (rw c.well_formed.0.1 tt) (small_is c.args.a c.requires.0 c.requires.1))).is;
+      upper_bound = rw (c.truncating_f64_to_u64.ensures, ((halved c.args.a (rw c.well_formed.0.1 tt) (small_is c.args.a c.requires.0 c.requires.1))).is)
+          (units_small a (small_is a c.requires.0 c.requires.1));
+    }

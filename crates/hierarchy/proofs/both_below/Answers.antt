@@ -1,6 +1,5 @@
 -- `hierarchy::both_below` meets its contract. Assumes nothing.
 use Rattle.hierarchy.proofs.SortLaws.{both_told, both_high}
-use borrow.Author.Rules.{rules}
 use Rattle.hierarchy.proofs.both_below.Goals as goal
 
 pub returns-then-wide32-n : goal.returns-then-wide32-n

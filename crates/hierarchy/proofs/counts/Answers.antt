@@ -1,6 +1,5 @@
 -- `hierarchy::counts` meets its contract. Assumes nothing.
 use Rattle.hierarchy.proofs.SortLaws.{counts_other, counts_same}
-use borrow.Author.Rules.{rules}
 use Rattle.hierarchy.proofs.counts.Goals as goal
 
 pub returns-then-b-x : goal.returns-then-b-x

@@ -1,10 +1,7 @@
 -- `hierarchy::has_pair` meets its contract. Assumes nothing.
-use Prim.Native.Nat.{◌-◌}
-use lib.ListN.{length}
-use borrow.Author.Rules.{rules}
 use mathlib.Core.Bool.{true}
-use Rattle.closure.specs.Pairs.{some_of, is_pair}
-use Rattle.closure.proofs.PairLaws.{WalkPart, walk_none, walk-on, walk-told, walk_end, some_on, some_here}
+use Rattle.closure.specs.Pairs.{some_of}
+use Rattle.closure.proofs.PairLaws.{walk_none, walk-on, walk-told, walk_end, some_on, some_here}
 use Rattle.closure.proofs.PairLaws.{is_pair_lem, other_first, other_second}
 use Rattle.hierarchy.proofs.has_pair.Goals as goal
 

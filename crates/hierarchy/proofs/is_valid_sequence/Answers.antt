@@ -1,6 +1,5 @@
 -- `hierarchy::is_valid_sequence` meets its contract. Assumes nothing.
 use Rattle.hierarchy.proofs.CheckLaws.{valid_long, valid_told, valid_refused}
-use borrow.Author.Rules.{rules}
 use Rattle.hierarchy.proofs.is_valid_sequence.Goals as goal
 
 pub returns-then-ids-gt-CONTOURS : goal.returns-then-ids-gt-CONTOURS

@@ -1,12 +1,7 @@
 -- `hierarchy::keeps_ids` meets its contract. Assumes nothing.
-use Prim.Native.Nat.{◌-◌}
-use lib.ListN.{length}
-use borrow.Author.Rules.{rules}
-use borrow.Author.Tests.{not-true, not-false}
 use mathlib.Core.Path.{◌∙◌}
 use Rattle.closure.specs.Pairs.{every}
-use Rattle.closure.proofs.PairLaws.{WalkPart, walk_none, walk_end}
-use Rattle.keep.specs.Keep.{kept_in}
+use Rattle.closure.proofs.PairLaws.{walk_none, walk_end}
 use Rattle.keep.proofs.RankLaws.{pair_kept, pair_broken, keeps_is}
 use Rattle.hierarchy.proofs.keeps_ids.Goals as goal
 

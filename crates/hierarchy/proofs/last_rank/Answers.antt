@@ -1,8 +1,5 @@
 -- `hierarchy::last_rank` meets its contract. Assumes nothing.
-use Prim.Native.Nat.{◌-◌}
-use lib.ListN.{length}
-use borrow.Author.Rules.{rules}
-use Rattle.keep.proofs.RankLaws.{LatestPart, latest-none, latest_here, latest_other, latest_all}
+use Rattle.keep.proofs.RankLaws.{latest-none, latest_here, latest_other, latest_all}
 use Rattle.hierarchy.proofs.last_rank.Goals as goal
 
 pub loop-i-init : goal.loop-i-init

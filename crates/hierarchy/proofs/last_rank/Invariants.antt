@@ -1,8 +1,7 @@
 -- `hierarchy::last_rank` meets its contract. Assumes nothing.
 use Prim.Native.Nat.{◌-◌}
 use lib.ListN.{length}
-use borrow.Author.Rules.{rules}
-use Rattle.keep.proofs.RankLaws.{LatestPart, latest-none, latest_here, latest_other, latest_all}
+use Rattle.keep.proofs.RankLaws.{LatestPart}
 use Rattle.hierarchy.proofs.last_rank.Given as goal
 
 abbrev pub invariant-loop-i : goal.invariant-loop-i

@@ -1,7 +1,6 @@
 -- `hierarchy::list_free` meets its contract. Assumes nothing.
-use Prim.Native.Nat.{◌-◌}
 use borrow.Author.Rules.{rules}
-use Rattle.hierarchy.proofs.SortLaws.{FreePart, free-none, free_yes, free_no, free_all}
+use Rattle.hierarchy.proofs.SortLaws.{free-none, free_yes, free_no, free_all}
 use Rattle.hierarchy.proofs.list_free.Goals as goal
 
 pub loop-k-init : goal.loop-k-init

@@ -1,14 +1,11 @@
 -- `hierarchy::list_others` meets its contract. Assumes nothing.
 use Prim.Native.Nat.{◌-◌}
 use mathlib.Core.Bool.{not}
-use mathlib.Core.Path.{sym, ◌∙◌}
 use lib.Dec.{eqb}
 use lib.ListN.{length}
-use borrow.Author.Rules.{rules}
-use borrow.Author.Tests.{eq-eqb, ne_eqb}
 use Rattle.closure.specs.Limits.{pair_limit}
 use Rattle.hierarchy.specs.Code.{side_of}
-use Rattle.hierarchy.proofs.FillLaws.{PickPart, pick_none, pick_yes, pick_no, pick_all, ids_of_lem}
+use Rattle.hierarchy.proofs.FillLaws.{PickPart}
 use Rattle.hierarchy.proofs.list_others.Given as goal
 
 abbrev pub invariant-loop-at : goal.invariant-loop-at

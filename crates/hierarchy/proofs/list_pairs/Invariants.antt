@@ -1,13 +1,10 @@
 -- `hierarchy::list_pairs` meets its contract. Assumes nothing.
 use Prim.Native.Nat.{◌-◌}
 use lib.ListN.{length}
-use borrow.Author.Rules.{rules}
 use Prim.Native.Nat.{◌*◌, ◌≤◌}
-use mathlib.Core.Path.{refl}
 use lib.ListN.{take}
 use Rattle.closure.specs.Limits.{pair_limit}
 use Rattle.hierarchy.specs.Fill.{Filled}
-use Rattle.hierarchy.proofs.FillLaws.{filled_none, copy_more, pairs_of}
 use Rattle.hierarchy.proofs.list_pairs.Given as goal
 
 abbrev pub invariant-loop-i : goal.invariant-loop-i

@@ -1,6 +1,5 @@
 -- `hierarchy::loosen` meets its contract. Assumes nothing.
 use Rattle.hierarchy.proofs.SortLaws.{room_left, loosen_last, loosen-one}
-use borrow.Author.Rules.{rules}
 use Rattle.hierarchy.proofs.loosen.Goals as goal
 
 pub bounds-order-count : goal.bounds-order-count

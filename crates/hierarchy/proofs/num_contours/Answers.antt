@@ -2,7 +2,6 @@
 use mathlib.Core.Path.{sym, ap, ◌∙◌}
 use Rattle.answer.specs.declared.Check.{Check}
 use Rattle.answer.specs.Count.{count_unless}
-use borrow.Author.Rules.{rules}
 use Rattle.hierarchy.proofs.num_contours.Goals as goal
 
 pub returns-in-Fine : goal.returns-in-Fine

@@ -1,7 +1,6 @@
 -- `hierarchy::others` meets its contract. Assumes nothing.
 use mathlib.Core.Path.{sym, ◌∙◌}
 use Rattle.hierarchy.proofs.CheckLaws.{fine_small, ids_refused, ids_fine}
-use borrow.Author.Rules.{rules}
 use Rattle.hierarchy.proofs.others.Goals as goal
 
 pub returns-in_default : goal.returns-in_default

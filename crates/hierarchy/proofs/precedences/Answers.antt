@@ -1,7 +1,6 @@
 -- `hierarchy::precedences` meets its contract. Assumes nothing.
 use mathlib.Core.Path.{sym, ◌∙◌}
 use Rattle.hierarchy.proofs.CheckLaws.{fine_small, pair_list_refused, pair_list_fine}
-use borrow.Author.Rules.{rules}
 use Rattle.hierarchy.proofs.precedences.Goals as goal
 
 pub returns-in_default : goal.returns-in_default

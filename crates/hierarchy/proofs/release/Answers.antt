@@ -1,9 +1,6 @@
 -- `hierarchy::release` meets its contract. Assumes nothing.
-use Prim.Native.Nat.{◌-◌}
-use lib.ListN.{length}
 use borrow.Author.Rules.{rules}
-use Rattle.hierarchy.specs.Code.{standing}
-use Rattle.hierarchy.proofs.SortLaws.{ReleasePart, release-none, release_hit, release_miss, release_low}
+use Rattle.hierarchy.proofs.SortLaws.{release-none, release_hit, release_miss, release_low}
 use Rattle.hierarchy.proofs.SortLaws.{release_all}
 use Rattle.hierarchy.proofs.release.Goals as goal
 

@@ -1,10 +1,8 @@
 -- `hierarchy::tally` meets its contract. Assumes nothing.
-use Prim.Native.Nat.{◌-◌}
 use mathlib.Core.Path.{sym, ◌∙◌}
-use lib.ListN.{length}
 use borrow.Author.Rules.{rules}
 use native.Mathlib.Omega.{arith}
-use Rattle.hierarchy.proofs.SortLaws.{TallyPart, tally-none, tally_hit, tally_miss, tally_low, tally_all}
+use Rattle.hierarchy.proofs.SortLaws.{tally-none, tally_hit, tally_miss, tally_low, tally_all}
 use Rattle.hierarchy.proofs.tally.Goals as goal
 
 pub loop-at-init : goal.loop-at-init

@@ -1,7 +1,6 @@
 -- `hierarchy::topological_sort` meets its contract. Assumes nothing.
 use mathlib.Core.Path.{sym, ◌∙◌}
 use Rattle.hierarchy.proofs.CheckLaws.{fine_small, sort_refused, sort_cycle, sort_told}
-use borrow.Author.Rules.{rules}
 use Rattle.hierarchy.proofs.topological_sort.Goals as goal
 
 pub returns-in_default : goal.returns-in_default

@@ -1,6 +1,5 @@
 -- `hierarchy::violates` meets its contract. Assumes nothing.
 use Rattle.hierarchy.proofs.CheckLaws.{verdict_fine, verdict_refused}
-use borrow.Author.Rules.{rules}
 use Rattle.hierarchy.proofs.violates.Goals as goal
 
 pub returns-in_default : goal.returns-in_default

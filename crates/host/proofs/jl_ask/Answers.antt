@@ -1,6 +1,5 @@
 -- `host::jl_ask` meets its contract: the table is the library's own. Assumes nothing.
 use Rattle.host.proofs.FeedLaws.{asked_small, asked_refused, asked_done}
-use Rattle.std.proofs.Common.{rules}
 use Rattle.host.proofs.jl_ask.Goals as goal
 
 pub number_of-requires : goal.number_of-requires

@@ -1,5 +1,4 @@
 -- `host::jl_bridges` meets its contract: by what the check answers. Assumes nothing.
-use Rattle.std.proofs.Common.{rules}
 use Rattle.bridge.proofs.AnswerLaws.{count_fits, items_fill}
 use Rattle.host.proofs.BridgeLaws.{bridges_refused, bridges_fine}
 use Rattle.host.proofs.jl_bridges.Goals as goal

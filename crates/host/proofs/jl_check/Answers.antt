@@ -1,5 +1,5 @@
 -- `host::jl_check` meets its contract. Assumes nothing.
-use Rattle.std.proofs.Common.{ap, ◌∙◌, rules}
+use Rattle.std.proofs.Common.{ap, ◌∙◌}
 use Rattle.answer.specs.Code.{code_of}
 use Rattle.host.proofs.jl_check.Goals as goal
 

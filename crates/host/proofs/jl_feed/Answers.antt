@@ -1,6 +1,5 @@
 -- `host::jl_feed` meets its contract. Assumes nothing.
 use Rattle.host.proofs.FeedLaws.{fed_small, fed-refused, fed-taken}
-use Rattle.std.proofs.Common.{rules}
 use Rattle.host.proofs.jl_feed.Goals as goal
 
 pub number_of-requires : goal.number_of-requires

@@ -1,6 +1,5 @@
 -- `host::jl_place` meets its contract. Assumes nothing.
 use Rattle.host.proofs.HostLaws.{place_told-refused, place_told}
-use Rattle.std.proofs.Common.{rules}
 use Rattle.host.proofs.jl_place.Goals as goal
 
 pub returns-in-Refused : goal.returns-in-Refused

@@ -4,7 +4,6 @@ use lib.ListN.{length-replicate}
 use Rattle.points.specs.Numbers.{zero64}
 use Rattle.table.specs.Distances.{entry_limit}
 use Rattle.host.proofs.HostLaws.{host_refused, host_done}
-use Rattle.std.proofs.Common.{rules}
 use Rattle.host.proofs.jl_tour.Goals as goal
 
 pub returns-in-Refused : goal.returns-in-Refused

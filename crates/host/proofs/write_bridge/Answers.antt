@@ -1,5 +1,5 @@
 -- `host::write_bridge` meets its contract: eight stores in a row. Assumes nothing.
-use Rattle.std.proofs.Common.{◌*◌, pos, arith, rules}
+use Rattle.std.proofs.Common.{◌*◌, pos, arith}
 use lib.Ieee.{binary64, of_int}
 use Rattle.host.proofs.BridgeLaws.{eight_stores}
 use Rattle.host.proofs.write_bridge.Goals as goal

@@ -1,7 +1,7 @@
 -- `host::write_bridges` meets its contract. The loop's invariant: the first k bridges stand in the room. Assumes
 -- nothing.
-use Rattle.std.proofs.Common.{◌≡◌, ◌-◌, ◌≤◌, refl, arith}
-use Rattle.host.proofs.BridgeLaws.{Stood, stood_none, stood_more}
+use Rattle.std.proofs.Common.{◌-◌, ◌≤◌}
+use Rattle.host.proofs.BridgeLaws.{Stood}
 use Rattle.host.proofs.write_bridges.Given as goal
 
 abbrev pub invariant-loop-k : goal.invariant-loop-k

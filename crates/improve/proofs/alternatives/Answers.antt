@@ -1,15 +1,8 @@
 -- `improve::alternatives` meets its contract. The invariant: the candidates still to come make of this state what all
 -- of them make of the first; the count has grown by no more than the candidates passed. Assumes nothing.
-use mathlib.Core.List.{[]}
-use mathlib.Core.Path.{◌≡◌, refl, sym, ◌∙◌}
-use Prim.Native.Nat.{◌+◌, ◌-◌, ◌≤◌, ◌<◌}
+use mathlib.Core.Path.{refl, sym, ◌∙◌}
 use native.Mathlib.Omega.{arith}
-use borrow.Author.Rules.{rules}
-use lib.ListN.{length}
-use Rattle.table.proofs.EachLaws.{onwards, begin, carry, arrive}
-use Rattle.table.specs.Each.{each}
-use Rattle.improve.specs.Code.{going, chart_of}
-use Rattle.improve.specs.Search.{alternative}
+use Rattle.table.proofs.EachLaws.{begin, carry, arrive}
 use Rattle.improve.proofs.IdleLaws.{halt}
 use Rattle.improve.proofs.TrialLaws.{alternative_idle, alternative-held, alternative-stops, alternative_goes}
 use Rattle.improve.proofs.alternatives.Goals as goal
@@ -42,9 +35,12 @@ shape_of-tour-then-at_limit c = c.loop-a.invariant.1
 
 pub returns-then-at_limit : goal.returns-then-at_limit
 returns-then-at_limit c =
-    let l = c.loop-a in record { result_after = halt _ _ _ _ _ _ (alternative_idle _ _ _ _) l.invariant.0 c.loop-a-test.true
+    let l = c.loop-a in record {
+      result_after = halt _ _ _ _ _ _ (alternative_idle _ _ _ _) l.invariant.0 c.loop-a-test.true
           (alternative-stops _ _ _ _ _ _ _ _ _ _ c.if-a-held.false c.at_limit.ensures
-          c.if-at_limit.true) refl; moves_bound_2 = omega arith }
+          c.if-at_limit.true) refl;
+      moves_bound_2 = omega arith;
+    }
 
 pub try_candidate-r-requires : goal.try_candidate-r-requires
 try_candidate-r-requires c = omega (arith, c.loop-a.invariant.1)

@@ -1,17 +1,13 @@
 -- `improve::alternatives` meets its contract. The invariant: the candidates still to come make of this state what all
 -- of them make of the first; the count has grown by no more than the candidates passed. Assumes nothing.
 use mathlib.Core.List.{[]}
-use mathlib.Core.Path.{◌≡◌, refl, sym, ◌∙◌}
+use mathlib.Core.Path.{◌≡◌}
 use Prim.Native.Nat.{◌+◌, ◌-◌, ◌≤◌, ◌<◌}
-use native.Mathlib.Omega.{arith}
-use borrow.Author.Rules.{rules}
 use lib.ListN.{length}
-use Rattle.table.proofs.EachLaws.{onwards, begin, carry, arrive}
+use Rattle.table.proofs.EachLaws.{onwards}
 use Rattle.table.specs.Each.{each}
 use Rattle.improve.specs.Code.{going, chart_of}
 use Rattle.improve.specs.Search.{alternative}
-use Rattle.improve.proofs.IdleLaws.{halt}
-use Rattle.improve.proofs.TrialLaws.{alternative_idle, alternative-held, alternative-stops, alternative_goes}
 use Rattle.improve.proofs.alternatives.Given as goal
 
 abbrev pub invariant-loop-a : goal.invariant-loop-a

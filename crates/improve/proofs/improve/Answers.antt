@@ -1,5 +1,4 @@
 -- `improve::improve` meets its contract: a tour that is not worth a search is left alone. Assumes nothing.
-use borrow.Author.Rules.{rules}
 use Rattle.improve.proofs.PassLaws.{no_passes, too_few, too_many, worthy}
 use Rattle.improve.proofs.improve.Goals as goal
 

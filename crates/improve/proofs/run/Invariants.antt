@@ -1,19 +1,13 @@
 -- `improve::run` meets its contract. Each loop's invariant: what is still to come in it makes of this state what the
 -- whole loop makes of the state at its beginning. Assumes nothing.
 use mathlib.Core.Bool.{true}
-use mathlib.Core.Path.{◌≡◌, refl, sym, ◌∙◌}
+use mathlib.Core.Path.{◌≡◌}
 use Prim.Native.Nat.{◌+◌, ◌*◌, ◌-◌, ◌≤◌}
-use native.Mathlib.Omega.{arith}
-use borrow.Author.Rules.{rules}
-use borrow.Author.Tests.{not-true, not-false}
 use lib.ListN.{length}
-use Rattle.table.proofs.EachLaws.{onwards, begin, begin-zero, carry, arrive}
+use Rattle.table.proofs.EachLaws.{onwards}
 use Rattle.table.specs.Each.{each}
 use Rattle.improve.specs.Code.{going, chart_of}
 use Rattle.improve.specs.Search.{reversal, row, repeated, begun}
-use Rattle.improve.proofs.PassLaws.{moves_fit, repeat_begin, repeat_over, cut_in_turns, cut_in_rows, pass_again}
-use Rattle.improve.proofs.PassLaws.{pass_quiet, row_is, reached}
-use Rattle.improve.proofs.TrialLaws.{reversal-stops, reversal_goes}
 use Rattle.improve.proofs.run.Given as goal
 
 abbrev pub invariant-loop-j : goal.invariant-loop-j

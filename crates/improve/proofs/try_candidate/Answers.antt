@@ -1,5 +1,4 @@
 -- `improve::try_candidate` meets its contract: a rejected candidate is overwritten. Assumes nothing.
-use borrow.Author.Rules.{rules}
 use lib.Seq.{set-set}
 use Rattle.improve.proofs.TrialLaws.{accepts, rejects}
 use Rattle.improve.proofs.try_candidate.Goals as goal

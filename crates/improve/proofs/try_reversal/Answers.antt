@@ -2,7 +2,6 @@
 use mathlib.Core.List.{List}
 use Prim.Native.Nat.{ℕ}
 use native.Mathlib.Omega.{arith}
-use borrow.Author.Rules.{rules}
 use Rattle.keep.specs.Keep.{keeps_pairs}
 use Rattle.table.specs.Evaluate.{length_of}
 use Rattle.improve.specs.Search.{contours}

@@ -1,15 +1,8 @@
 -- `improve::turns` meets its contract. The invariant: the turns still to come make of this state what all of them make
 -- of the first. Assumes nothing.
-use mathlib.Core.Bool.{false}
-use mathlib.Core.List.{[]}
-use mathlib.Core.Path.{◌≡◌, refl, sym, ◌∙◌}
-use Prim.Native.Nat.{◌+◌, ◌*◌, ◌-◌, ◌≤◌}
+use mathlib.Core.Path.{refl, sym, ◌∙◌}
 use native.Mathlib.Omega.{arith}
-use lib.ListN.{length}
-use Rattle.table.proofs.EachLaws.{begin-zero, onwards, carry, arrive}
-use Rattle.table.specs.Each.{each}
-use Rattle.improve.specs.Code.{going, chart_of}
-use Rattle.improve.specs.Search.{turn}
+use Rattle.table.proofs.EachLaws.{begin-zero, carry, arrive}
 use Rattle.improve.proofs.IdleLaws.{halt}
 use Rattle.improve.proofs.TrialLaws.{goes_on, turn_idle}
 use Rattle.improve.proofs.turns.Goals as goal
@@ -27,8 +20,11 @@ shape_of-tour-then-r c =
 
 pub returns-then-r : goal.returns-then-r
 returns-then-r c =
-    let l = c.loop-p in record { result_after = halt _ _ _ _ _ _ (turn_idle _ _) l.invariant.0 c.loop-p-test.true
-          (sym c.turn_at-r.ensures.result_after) c.if-r.true; moves_bound_2 = omega arith }
+    let l = c.loop-p in record {
+      result_after = halt _ _ _ _ _ _ (turn_idle _ _) l.invariant.0 c.loop-p-test.true
+          (sym c.turn_at-r.ensures.result_after) c.if-r.true;
+      moves_bound_2 = omega arith;
+    }
 
 pub overflow_add-p : goal.overflow_add-p
 overflow_add-p c = omega arith

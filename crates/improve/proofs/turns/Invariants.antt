@@ -2,16 +2,13 @@
 -- of the first. Assumes nothing.
 use mathlib.Core.Bool.{false}
 use mathlib.Core.List.{[]}
-use mathlib.Core.Path.{◌≡◌, refl, sym, ◌∙◌}
+use mathlib.Core.Path.{◌≡◌}
 use Prim.Native.Nat.{◌+◌, ◌*◌, ◌-◌, ◌≤◌}
-use native.Mathlib.Omega.{arith}
 use lib.ListN.{length}
-use Rattle.table.proofs.EachLaws.{begin-zero, onwards, carry, arrive}
+use Rattle.table.proofs.EachLaws.{onwards}
 use Rattle.table.specs.Each.{each}
 use Rattle.improve.specs.Code.{going, chart_of}
 use Rattle.improve.specs.Search.{turn}
-use Rattle.improve.proofs.IdleLaws.{halt}
-use Rattle.improve.proofs.TrialLaws.{goes_on, turn_idle}
 use Rattle.improve.proofs.turns.Given as goal
 
 abbrev pub invariant-loop-p : goal.invariant-loop-p

@@ -1,5 +1,4 @@
 -- `improve::weigh` meets its contract. Assumes nothing.
-use borrow.Author.Rules.{rules}
 use Rattle.improve.proofs.TrialLaws.{weighs_in, weighs_illegal, weighs_out}
 use Rattle.improve.proofs.weigh.Goals as goal
 

@@ -2,7 +2,6 @@
 use native.Mathlib.Omega.{arith}
 use Rattle.instance.proofs.GatherLaws.{too_many_contours, none_wanted, too_many_each, too_many_candidates}
 use Rattle.instance.proofs.GatherLaws.{all_held, few}
-use borrow.Author.Rules.{rules}
 use Rattle.instance.proofs.held.Goals as goal
 
 pub returns-then-n-gt-CONTOURS : goal.returns-then-n-gt-CONTOURS

@@ -1,10 +1,8 @@
 -- `instance::joined` meets its contract. The loop's invariant: the first j of the candidates found, and their contour,
 -- are written. Assumes nothing.
-use mathlib.Core.Path.{◌≡◌}
-use Prim.Native.Nat.{◌≤◌, ◌-◌}
 use native.Mathlib.Omega.{arith}
 use lib.ListN.{replicate}
-use lib.Seq.{paste, paste-zero}
+use lib.Seq.{paste-zero}
 use Rattle.instance.proofs.GatherLaws.{item_copied, owner_noted, all_copied}
 use Rattle.instance.proofs.joined.Goals as goal
 
@@ -48,11 +46,11 @@ loop-j-smaller c = omega arith
 
 pub loop-j-preserved : goal.loop-j-preserved
 loop-j-preserved c = let l = c.loop-j in (
-      omega arith,
-      item_copied _ _ _ c.requires _ _ _ c.loop-j-test.true l.invariant.1,
-      owner_noted _ _ _
-          c.requires _ _ c.loop-j-test.true l.invariant.2,
-    )
+  omega arith,
+  item_copied _ _ _ c.requires _ _ _ c.loop-j-test.true l.invariant.1,
+  owner_noted _ _ _
+      c.requires _ _ c.loop-j-test.true l.invariant.2,
+)
 
 pub overflow_add-first : goal.overflow_add-first
 overflow_add-first c = omega arith

@@ -2,10 +2,8 @@
 -- are written. Assumes nothing.
 use mathlib.Core.Path.{◌≡◌}
 use Prim.Native.Nat.{◌≤◌, ◌-◌}
-use native.Mathlib.Omega.{arith}
 use lib.ListN.{replicate}
-use lib.Seq.{paste, paste-zero}
-use Rattle.instance.proofs.GatherLaws.{item_copied, owner_noted, all_copied}
+use lib.Seq.{paste}
 use Rattle.instance.proofs.joined.Given as goal
 
 abbrev pub invariant-loop-j : goal.invariant-loop-j

@@ -1,6 +1,5 @@
 -- `instance::offers` meets its contract. Assumes nothing.
 use Rattle.instance.proofs.GatherLaws.{outline_within, outline_count, offers_are}
-use borrow.Author.Rules.{rules}
 use Rattle.instance.proofs.offers.Goals as goal
 
 pub slice_bounds-numbers-end : goal.slice_bounds-numbers-end

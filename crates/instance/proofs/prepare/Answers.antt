@@ -1,6 +1,5 @@
 -- `instance::prepare` meets its contract. Assumes nothing.
 use Rattle.instance.proofs.PreparedLaws.{prepared_is}
-use borrow.Author.Rules.{rules}
 use Rattle.instance.proofs.prepare.Goals as goal
 
 pub returns : goal.returns

@@ -1,14 +1,9 @@
 -- `keep::is_ready` meets its contract. Assumes nothing.
 use Prim.Native.Nat.{◌-◌}
 use lib.ListN.{length}
-use borrow.Author.Rules.{rules}
-use borrow.Author.Tests.{not-true, not-false}
-use mathlib.Core.Bool.{false}
-use mathlib.Core.Path.{sym, ◌∙◌}
 use Rattle.closure.specs.Pairs.{every}
-use Rattle.closure.proofs.PairLaws.{WalkPart, walk_none, walk-on, walk-told, walk_end, every-on, every_off}
+use Rattle.closure.proofs.PairLaws.{WalkPart}
 use Rattle.keep.specs.Keep.{ready_by}
-use Rattle.keep.proofs.RankLaws.{ready_is}
 use Rattle.keep.proofs.is_ready.Given as goal
 
 abbrev pub invariant-loop-at : goal.invariant-loop-at

@@ -1,13 +1,9 @@
 -- `keep::keeps_pairs` meets its contract. Assumes nothing.
 use Prim.Native.Nat.{◌-◌}
 use lib.ListN.{length}
-use borrow.Author.Rules.{rules}
-use borrow.Author.Tests.{not-true, not-false}
-use mathlib.Core.Path.{◌∙◌}
 use Rattle.closure.specs.Pairs.{every}
-use Rattle.closure.proofs.PairLaws.{WalkPart, walk_none, walk_end}
+use Rattle.closure.proofs.PairLaws.{WalkPart}
 use Rattle.keep.specs.Keep.{kept_in}
-use Rattle.keep.proofs.RankLaws.{table_rank, pair_kept, pair_broken, keeps_is}
 use Rattle.keep.proofs.keeps_pairs.Given as goal
 
 abbrev pub invariant-loop-at : goal.invariant-loop-at

@@ -1,8 +1,7 @@
 -- `keep::note_ranks` meets its contract. Assumes nothing.
 use Prim.Native.Nat.{◌-◌}
 use lib.ListN.{length}
-use borrow.Author.Rules.{rules}
-use Rattle.keep.proofs.RankLaws.{RanksPart, ranks_none, ranks_more, ranks_all}
+use Rattle.keep.proofs.RankLaws.{RanksPart}
 use Rattle.keep.proofs.note_ranks.Given as goal
 
 abbrev pub invariant-loop-i : goal.invariant-loop-i

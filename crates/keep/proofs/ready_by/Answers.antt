@@ -1,6 +1,5 @@
 -- `keep::ready_by` meets its contract. Assumes nothing.
 use Rattle.keep.proofs.RankLaws.{ready_other, ready_flag}
-use borrow.Author.Rules.{rules}
 use Rattle.keep.proofs.ready_by.Goals as goal
 
 pub returns-then-a-k : goal.returns-then-a-k

@@ -1,6 +1,5 @@
 -- `list::put_head` meets its contract. Assumes nothing.
 use Rattle.list.proofs.LineLaws.{head_put}
-use borrow.Author.Rules.{rules}
 use Rattle.list.proofs.put_head.Goals as goal
 
 pub returns : goal.returns

@@ -1,6 +1,5 @@
 -- `list::put_name` meets its contract. Assumes nothing.
 use Rattle.list.proofs.LineLaws.{name_put}
-use borrow.Author.Rules.{rules}
 use Rattle.list.proofs.put_name.Goals as goal
 
 pub returns : goal.returns

@@ -1,6 +1,5 @@
 -- `list::put_outcome` meets its contract. Assumes nothing.
 use Rattle.list.proofs.LineLaws.{outcome_put}
-use borrow.Author.Rules.{rules}
 use Rattle.list.proofs.put_outcome.Goals as goal
 
 pub returns : goal.returns

@@ -1,6 +1,5 @@
 -- `list::put_place` meets its contract. Assumes nothing.
 use Rattle.list.proofs.LineLaws.{place_put}
-use borrow.Author.Rules.{rules}
 use Rattle.list.proofs.put_place.Goals as goal
 
 pub returns : goal.returns

@@ -1,6 +1,5 @@
 -- `list::put_refusal` meets its contract. Assumes nothing.
 use Rattle.list.proofs.LineLaws.{refusal_put}
-use borrow.Author.Rules.{rules}
 use Rattle.list.proofs.put_refusal.Goals as goal
 
 pub returns : goal.returns

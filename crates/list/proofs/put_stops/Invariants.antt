@@ -1,12 +1,10 @@
 -- `list::put_stops` meets its contract. The loop's invariant: the lines of the stops passed have been put. Assumes
 -- nothing.
-use mathlib.Core.Path.{◌≡◌, refl}
+use mathlib.Core.Path.{◌≡◌}
 use Prim.Native.Nat.{◌≤◌, ◌-◌}
-use native.Mathlib.Omega.{arith}
 use lib.ListN.{length, take}
 use Rattle.text.specs.Page.{paged, put}
 use Rattle.list.specs.Lines.{stop_lines}
-use Rattle.list.proofs.LineLaws.{stop_more, all_stops}
 use Rattle.list.proofs.put_stops.Given as goal
 
 abbrev pub invariant-loop-p : goal.invariant-loop-p

@@ -1,6 +1,5 @@
 -- `list::put_tour` meets its contract. Assumes nothing.
 use Rattle.list.proofs.LineLaws.{tour-put}
-use borrow.Author.Rules.{rules}
 use Rattle.list.proofs.put_tour.Goals as goal
 
 pub returns : goal.returns

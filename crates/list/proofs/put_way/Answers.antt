@@ -1,6 +1,5 @@
 -- `list::put_way` meets its contract. Assumes nothing.
 use Rattle.list.proofs.LineLaws.{ccw_put, cw_put}
-use borrow.Author.Rules.{rules}
 use Rattle.list.proofs.put_way.Goals as goal
 
 pub returns-in-Ccw : goal.returns-in-Ccw

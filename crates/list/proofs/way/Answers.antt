@@ -1,6 +1,5 @@
 -- `list::way` meets its contract. Assumes nothing.
 use Rattle.list.proofs.LineLaws.{way_is}
-use borrow.Author.Rules.{rules}
 use Rattle.list.proofs.way.Goals as goal
 
 pub returns : goal.returns

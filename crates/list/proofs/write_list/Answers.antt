@@ -9,7 +9,6 @@ use Rattle.table.specs.Distances.{entry_limit}
 use Rattle.text.proofs.PageLaws.{written}
 use Rattle.list.proofs.DoorLaws.{refused-listed, done_fine, tour_within_lem, tour_whole, done_listed}
 use Rattle.list.proofs.LineLaws.{contours_read_lem}
-use borrow.Author.Rules.{rules}
 use Rattle.list.proofs.write_list.Goals as goal
 
 seats : length {A = ℕ} (replicate contour_limit 0) ≡ contour_limit

@@ -1,7 +1,6 @@
 -- `list::write_whole` meets its contract. Assumes nothing.
 use native.Mathlib.Omega.{arith}
 use Rattle.list.proofs.Fits.{whole_list}
-use borrow.Author.Rules.{rules}
 use Rattle.list.proofs.write_whole.Goals as goal
 
 pub returns : goal.returns

@@ -1,6 +1,5 @@
 -- `points::bad_point` meets its contract: the second number is asked only where the first is good, as `||` has it.
 -- Assumes nothing.
-use borrow.Author.Rules.{rules}
 use Rattle.points.specs.Bad.{bad_point}
 use Rattle.points.proofs.bad_point.Goals as goal
 

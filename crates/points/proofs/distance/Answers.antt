@@ -1,5 +1,4 @@
 -- `points::distance` meets its contract: the root of the squared distance. Assumes nothing.
-use borrow.Author.Rules.{rules}
 use Rattle.points.specs.Distance.{distance_of}
 use Rattle.points.proofs.distance.Goals as goal
 

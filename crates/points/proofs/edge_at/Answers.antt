@@ -2,7 +2,6 @@
 -- nothing.
 use mathlib.Core.Path.{sym}
 use native.Mathlib.Omega.{arith}
-use borrow.Author.Rules.{rules}
 use Rattle.points.proofs.PointLaws.{edge_next, edge_back, edge_past, point-past}
 use Rattle.points.proofs.edge_at.Goals as goal
 

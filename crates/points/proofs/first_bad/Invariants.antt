@@ -1,13 +1,9 @@
 -- `points::first_bad` meets its contract. The loop's invariant: no point passed is bad. The measure is what is left of
 -- the count. Assumes nothing.
-use mathlib.Core.Path.{◌≡◌, sym}
+use mathlib.Core.Path.{◌≡◌}
 use mathlib.Core.Bool.{false}
 use Prim.Native.Nat.{ℕ, ◌≤◌, ◌<◌, ◌-◌}
-use native.Mathlib.Omega.{arith}
-use borrow.Author.Rules.{rules}
-use borrow.Author.Count.{below_none, below_more}
-use Rattle.answer.proofs.LowestLaws.{at_is, absent_is}
-use Rattle.points.specs.Bad.{bad_at, first_bad}
+use Rattle.points.specs.Bad.{bad_at}
 use Rattle.points.proofs.first_bad.Given as goal
 
 abbrev pub invariant-loop-k : goal.invariant-loop-k

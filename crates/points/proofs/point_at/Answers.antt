@@ -1,6 +1,5 @@
 -- `points::point_at` meets its contract: a whole point by `points-at`, past the last one `point-past`. Assumes nothing.
 use mathlib.Core.Path.{sym}
-use borrow.Author.Rules.{rules}
 use lib.Ieee.{div, of_bits}
 use Rattle.points.proofs.PointLaws.{points-at, point-past}
 use Rattle.points.proofs.point_at.Goals as goal

@@ -1,6 +1,5 @@
 -- `probe::offered` meets its contract: the numbers are taken as on a card. Assumes nothing.
 use mathlib.Core.Path.{sym}
-use borrow.Author.Rules.{rules}
 use Rattle.probe.proofs.offered.Goals as goal
 
 pub returns : goal.returns

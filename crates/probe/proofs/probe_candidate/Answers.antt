@@ -2,7 +2,6 @@
 use mathlib.Core.Path.{ap, refl, ◌∙◌}
 use Rattle.candidates.specs.declared.Candidate.{Candidate}
 use Rattle.probe.specs.Told.{place_of, way_of}
-use borrow.Author.Rules.{rules}
 use Rattle.probe.proofs.probe_candidate.Goals as goal
 
 pub returns-in-Fine : goal.returns-in-Fine

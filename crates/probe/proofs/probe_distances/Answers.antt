@@ -1,6 +1,5 @@
 -- `probe::probe_distances` meets its contract: it forwards. Assumes nothing.
 use mathlib.Core.Path.{sym, refl}
-use borrow.Author.Rules.{rules}
 use Rattle.probe.proofs.probe_distances.Goals as goal
 
 pub returns : goal.returns

@@ -1,6 +1,5 @@
 -- `probe::probe_precedences` meets its contract: by the check. Assumes nothing.
 use mathlib.Core.Path.{refl}
-use borrow.Author.Rules.{rules}
 use Rattle.probe.proofs.probe_precedences.Goals as goal
 
 pub returns-in-Fine : goal.returns-in-Fine

@@ -1,5 +1,4 @@
 -- `probe::probe_predecessors` meets its contract: it forwards. Assumes nothing.
-use borrow.Author.Rules.{rules}
 use Rattle.probe.proofs.probe_predecessors.Goals as goal
 
 pub returns : goal.returns

@@ -1,6 +1,5 @@
 -- `probe::probe_violates` meets its contract: it forwards. Assumes nothing.
 use mathlib.Core.Path.{sym}
-use borrow.Author.Rules.{rules}
 use Rattle.probe.proofs.probe_violates.Goals as goal
 
 pub returns : goal.returns

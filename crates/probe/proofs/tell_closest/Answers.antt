@@ -1,6 +1,5 @@
 -- `probe::tell_closest` meets its contract: each arm tells its case. Assumes nothing.
 use mathlib.Core.Path.{refl}
-use borrow.Author.Rules.{rules}
 use Rattle.probe.proofs.tell_closest.Goals as goal
 
 pub returns-in-At : goal.returns-in-At

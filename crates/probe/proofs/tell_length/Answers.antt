@@ -1,6 +1,5 @@
 -- `probe::tell_length` meets its contract: each arm tells its case. Assumes nothing.
 use mathlib.Core.Path.{refl}
-use borrow.Author.Rules.{rules}
 use Rattle.probe.proofs.tell_length.Goals as goal
 
 pub returns-in-Refused : goal.returns-in-Refused

@@ -1,7 +1,6 @@
 -- `questions::bad_stop` meets its contract. Assumes nothing.
 use mathlib.Core.Path.{◌∙◌}
 use Rattle.questions.proofs.OrderLaws.{no_candidate_lem, a_candidate}
-use borrow.Author.Rules.{rules}
 use Rattle.questions.proofs.bad_stop.Goals as goal
 
 pub returns-then-t-wide : goal.returns-then-t-wide

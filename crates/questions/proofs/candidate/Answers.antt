@@ -1,7 +1,6 @@
 -- `questions::candidate` meets its contract. Assumes nothing.
 use mathlib.Core.Path.{sym, ◌∙◌}
 use Rattle.questions.proofs.IndexLaws.{candidate-refused, candidate_fine}
-use borrow.Author.Rules.{rules}
 use Rattle.questions.proofs.candidate.Goals as goal
 
 pub candidate_of_fine-requires : goal.candidate_of_fine-requires

@@ -2,7 +2,6 @@
 use native.Mathlib.Omega.{arith}
 use Rattle.instance.proofs.PreparedLaws.{held_on}
 use Rattle.questions.proofs.IndexLaws.{no_such_candidate, candidate_is}
-use borrow.Author.Rules.{rules}
 use Rattle.questions.proofs.candidate_of_fine.Goals as goal
 
 pub returns-then-t-number : goal.returns-then-t-number

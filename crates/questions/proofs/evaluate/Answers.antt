@@ -2,7 +2,6 @@
 use mathlib.Core.Path.{sym, ◌∙◌}
 use Rattle.instance.proofs.PreparedLaws.{prepared_on}
 use Rattle.questions.proofs.OrderLaws.{order_refused, order_fine}
-use borrow.Author.Rules.{rules}
 use Rattle.questions.proofs.evaluate.Goals as goal
 
 pub measured-requires : goal.measured-requires

@@ -2,7 +2,6 @@
 use native.Mathlib.Omega.{arith}
 use Rattle.instance.proofs.PreparedLaws.{held_on}
 use Rattle.questions.proofs.IndexLaws.{no_such_contour, rising, no_such_place, number_is}
-use borrow.Author.Rules.{rules}
 use Rattle.questions.proofs.global_of_fine.Goals as goal
 
 pub returns-then-n-contour : goal.returns-then-n-contour

@@ -1,7 +1,6 @@
 -- `questions::global_to_local` meets its contract. Assumes nothing.
 use mathlib.Core.Path.{sym, ◌∙◌}
 use Rattle.questions.proofs.IndexLaws.{place_refused, place_fine}
-use borrow.Author.Rules.{rules}
 use Rattle.questions.proofs.global_to_local.Goals as goal
 
 pub place_of_fine-requires : goal.place_of_fine-requires

@@ -1,6 +1,5 @@
 -- `questions::length_of` meets its contract: each part that is lent is what the chart holds. Assumes nothing.
 use Rattle.questions.proofs.OrderLaws.{entries_front, length_is}
-use borrow.Author.Rules.{rules}
 use Rattle.questions.proofs.length_of.Goals as goal
 
 pub slice_bounds-evaluate_solution-end-2 : goal.slice_bounds-evaluate_solution-end-2

@@ -1,7 +1,6 @@
 -- `questions::local_to_global` meets its contract. Assumes nothing.
 use mathlib.Core.Path.{sym, ◌∙◌}
 use Rattle.questions.proofs.IndexLaws.{global_refused, global_fine}
-use borrow.Author.Rules.{rules}
 use Rattle.questions.proofs.local_to_global.Goals as goal
 
 pub global_of_fine-requires : goal.global_of_fine-requires

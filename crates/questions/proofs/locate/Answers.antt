@@ -1,7 +1,6 @@
 -- `questions::locate` meets its contract. Assumes nothing.
 use mathlib.Core.Path.{◌∙◌}
 use Rattle.questions.proofs.IndexLaws.{place_held}
-use borrow.Author.Rules.{rules}
 use Rattle.questions.proofs.locate.Goals as goal
 
 pub returns : goal.returns

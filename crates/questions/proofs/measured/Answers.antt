@@ -1,6 +1,5 @@
 -- `questions::measured` meets its contract. Assumes nothing.
 use Rattle.questions.proofs.OrderLaws.{no_order, an_order}
-use borrow.Author.Rules.{rules}
 use Rattle.questions.proofs.measured.Goals as goal
 
 pub returns-in-Refused : goal.returns-in-Refused

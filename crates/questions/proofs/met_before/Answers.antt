@@ -1,8 +1,6 @@
 -- `questions::met_before` meets its contract. The loop's invariant: no earlier stop so far is of the contour. Assumes
 -- nothing.
-use Prim.Native.Nat.{◌≤◌, ◌-◌}
 use native.Mathlib.Omega.{arith}
-use Rattle.answer.proofs.LowestLaws.{Nowhere}
 use Rattle.card.proofs.LoopLaws.{none_yet, one_more, found_here, none_found}
 use Rattle.questions.proofs.OrderLaws.{same, met_here, not_here, met, never_met}
 use Rattle.questions.proofs.met_before.Goals as goal

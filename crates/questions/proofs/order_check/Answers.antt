@@ -1,7 +1,6 @@
 -- `questions::order_check` meets its contract. Assumes nothing.
 use mathlib.Core.Path.{◌∙◌}
 use Rattle.questions.proofs.OrderLaws.{other_length, bad_position, good_order}
-use borrow.Author.Rules.{rules}
 use Rattle.questions.proofs.order_check.Goals as goal
 
 pub returns-then-order-n : goal.returns-then-order-n

@@ -2,7 +2,6 @@
 use mathlib.Core.Path.{◌∙◌}
 use Rattle.instance.proofs.PreparedLaws.{held_on}
 use Rattle.questions.proofs.IndexLaws.{no_such_number, place_on_lem, place_is}
-use borrow.Author.Rules.{rules}
 use Rattle.questions.proofs.place_of_fine.Goals as goal
 
 pub returns-then-all-a : goal.returns-then-all-a

@@ -2,7 +2,6 @@
 use mathlib.Core.Path.{sym, ◌∙◌}
 use Rattle.instance.proofs.PreparedLaws.{prepared_on}
 use Rattle.questions.proofs.NearestLaws.{stops-refused, stops_fine}
-use borrow.Author.Rules.{rules}
 use Rattle.questions.proofs.solve_nn.Goals as goal
 
 pub returns-in_default : goal.returns-in_default

@@ -1,6 +1,5 @@
 -- `questions::stop_at` meets its contract. Assumes nothing.
 use Rattle.questions.proofs.OrderLaws.{stop_is}
-use borrow.Author.Rules.{rules}
 use Rattle.questions.proofs.stop_at.Goals as goal
 
 pub returns : goal.returns

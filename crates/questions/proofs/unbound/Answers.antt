@@ -1,7 +1,6 @@
 -- `questions::unbound` meets its contract: each part that is lent is what the chart holds. Assumes nothing.
 use Rattle.questions.proofs.OrderLaws.{entries_front}
 use Rattle.questions.proofs.NearestLaws.{stops_lent, nearest_is}
-use borrow.Author.Rules.{rules}
 use Rattle.questions.proofs.unbound.Goals as goal
 
 pub slice_bounds-solve_nn-end-2 : goal.slice_bounds-solve_nn-end-2

@@ -1,6 +1,5 @@
 -- `reader::field_at` meets its contract: the match says which width it is, and the reading of that many bytes is
 -- `block`'s. Assumes nothing.
-use borrow.Author.Rules.{rules}
 use Rattle.reader.proofs.field_at.Goals as goal
 
 pub returns-in-One : goal.returns-in-One

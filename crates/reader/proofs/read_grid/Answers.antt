@@ -1,6 +1,5 @@
 -- `reader::read_grid` meets its contract: a field of version 2, and nothing read in version 1. Assumes nothing.
 use mathlib.Core.Path.{ap}
-use borrow.Author.Rules.{rules}
 use Rattle.reader.specs.declared.Field.{Field}
 use Rattle.reader.proofs.read_grid.Goals as goal
 

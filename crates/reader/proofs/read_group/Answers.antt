@@ -1,7 +1,6 @@
 -- `reader::read_group` meets its contract: two fields, one after the other, or in version 1 neither. Assumes nothing.
 use mathlib.Core.Path.{sym, ◌∙◌}
 use Rattle.reader.proofs.CardLaws.{group_is, no_group}
-use borrow.Author.Rules.{rules}
 use Rattle.reader.proofs.read_group.Goals as goal
 
 pub returns-then-is_two : goal.returns-then-is_two

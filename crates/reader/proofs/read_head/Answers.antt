@@ -1,6 +1,5 @@
 -- `reader::read_head` meets its contract: its fields, one after the other, are the head. Assumes nothing.
 use Rattle.reader.proofs.CardLaws.{head_is}
-use borrow.Author.Rules.{rules}
 use Rattle.reader.proofs.read_head.Goals as goal
 
 pub returns : goal.returns

@@ -1,7 +1,7 @@
 -- `root::longer` meets its contract: the laws of one exact division step are in Squares. Assumes nothing.
 use mathlib.Core.Path.{sym}
 use native.Mathlib.Omega.{arith}
-use Rattle.root.proofs.Squares.{sized, quotient_le, rest_lt, longer-kept, longer-lowered, square_fits, Sized}
+use Rattle.root.proofs.Squares.{sized, quotient_le, rest_lt, longer-kept, longer-lowered, square_fits}
 use Rattle.root.proofs.longer.Goals as goal
 
 pub overflow_mul-rest : goal.overflow_mul-rest

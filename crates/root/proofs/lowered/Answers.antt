@@ -1,5 +1,4 @@
 -- `root::lowered` meets its contract. Assumes nothing.
-use borrow.Author.Rules.{rules}
 use Rattle.root.proofs.Squares.{square_fits}
 use Rattle.root.proofs.lowered.Goals as goal
 

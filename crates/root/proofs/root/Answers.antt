@@ -1,5 +1,4 @@
 -- `root::root` meets its contract: refused exactly where the definition refuses. Assumes nothing.
-use borrow.Author.Rules.{rules}
 use mathlib.Core.Path.{◌≡◌, sym, ap, ◌∙◌}
 use Prim.Native.Nat.{ℕ}
 use lib.Dec.{T}

@@ -1,12 +1,6 @@
 -- `root::small_root_bits` meets its contract: f * 2^w stays the same while f doubles and w falls. Assumes nothing.
-use mathlib.Core.Path.{◌≡◌, refl, ap, ◌∙◌, subst}
-use mathlib.Core.Bool.{false}
-use Prim.Native.Nat.{ℕ, suc, ◌+◌, ◌-◌, ◌*◌, ◌^◌, ◌≤◌, ◌<◌}
-use native.Mathlib.Omega.{arith}
-use lib.Dec.{lit≤}
-use lib.Ieee.{binary64, round}
-use Rattle.root.specs.Whole.{halves}
-use Rattle.root.proofs.Patterns.{moved, doubled, few}
+use mathlib.Core.Path.{◌≡◌}
+use Prim.Native.Nat.{◌-◌, ◌*◌, ◌^◌, ◌≤◌, ◌<◌}
 use Rattle.root.proofs.small_root_bits.Given as goal
 
 abbrev pub invariant-loop-f : goal.invariant-loop-f

@@ -1,9 +1,7 @@
 -- `root::sqrt` meets its contract: by the bits of its argument, which stand for it. Assumes nothing.
-use borrow.Author.Rules.{rules}
-use mathlib.Core.Path.{◌≡◌, sym, ap, ◌∙◌}
-use Prim.Native.Nat.{◌^◌, ◌<◌}
+use mathlib.Core.Path.{sym, ap, ◌∙◌}
 use native.Mathlib.Omega.{arith}
-use lib.Ieee.{binary64, of_bits, to_bits}
+use lib.Ieee.{binary64, to_bits}
 use lib.Ieee.Bits.{of_bits-to_bits, to_bits-lt}
 use Rattle.root.specs.Root.{sqrt_of}
 use Rattle.root.proofs.Cases.{nan_own, no_nan, finite_pattern, sqrt_bits}

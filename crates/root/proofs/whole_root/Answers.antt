@@ -1,6 +1,5 @@
 -- `root::whole_root` meets its contract: a guess that passes both tests is the whole part of the root, since there is
 -- only one. Assumes nothing.
-use borrow.Author.Rules.{rules}
 use mathlib.Core.Path.{sym}
 use native.Mathlib.Omega.{arith}
 use Rattle.root.proofs.WholeLaws.{whole_unique}

@@ -1,6 +1,5 @@
 -- `solve::solve_constrained` meets its contract. Assumes nothing.
 use Rattle.solve.proofs.RoomLaws.{made_within, made_whole, last_within, last_whole, solved}
-use borrow.Author.Rules.{rules}
 use Rattle.solve.proofs.solve_constrained.Goals as goal
 
 pub slice_bounds-improve-end : goal.slice_bounds-improve-end

@@ -1,13 +1,8 @@
 -- `start::among` meets its contract. The invariant: the candidates still to come make of this choice what all of them
 -- make of the first. Assumes nothing.
-use mathlib.Core.Path.{◌≡◌, sym}
-use Prim.Native.Nat.{◌-◌, ◌<◌}
+use mathlib.Core.Path.{sym}
 use native.Mathlib.Omega.{arith}
-use borrow.Author.Rules.{rules}
-use Rattle.table.proofs.EachLaws.{onwards, begin, carry, arrive}
-use Rattle.table.specs.Each.{each}
-use Rattle.start.specs.Code.{Tells}
-use Rattle.start.specs.Nearest.{Ground, Way, offer}
+use Rattle.table.proofs.EachLaws.{begin, carry, arrive}
 use Rattle.start.proofs.StepLaws.{offer_is}
 use Rattle.start.proofs.among.Goals as goal
 

@@ -1,14 +1,11 @@
 -- `start::among` meets its contract. The invariant: the candidates still to come make of this choice what all of them
 -- make of the first. Assumes nothing.
-use mathlib.Core.Path.{◌≡◌, sym}
+use mathlib.Core.Path.{◌≡◌}
 use Prim.Native.Nat.{◌-◌, ◌<◌}
-use native.Mathlib.Omega.{arith}
-use borrow.Author.Rules.{rules}
-use Rattle.table.proofs.EachLaws.{onwards, begin, carry, arrive}
+use Rattle.table.proofs.EachLaws.{onwards}
 use Rattle.table.specs.Each.{each}
 use Rattle.start.specs.Code.{Tells}
 use Rattle.start.specs.Nearest.{Ground, Way, offer}
-use Rattle.start.proofs.StepLaws.{offer_is}
 use Rattle.start.proofs.among.Given as goal
 
 abbrev pub invariant-loop-a : goal.invariant-loop-a

@@ -2,14 +2,10 @@
 -- make of none. Assumes nothing.
 use mathlib.Core.Path.{◌≡◌}
 use Prim.Native.Nat.{◌-◌, ◌<◌}
-use native.Mathlib.Omega.{arith}
-use borrow.Author.Rules.{rules}
-use borrow.Author.Tests.{not-true, not-false}
-use Rattle.table.proofs.EachLaws.{onwards, begin-zero, carry, arrive}
+use Rattle.table.proofs.EachLaws.{onwards}
 use Rattle.table.specs.Each.{each}
 use Rattle.start.specs.Code.{Tells, Flags}
 use Rattle.start.specs.Nearest.{Ground, Way, considered, nothing_yet}
-use Rattle.start.proofs.StepLaws.{passed_over, looked_at, chosen_is}
 use Rattle.start.proofs.choose.Given as goal
 
 abbrev pub invariant-loop-k : goal.invariant-loop-k

@@ -1,6 +1,5 @@
 -- `start::is_open` meets its contract. Assumes nothing.
 use native.Mathlib.Omega.{arith}
-use borrow.Author.Rules.{rules}
 use Rattle.start.proofs.StepLaws.{open_not, open_ready}
 use Rattle.start.proofs.is_open.Goals as goal
 

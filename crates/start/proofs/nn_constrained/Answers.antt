@@ -1,19 +1,16 @@
 -- `start::nn_constrained` meets its contract. The invariant: the steps still to come lead from the tour written so far
 -- to where all of them lead from nothing; the room's rest is as it was. Assumes nothing.
-use mathlib.Core.Bool.{not}
-use mathlib.Core.List.{List, [], ◌∷◌, ◌++◌}
-use mathlib.Core.Path.{◌≡◌, refl, sym, ap}
-use Prim.Native.Nat.{ℕ, ◌<◌, ◌-◌, ◌≤◌}
+use mathlib.Core.List.{[], ◌∷◌, ◌++◌}
+use mathlib.Core.Path.{refl, sym}
+use Prim.Native.Nat.{◌<◌}
 use native.Mathlib.Omega.{arith}
-use borrow.Author.Rules.{rules}
 use borrow.Author.Tests.{not-true, not-false}
-use lib.ListN.{length, take, drop, length-set}
-use Rattle.table.proofs.EachLaws.{onwards, begin-zero, carry, arrive}
-use Rattle.table.specs.Each.{each}
-use Rattle.start.specs.Code.{ground_of, flag_count, Flags}
-use Rattle.start.specs.Nearest.{set_out, last_of, step as step_over}
+use lib.ListN.{length, length-set}
+use Rattle.table.proofs.EachLaws.{begin-zero, carry, arrive}
+use Rattle.start.specs.Code.{flag_count}
+use Rattle.start.specs.Nearest.{last_of}
 use Rattle.start.proofs.FlagLaws.{flags_none, flags_more}
-use Rattle.start.proofs.StepLaws.{way_of, way-told, step_waits, step_goes, last_written, rest_kept, written}
+use Rattle.start.proofs.StepLaws.{way-told, step_waits, step_goes, last_written, rest_kept, written}
 use Rattle.start.proofs.StepLaws.{unwritten}
 use Rattle.start.proofs.nn_constrained.Goals as goal
 

@@ -1,5 +1,4 @@
 -- `start::offers` meets its contract: what is read are the numbers that the definition reads. Assumes nothing.
-use borrow.Author.Rules.{rules}
 use Rattle.start.proofs.StepLaws.{offered_is}
 use Rattle.start.proofs.offers.Goals as goal
 

@@ -1,5 +1,4 @@
 -- `start::reach` meets its contract. Assumes nothing.
-use borrow.Author.Rules.{rules}
 use Rattle.start.proofs.StepLaws.{reach-home, reach-on}
 use Rattle.start.proofs.reach.Goals as goal
 

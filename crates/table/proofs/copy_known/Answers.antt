@@ -1,10 +1,10 @@
 -- `table::copy_known` meets its contract. The invariant: the first b entries of row a are copied, all else is kept.
 -- Assumes nothing.
 use mathlib.Core.Path.{◌≡◌, refl}
-use Prim.Native.Nat.{◌-◌, ◌*◌, ◌≤◌}
+use Prim.Native.Nat.{◌*◌}
 use native.Mathlib.Omega.{arith}
-use lib.ListN.{length, length-set}
-use lib.Seq.{paste, paste-zero}
+use lib.ListN.{length-set}
+use lib.Seq.{paste-zero}
 use Rattle.table.proofs.PlaceLaws.{square_small, row_fits}
 use Rattle.table.proofs.BackLaws.{column_of, copied_more}
 use Rattle.table.proofs.copy_known.Goals as goal

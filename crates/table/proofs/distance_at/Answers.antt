@@ -1,6 +1,5 @@
 -- `table::distance_at` meets its contract: the place of three bytes fits. Assumes nothing.
 use native.Mathlib.Omega.{arith}
-use borrow.Author.Rules.{rules}
 use Rattle.table.proofs.PlaceLaws.{row_small}
 use Rattle.table.proofs.distance_at.Goals as goal
 

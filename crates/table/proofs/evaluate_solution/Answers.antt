@@ -1,12 +1,7 @@
 -- `table::evaluate_solution` meets its contract. The invariant: walking on from here gives the whole length. Assumes
 -- nothing.
-use mathlib.Core.Path.{◌≡◌}
-use Prim.Native.Nat.{◌≤◌, ◌-◌}
 use native.Mathlib.Omega.{arith}
-use borrow.Author.Rules.{rules}
-use lib.ListN.{length}
-use Rattle.table.specs.Evaluate.{length_of}
-use Rattle.table.proofs.WalkLaws.{onward, length_none, length-first, leg_more, legs_done}
+use Rattle.table.proofs.WalkLaws.{length_none, length-first, leg_more, legs_done}
 use Rattle.table.proofs.evaluate_solution.Goals as goal
 
 pub returns-then-tour-eq0 : goal.returns-then-tour-eq0

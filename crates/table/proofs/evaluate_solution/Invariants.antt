@@ -2,11 +2,9 @@
 -- nothing.
 use mathlib.Core.Path.{◌≡◌}
 use Prim.Native.Nat.{◌≤◌, ◌-◌}
-use native.Mathlib.Omega.{arith}
-use borrow.Author.Rules.{rules}
 use lib.ListN.{length}
 use Rattle.table.specs.Evaluate.{length_of}
-use Rattle.table.proofs.WalkLaws.{onward, length_none, length-first, leg_more, legs_done}
+use Rattle.table.proofs.WalkLaws.{onward}
 use Rattle.table.proofs.evaluate_solution.Given as goal
 
 abbrev pub invariant-loop-i : goal.invariant-loop-i

@@ -1,12 +1,9 @@
 -- `table::fill_home` meets its contract. The invariant: the first a entries are filled, the rest of the room kept.
 -- Assumes nothing.
-use mathlib.Core.Path.{◌≡◌, refl}
-use mathlib.Core.List.{◌++◌}
-use Prim.Native.Nat.{◌≤◌, ◌-◌}
+use mathlib.Core.Path.{refl}
 use native.Mathlib.Omega.{arith}
-use borrow.Author.Rules.{rules}
-use lib.ListN.{length, take, drop, length-set}
-use Rattle.table.specs.Distances.{listed, home_leg}
+use lib.ListN.{length-set}
+use Rattle.table.specs.Distances.{listed}
 use Rattle.table.proofs.RoomLaws.{home_many, home_short, home_all, home_more}
 use Rattle.table.proofs.fill_home.Goals as goal
 
@@ -27,13 +24,12 @@ pub distance-requires : goal.distance-requires
 distance-requires c = tt
 
 pub loop-a-preserved : goal.loop-a-preserved
-loop-a-preserved c =
-    (
-      omega arith,
-      simp length-set c.loop-a.invariant.1,
-      home_more _ _ _ _ _ _ c.loop-a.invariant.2 _
-          c.loop-a-test.true (omega arith) c.distance.ensures,
-    )
+loop-a-preserved c = (
+  omega arith,
+  simp length-set c.loop-a.invariant.1,
+  home_more _ _ _ _ _ _ c.loop-a.invariant.2 _
+      c.loop-a-test.true (omega arith) c.distance.ensures,
+)
 
 pub shape_of-room : goal.shape_of-room
 shape_of-room c = c.loop-a.invariant.1

@@ -1,11 +1,8 @@
 -- `table::fill_row` meets its contract. The invariant: the first b entries are filled, the rest of the room kept.
 -- Assumes nothing.
 use mathlib.Core.Path.{◌≡◌, refl}
-use mathlib.Core.List.{◌++◌}
-use Prim.Native.Nat.{◌≤◌, ◌-◌}
 use native.Mathlib.Omega.{arith}
-use lib.ListN.{length, take, drop, length-set}
-use Rattle.table.specs.Distances.{listed, leg_at}
+use lib.ListN.{length-set}
 use Rattle.table.proofs.FillLaws.{begun_with}
 use Rattle.table.proofs.RoomLaws.{row_more, row_all}
 use Rattle.table.proofs.fill_row.Goals as goal
@@ -47,14 +44,13 @@ pub loop-b-smaller : goal.loop-b-smaller
 loop-b-smaller c = omega arith
 
 pub loop-b-preserved : goal.loop-b-preserved
-loop-b-preserved c =
-    (
-      omega arith,
-      simp length-set c.loop-b.invariant.1,
-      row_more _ _ _ _ _ _ _ c.loop-b.invariant.2 _ _ _ c.requires.t_le_candidate_limit.1
-          c.loop-b-test.true c.requires.t_bound c.byte_at-k.ensures
-          c.byte_at.ensures c.leg.ensures,
-    )
+loop-b-preserved c = (
+  omega arith,
+  simp length-set c.loop-b.invariant.1,
+  row_more _ _ _ _ _ _ _ c.loop-b.invariant.2 _ _ _ c.requires.t_le_candidate_limit.1
+      c.loop-b-test.true c.requires.t_bound c.byte_at-k.ensures
+      c.byte_at.ensures c.leg.ensures,
+)
 
 pub shape_of-room : goal.shape_of-room
 shape_of-room c = c.loop-b.invariant.1

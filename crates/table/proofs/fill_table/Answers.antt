@@ -1,17 +1,15 @@
 -- `table::fill_table` meets its contract. The invariant: the first a rows are filled, the rest of the room kept.
 -- Assumes nothing.
-use mathlib.Core.Bool.{true, ◌&&◌}
+use mathlib.Core.Bool.{◌&&◌}
 use mathlib.Core.Path.{◌≡◌, refl}
-use mathlib.Core.List.{◌++◌}
-use Prim.Native.Nat.{ℕ, ◌-◌, ◌*◌, ◌≤◌, ◌<◌}
 use native.Mathlib.Nat.{zero-mul}
 use native.Mathlib.Omega.{arith}
 use borrow.Author.Count.{below_none}
-use lib.ListN.{length, take, drop, length-take, length-drop}
-use Rattle.table.specs.Distances.{chained, row_of}
+use lib.ListN.{length-take, length-drop}
+use Rattle.table.specs.Distances.{chained}
 use Rattle.table.proofs.PlaceLaws.{square_small, row_fits}
 use Rattle.table.proofs.RoomLaws.{table_many, table_short, table_all}
-use Rattle.table.proofs.BackLaws.{Closed, closed_more, known_some, row-begun, row_done}
+use Rattle.table.proofs.BackLaws.{closed_more, known_some, row-begun, row_done}
 use Rattle.table.proofs.fill_table.Goals as goal
 
 pub returns-then-t-gt-CANDIDATES : goal.returns-then-t-gt-CANDIDATES
@@ -78,13 +76,17 @@ fill_row-requires c =
     let asked = c.is_closed-closed in
     let known = c.known_in-known in
     let some = known_some (h.closed && asked.result) h.a known.result known.ensures in
-    let copy = c.copy_known in record { t_le_candidate_limit = (omega arith, omega arith); t_bound = simp (length-take, length-drop) (omega (arith, row_fits h.a s.t s.t (omega arith))); known_le_t = (
-          omega (arith, some.0),
-          row-begun items s.t s.owner.now h.a known.result s.room.now h.room
-              copy.new.room h.invariant.2 (omega arith) some.0
-              (λ k. closed_more items h.closed asked.result h.a h.invariant.3 asked.ensures (some.1 k))
-              (omega arith) copy.ensures,
-        ) }
+    let copy = c.copy_known in record {
+      t_le_candidate_limit = (omega arith, omega arith);
+      t_bound = simp (length-take, length-drop) (omega (arith, row_fits h.a s.t s.t (omega arith)));
+      known_le_t = (
+        omega (arith, some.0),
+        row-begun items s.t s.owner.now h.a known.result s.room.now h.room
+            copy.new.room h.invariant.2 (omega arith) some.0
+            (λ k. closed_more items h.closed asked.result h.a h.invariant.3 asked.ensures (some.1 k))
+            (omega arith) copy.ensures,
+      );
+    }
 
 pub overflow_add-a : goal.overflow_add-a
 overflow_add-a c = omega arith

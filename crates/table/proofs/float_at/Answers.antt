@@ -1,5 +1,4 @@
 -- `table::float_at` meets its contract: past the end the quotient of two zeros is no number. Assumes nothing.
-use borrow.Author.Rules.{rules}
 use lib.Ieee.{nan, div, of_bits, of_fields, odd}
 use lib.ListN.{get_or-eq_default}
 use Rattle.table.proofs.float_at.Goals as goal

@@ -1,7 +1,6 @@
 -- `table::is_closed` meets its contract. Assumes nothing.
 use mathlib.Core.Bool.{true≢false}
 use mathlib.Core.Path.{sym, ap₂}
-use borrow.Author.Rules.{rules}
 use Rattle.points.specs.Points.{point}
 use Rattle.table.proofs.is_closed.Goals as goal
 

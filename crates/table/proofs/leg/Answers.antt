@@ -1,5 +1,4 @@
 -- `table::leg` meets its contract. Assumes nothing.
-use borrow.Author.Rules.{rules}
 use borrow.Author.Tests.{eq-eqb, ne_eqb}
 use Rattle.table.specs.Distances.{leg_of}
 use Rattle.table.proofs.leg.Goals as goal

@@ -6,7 +6,6 @@ use lib.Dec.{T}
 use lib.Ieee.{Float, to_bits, binary64, ne}
 use lib.Ieee.Compare.{differs_from_itself}
 use Rattle.root.proofs.Cases.{no_nan}
-use borrow.Author.Rules.{rules}
 use Rattle.tour.proofs.bits_of.Goals as goal
 
 nan-bits : (x : Float) → ne x x ≡ true → 0x7ff8_0000_0000_0000 ≡ to_bits binary64 x

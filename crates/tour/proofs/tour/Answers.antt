@@ -1,7 +1,6 @@
 -- `tour::tour` meets its contract: the card's own refusal, or what is left behind where there is none. Assumes nothing.
 use mathlib.Core.Path.{sym, ◌∙◌}
 use Rattle.tour.proofs.DoorLaws.{tour-refused, tour_fine}
-use borrow.Author.Rules.{rules}
 use Rattle.tour.proofs.tour.Goals as goal
 
 pub tour_of_fine-requires : goal.tour_of_fine-requires

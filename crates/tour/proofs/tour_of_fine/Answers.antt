@@ -5,7 +5,6 @@ use Prim.Native.Nat.{ℕ, ◌*◌}
 use native.Mathlib.Omega.{arith}
 use Rattle.instance.proofs.PreparedLaws.{prepared_on}
 use Rattle.tour.proofs.DoorLaws.{room_refused, table_refused, rooms_passed, part_lent, toured_is}
-use borrow.Author.Rules.{rules}
 use Rattle.tour.proofs.tour_of_fine.Goals as goal
 
 pub returns-then-room-n : goal.returns-then-room-n
