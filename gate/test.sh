@@ -2,8 +2,8 @@
 # test.sh: refusals.sh must pass a sweep whose wrong programs are each refused at their own fact, and name what is wrong with
 # one that has a harmless replacement in it, one refused elsewhere, one told twice, a name that docs/PROMISES.md lacks, and so
 # on. The log is one that `rt must-fail` wrote of crates/block, cut short. And contracts.sh must pass a crate whose callable
-# functions all have their entries, and name one that has none, one that cites another's contract, and a record not proved. And
-# limits.sh must name a header, a table and a longest card that have another number than the code.
+# functions all have their entries, and name one that has none, one that cites another's contract or is named otherwise, and a
+# record not proved. And limits.sh must name a header, a table and a longest card that have another number than the code.
 set -eu
 
 here=$(cd "$(dirname "$0")" && pwd -P)
@@ -90,32 +90,44 @@ END
 echo '// no code' >"$tree/crates/contracts/src/lib.rt"
 entries() { # ENTRY-OF-DOOR: the statements, with this line for the second
     cat >"$tree/crates/contracts/specs/Words.antt" <<END
-use Rattle·block.proofs as Block
+use Rattle.block.specs.contracts as Block
+use Rattle.block.proofs as BlockProofs
+use Rattle.answer.proofs as AnswerProofs
 
 pub record OfBlock : Type 0 where
-  pub byte-at : Says Block.byte_at.ended Block.byte_at.Reads.Asked
-      Block.byte_at.Reads.Learnt
-      (λ _ s at r. r ≡ byteAt (now s) at)
+  pub byte_at_lem : Says Block.byte_at.ended BlockProofs.byte_at.Reads.Asked
+      BlockProofs.byte_at.Reads.Learnt
+      (λ _ s at r. r ≡ byte_at s.now at)
 $1
-  pub next : SaysByHand Block.next.ended (λ M. Block.next.clauses) (λ _ r f. f ≡ fieldAt (now (r .src)) (r .at))
+  pub next : SaysByHand Block.next.ended (λ M 𝓤. Block.next.clauses) (λ _ r f. f ≡ field_at r.src.now r.at)
 
 abbrev pub Claim : Type 0
 Claim = OfBlock
 END
 }
-door='  pub door : Says Block.door.ended Block.door.Reads.Asked Block.door.Reads.Learnt (λ _ s r. r ≡ doorOf (now s))'
-echo 'of-block : OfBlock' >"$tree/crates/contracts/proofs/Words.antt"
+door='  pub door : Says Block.door.ended BlockProofs.door.Reads.Asked BlockProofs.door.Reads.Learnt (λ _ s r. r ≡ door_of s.now)'
+echo 'of_block : OfBlock' >"$tree/crates/contracts/proofs/Words.antt"
 entries "$door"
 says 0 '3 callable functions, the contract of each cited whole in crates/contracts'
 entries ''
 says 1 'block::door: no entry in crates/contracts/specs'
-entries "$(echo "$door" | sed 's/Block.door.Reads.Learnt/Block.byte_at.Reads.Learnt/')"
+entries "$(echo "$door" | sed 's/BlockProofs.door.Reads.Learnt/BlockProofs.byte_at.Reads.Learnt/')"
 says 1 'door does not cite one contract whole'
 says 1 'block::door: no entry in crates/contracts/specs'
-entries "$(echo "$door" | sed 's/Block/Card/g')"
+entries "$(echo "$door" | sed 's/BlockProofs.door/BlockProofs.byte_at/g')"
+says 1 'door does not cite one contract whole'
+entries "$(echo "$door" | sed 's/BlockProofs/AnswerProofs/g')"
+says 1 'door is read in another crate'
+entries "$(echo "$door" | sed 's/pub door/pub gate/')"
+says 1 'gate is the entry of door'
+entries "$(echo "$door" | sed 's/pub door/pub door_lem/')"
+says 0 '3 callable functions, the contract of each cited whole in crates/contracts'
+entries "$(echo "$door" | sed 's/ Block\./ Card./')"
 says 1 'no crate is named Card'
+entries "$(echo "$door" | sed 's/BlockProofs/Proofs/g')"
+says 1 'no proofs are named Proofs'
 entries "$door"
-echo 'of-card : OfCard' >"$tree/crates/contracts/proofs/Words.antt"
+echo 'of_card : OfCard' >"$tree/crates/contracts/proofs/Words.antt"
 says 1 'crates/contracts/proofs has no OfBlock'
 
 # ---- limits.sh
