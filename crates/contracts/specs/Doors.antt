@@ -70,7 +70,7 @@ pub record OfList : Type 0 where
       (λ _ card page r page'.
       (page' ≡ over (list_of card.now) page.now) × (r ≡ min (length (list_of card.now)) (length page.now)))
   pub show_card_lem : Says List.show_card.ended ListProofs.show_card.Reads.Asked ListProofs.show_card.Reads.Learnt
-      (λ _ _ _. Unit {0})
+      (λ _ _ _ _. Unit {0})
 
 -- host
 pub record OfHost : Type 0 where

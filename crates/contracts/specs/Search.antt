@@ -94,11 +94,11 @@ pub record OfStart : Type 0 where
   pub nn_constrained_lem : Says Start.nn_constrained.ended StartProofs.nn_constrained.Reads.Asked
       StartProofs.nn_constrained.Reads.Learnt
       (λ _ home table t first pairs tour r tour'.
-      let ground = ground_of home.now table.now t first.now pairs.now in
-      Written (nearest ground (length tour.now)) tour.now r tour')
+      let land = ground_of home.now table.now t first.now pairs.now in
+      Written (nearest land (length tour.now)) tour.now r tour')
   pub solve_nn_lem : Says Start.solve_nn.ended StartProofs.solve_nn.Reads.Asked StartProofs.solve_nn.Reads.Learnt
-      (λ _ home table t first tour r tour'. let ground = ground_of home.now table.now t first.now [] in
-      Written (nearest ground (length tour.now)) tour.now r tour')
+      (λ _ home table t first tour r tour'. let land = ground_of home.now table.now t first.now [] in
+      Written (nearest land (length tour.now)) tour.now r tour')
 
 -- improve
 pub record OfImprove : Type 0 where

@@ -116,12 +116,12 @@ pub record OfProbe : Type 0 where
   pub probe_start : Says Probe.probe_start.ended ProbeProofs.probe_start.Reads.Asked
       ProbeProofs.probe_start.Reads.Learnt
       (λ _ home table t first pairs tour r tour'.
-      let ground = ground_of home.now table.now t first.now pairs.now in
-      Written (nearest ground (length tour.now)) tour.now r tour')
+      let land = ground_of home.now table.now t first.now pairs.now in
+      Written (nearest land (length tour.now)) tour.now r tour')
   pub probe_solve_nn_lem : Says Probe.probe_solve_nn.ended ProbeProofs.probe_solve_nn.Reads.Asked
       ProbeProofs.probe_solve_nn.Reads.Learnt
-      (λ _ home table t first tour r tour'. let ground = ground_of home.now table.now t first.now [] in
-      Written (nearest ground (length tour.now)) tour.now r tour')
+      (λ _ home table t first tour r tour'. let land = ground_of home.now table.now t first.now [] in
+      Written (nearest land (length tour.now)) tour.now r tour')
   pub probe_distances_lem : Says Probe.probe_distances.ended ProbeProofs.probe_distances.Reads.Asked
       ProbeProofs.probe_distances.Reads.Learnt
       (λ _ card home table _ _ home' table' count'. let all = instance_of card.now in
