@@ -60,7 +60,7 @@ perimeter_plus : (ps : List Point) → AllGood ps → length ps ≤ vertex_limit
 unfolding perimeter_of
 perimeter_plus ps good few =
     let e = edges-length ps in
-    plus_more (around zero64 (edges ps)) (omega arith)
+    plus_more {k = 85} (around zero64 (edges ps)) (omega arith)
     (around_plus zero64 (edges ps) 25 (edges-ended ps good) (lit≤ tt) (omega arith) zero_plus)
 
 -- ---- how far along
@@ -142,7 +142,7 @@ spot_near last d i before (e ∷ more) j l u n low high w =
 
     go : (b : Bool) → Near 160 (spot_from last d (suc i) after more).point
         → Near 160 (cond b (on_edge d i before e) (spot_from last d (suc i) after more)).point
-    go true f = edge_near d i before e u (under_more before (omega arith) (plus_under j before w)) n.0
+    go true f = edge_near d i before e u (under_more {k = 92} before (omega arith) (plus_under j before w)) n.0
     go false f = f
 
 -- ---- the candidates

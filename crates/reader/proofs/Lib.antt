@@ -2,4 +2,3 @@ pub mod WalkLaws
 pub mod CardLaws
 pub mod ClaimsHold
 pub mod FileOrderLaws
-pub mod ReaderCalls
