@@ -13,7 +13,7 @@ use lib.ListN.{length, get_or, set, take, drop, length-append, get_or-append}
 use lib.Seq.{take_at, get_or-append-add}
 use Rattle.root.proofs.IeeeLaws.{claim as ieee}
 use Rattle.points.specs.Distance.{squares, distance_sq_of, distance_of}
-use Rattle.bytes.specs.Bytes.{rev}
+use Rattle.std.specs.Prelude.{reverse}
 use Rattle.answer.specs.declared.Point.{Point}
 use Rattle.answer.specs.declared.Check.TheVariants.{Fine}
 use Rattle.candidates.specs.declared.Candidate.{Candidate}
@@ -171,7 +171,7 @@ measured s = record {
 }
 
 terms : (s : List ℕ) → check_of s ≡ Fine → Terms s
-unfolding chart_on shorter rev
+unfolding chart_on shorter reverse
 terms s fine =
     let sound = (exactly s).fine_only fine in
     record {

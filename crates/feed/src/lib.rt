@@ -65,7 +65,7 @@ pub fn begin() -> Feed
 
 // Writes the bytes of a piece that are kept behind those kept before, and answers how many they are.
 fn keep(kept: usize, held: &mut [u8], piece: &[u8]) -> usize
-    requires* { do ⌜ card_bytes ≤ (← ⟦held.len()⟧) ⌝ }
+    requires { card_bytes ≤ length held.old }
     ensures value { result ≡ taken_of kept (length piece.now) }
     ensures held_after { held.new ≡ filled kept held.old piece.now }
 {
@@ -73,7 +73,7 @@ fn keep(kept: usize, held: &mut [u8], piece: &[u8]) -> usize
     if n == 0 {
         return 0;
     }
-    bytes::copy(&piece[..n], &mut held[kept..]);
+    held[kept..kept + n].copy_from_slice(&piece[..n]);
     n
 }
 

@@ -4,20 +4,19 @@ use mathlib.Core.List.{List, ◌++◌, append_assoc}
 use mathlib.Core.Path.{◌≡◌, sym, ap, ◌∙◌}
 use Prim.Native.Nat.{ℕ, ◌+◌, ◌-◌, ◌≤◌}
 use native.Mathlib.Omega.{arith}
-use lib.ListN.{length, take, drop, length-append, length-drop, length-reverse}
+use lib.ListN.{length, take, drop, length-append, length-drop, length-reverse, take-append-drop}
 use lib.Seq.{length-take-le, take-append_seam, drop-append_seam, take-append-add, drop-append-add}
-use Rattle.bytes.proofs.Laws.{rev-rev, rev-append, split}
-use Rattle.bytes.specs.Bytes.{rev, slice}
-use Rattle.improve.specs.Search.{turned}
+use Rattle.std.specs.Prelude.{reverse}
+use Rattle.std.proofs.lemmas.List.{reverse-reverse, reverse-append, take-take}
+use Rattle.improve.specs.Search.{slice, turned}
 
 -- a stretch keeps its length
-pub length-rev : (b : List ℕ) → length (rev b) ≡ length b
-unfolding rev
+pub length-rev : (b : List ℕ) → length (reverse b) ≡ length b
 length-rev b = length-reverse b
 
 -- a list with a stretch b between a and c: that stretch is reversed
 pub turned_parts : (a b c : List ℕ) (f t : ℕ) → length a ≡ f → length a + length b ≡ t
-    → turned f t (a ++ (b ++ c)) ≡ a ++ (rev b ++ c)
+    → turned f t (a ++ (b ++ c)) ≡ a ++ (reverse b ++ c)
 unfolding turned slice
 turned_parts a b c f t ef et =
     rw (
@@ -30,6 +29,13 @@ turned_parts a b c f t ef et =
       drop-append-add a (b ++ c) (length b),
       drop-append_seam b c,
     )
+
+split : (l : List ℕ) (f t : ℕ) → f ≤ t → l ≡ take f l ++ (slice f t l ++ drop t l)
+unfolding slice
+split l f t h =
+    sym (take-append-drop t l) ∙ ap (λ (x : List ℕ). x ++ drop t l) (sym (take-append-drop f (take t l)))
+    ∙ append_assoc (take f (take t l)) (drop f (take t l)) (drop t l)
+    ∙ ap (λ (x : List ℕ). x ++ (drop f (take t l) ++ drop t l)) (take-take f t l h)
 
 -- a list taken apart around its stretch from f to t
 pub record Parts (f t : ℕ) (l : List ℕ) : Type 0 where
@@ -60,7 +66,7 @@ length-turned f t l h g = go (parts f t l h g)
   where
     go : Parts f t l → length (turned f t l) ≡ length l
     go p =
-        let e : turned f t l ≡ p.front ++ (rev p.middle ++ p.back) =
+        let e : turned f t l ≡ p.front ++ (reverse p.middle ++ p.back) =
         ap (turned f t) p.joined ∙ turned_parts p.front p.middle p.back f t p.starts p.ends in
         rw (e, p.joined) (simp (length-append, length-rev))
 
@@ -73,12 +79,12 @@ turned_twice f t l h g = go (parts f t l h g)
         let a = p.front in
         let b = p.middle in
         let c = p.back in
-        let once : turned f t l ≡ a ++ (rev b ++ c) =
+        let once : turned f t l ≡ a ++ (reverse b ++ c) =
         ap (turned f t) p.joined ∙ turned_parts a b c f t p.starts p.ends in
-        let n : length (rev b) ≡ length b = length-rev b in
-        let again : turned f t (a ++ (rev b ++ c)) ≡ a ++ (rev (rev b) ++ c) =
-        turned_parts a (rev b) c f t p.starts (rw n p.ends) in
-        ap (turned f t) once ∙ again ∙ ap (λ (x : List ℕ). a ++ (x ++ c)) (rev-rev b) ∙ sym p.joined
+        let n : length (reverse b) ≡ length b = length-rev b in
+        let again : turned f t (a ++ (reverse b ++ c)) ≡ a ++ (reverse (reverse b) ++ c) =
+        turned_parts a (reverse b) c f t p.starts (rw n p.ends) in
+        ap (turned f t) once ∙ again ∙ ap (λ (x : List ℕ). a ++ (x ++ c)) (reverse-reverse b) ∙ sym p.joined
 
 -- ---- stretches apart from one another
 
@@ -86,16 +92,16 @@ apart : (a b c d e : List ℕ) (f t g u : ℕ) → length a ≡ f → length a +
     → length (a ++ (b ++ c)) + length d ≡ u
     → turned f t (turned g u ((a ++ (b ++ c)) ++ (d ++ e))) ≡ turned g u (turned f t ((a ++ (b ++ c)) ++ (d ++ e)))
 apart a b c d e f t g u ef et eg eu =
-    let w : length (a ++ (rev b ++ c)) ≡ length (a ++ (b ++ c)) = simp (length-append, length-rev) in
-    let one : turned g u ((a ++ (b ++ c)) ++ (d ++ e)) ≡ a ++ (b ++ (c ++ (rev d ++ e))) =
+    let w : length (a ++ (reverse b ++ c)) ≡ length (a ++ (b ++ c)) = simp (length-append, length-rev) in
+    let one : turned g u ((a ++ (b ++ c)) ++ (d ++ e)) ≡ a ++ (b ++ (c ++ (reverse d ++ e))) =
     turned_parts (a ++ (b ++ c)) d e g u eg eu ∙ simp append_assoc in
-    let two : turned f t ((a ++ (b ++ c)) ++ (d ++ e)) ≡ (a ++ (rev b ++ c)) ++ (d ++ e) =
+    let two : turned f t ((a ++ (b ++ c)) ++ (d ++ e)) ≡ (a ++ (reverse b ++ c)) ++ (d ++ e) =
     ap (turned f t) (regroup a b c (d ++ e)) ∙ turned_parts a b (c ++ (d ++ e)) f t ef et
-    ∙ sym (regroup a (rev b) c (d ++ e)) in
+    ∙ sym (regroup a (reverse b) c (d ++ e)) in
     ap (turned f t) one
-    ∙ turned_parts a b (c ++ (rev d ++ e)) f t ef et
-    ∙ sym (ap (turned g u) two ∙ turned_parts (a ++ (rev b ++ c)) d e g u (w ∙ eg) (rw w eu)
-    ∙ regroup a (rev b) c (rev d ++ e))
+    ∙ turned_parts a b (c ++ (reverse d ++ e)) f t ef et
+    ∙ sym (ap (turned g u) two ∙ turned_parts (a ++ (reverse b ++ c)) d e g u (w ∙ eg) (rw w eu)
+    ∙ regroup a (reverse b) c (reverse d ++ e))
   where
     regroup : (x y z v : List ℕ) → (x ++ (y ++ z)) ++ v ≡ x ++ (y ++ (z ++ v))
     regroup x y z v = simp append_assoc
@@ -120,26 +126,26 @@ turned_apart f t g u l ft tg gu ul = go (parts g u l gu ul)
 
 nested : (a b c d e : List ℕ) (f t g u x y : ℕ) → length a ≡ f → length a + length (b ++ (c ++ d)) ≡ t
     → length (a ++ b) ≡ g → length (a ++ b) + length c ≡ u
-    → length (a ++ rev d) ≡ x → length (a ++ rev d) + length (rev c) ≡ y
+    → length (a ++ reverse d) ≡ x → length (a ++ reverse d) + length (reverse c) ≡ y
     → turned f t (turned g u (a ++ ((b ++ (c ++ d)) ++ e))) ≡ turned x y (turned f t (a ++ ((b ++ (c ++ d)) ++ e)))
 nested a b c d e f t g u x y ef et eg eu ex ey =
-    let m : length (b ++ (rev c ++ d)) ≡ length (b ++ (c ++ d)) = simp (length-append, length-rev) in
-    let one : turned g u (a ++ ((b ++ (c ++ d)) ++ e)) ≡ a ++ ((b ++ (rev c ++ d)) ++ e) =
-    ap (turned g u) (inward a b c d e) ∙ turned_parts (a ++ b) c (d ++ e) g u eg eu ∙ sym (inward a b (rev c) d e) in
-    let two : turned f t (a ++ ((b ++ (c ++ d)) ++ e)) ≡ (a ++ rev d) ++ (rev c ++ (rev b ++ e)) =
+    let m : length (b ++ (reverse c ++ d)) ≡ length (b ++ (c ++ d)) = simp (length-append, length-rev) in
+    let one : turned g u (a ++ ((b ++ (c ++ d)) ++ e)) ≡ a ++ ((b ++ (reverse c ++ d)) ++ e) =
+    ap (turned g u) (inward a b c d e) ∙ turned_parts (a ++ b) c (d ++ e) g u eg eu ∙ sym (inward a b (reverse c) d e) in
+    let two : turned f t (a ++ ((b ++ (c ++ d)) ++ e)) ≡ (a ++ reverse d) ++ (reverse c ++ (reverse b ++ e)) =
     turned_parts a (b ++ (c ++ d)) e f t ef et ∙ ap (λ (z : List ℕ). a ++ (z ++ e)) (flipped b c d)
-    ∙ mirrored a (rev d) (rev c) (rev b) e in
+    ∙ mirrored a (reverse d) (reverse c) (reverse b) e in
     ap (turned f t) one
-    ∙ turned_parts a (b ++ (rev c ++ d)) e f t ef (rw m et)
-    ∙ ap (λ (z : List ℕ). a ++ (z ++ e)) (flipped b (rev c) d)
-    ∙ mirrored a (rev d) (rev (rev c)) (rev b) e
-    ∙ sym (ap (turned x y) two ∙ turned_parts (a ++ rev d) (rev c) (rev b ++ e) x y ex ey)
+    ∙ turned_parts a (b ++ (reverse c ++ d)) e f t ef (rw m et)
+    ∙ ap (λ (z : List ℕ). a ++ (z ++ e)) (flipped b (reverse c) d)
+    ∙ mirrored a (reverse d) (reverse (reverse c)) (reverse b) e
+    ∙ sym (ap (turned x y) two ∙ turned_parts (a ++ reverse d) (reverse c) (reverse b ++ e) x y ex ey)
   where
     inward : (p q r s v : List ℕ) → p ++ ((q ++ (r ++ s)) ++ v) ≡ (p ++ q) ++ (r ++ (s ++ v))
     inward p q r s v = simp append_assoc
 
-    flipped : (p q r : List ℕ) → rev (p ++ (q ++ r)) ≡ (rev r ++ rev q) ++ rev p
-    flipped p q r = rev-append p (q ++ r) ∙ ap (λ (z : List ℕ). z ++ rev p) (rev-append q r)
+    flipped : (p q r : List ℕ) → reverse (p ++ (q ++ r)) ≡ (reverse r ++ reverse q) ++ reverse p
+    flipped p q r = reverse-append p (q ++ r) ∙ ap (λ (z : List ℕ). z ++ reverse p) (reverse-append q r)
 
     mirrored : (p q r s v : List ℕ) → p ++ (((q ++ r) ++ s) ++ v) ≡ (p ++ q) ++ (r ++ (s ++ v))
     mirrored p q r s v = simp append_assoc

@@ -9,8 +9,8 @@ use borrow.Author.Tests.{lt-ltb, leb-false}
 use lib.Dec.{eqb}
 use lib.ListN.{length, get_or, set, length-set}
 use lib.Seq.{set-get_or, set-set}
-use Rattle.bytes.proofs.Laws.{rev-append}
-use Rattle.bytes.specs.Bytes.{rev}
+use Rattle.std.proofs.lemmas.List.{reverse-append}
+use Rattle.std.specs.Prelude.{reverse}
 use Rattle.keep.specs.Keep.{keeps_pairs}
 use Rattle.improve.specs.Search.{Chart, State, length_in, owner_of, contours, legal, shorter, judged, at_limit, swap}
 use Rattle.improve.specs.Search.{turned, reversed, flip, searched}
@@ -111,14 +111,13 @@ met_append owner x [] b = omega arith
 met_append owner x (y ∷ a) b = let e : met owner x (a ++ b) ≡ met owner x a + met owner x b =
     met_append owner x a b in omega arith
 
-met_rev : (owner : List ℕ) (x : ℕ) (b : List ℕ) → met owner x (rev b) ≡ met owner x b
-unfolding rev
+met_rev : (owner : List ℕ) (x : ℕ) (b : List ℕ) → met owner x (reverse b) ≡ met owner x b
 met_rev owner x [] = refl
 met_rev owner x (y ∷ b) =
-    let e : rev (y ∷ b) ≡ rev b ++ (y ∷ []) = rev-append (y ∷ []) b in
-    let h : met owner x (rev b) ≡ met owner x b = met_rev owner x b in
-    let l : met owner x (rev b ++ (y ∷ [])) ≡ met owner x (rev b) + met owner x (y ∷ []) =
-    met_append owner x (rev b) (y ∷ []) in
+    let e : reverse (y ∷ b) ≡ reverse b ++ (y ∷ []) = reverse-append (y ∷ []) b in
+    let h : met owner x (reverse b) ≡ met owner x b = met_rev owner x b in
+    let l : met owner x (reverse b ++ (y ∷ [])) ≡ met owner x (reverse b) + met owner x (y ∷ []) =
+    met_append owner x (reverse b) (y ∷ []) in
     let r : met owner x (y ∷ b) ≡ met owner x (y ∷ []) + met owner x b = met_append owner x (y ∷ []) b in
     ap (met owner x) e ∙ omega arith
 
@@ -131,15 +130,15 @@ met_turned owner x f t l h g = go (parts f t l h g)
         let a = p.front in
         let b = p.middle in
         let c = p.back in
-        let e : turned f t l ≡ a ++ (rev b ++ c) =
+        let e : turned f t l ≡ a ++ (reverse b ++ c) =
         ap (turned f t) p.joined ∙ turned_parts a b c f t p.starts p.ends in
-        let u : met owner x (a ++ (rev b ++ c)) ≡ met owner x a + met owner x (rev b ++ c) =
-        met_append owner x a (rev b ++ c) in
-        let v : met owner x (rev b ++ c) ≡ met owner x (rev b) + met owner x c = met_append owner x (rev b) c in
-        let w : met owner x (rev b) ≡ met owner x b = met_rev owner x b in
+        let u : met owner x (a ++ (reverse b ++ c)) ≡ met owner x a + met owner x (reverse b ++ c) =
+        met_append owner x a (reverse b ++ c) in
+        let v : met owner x (reverse b ++ c) ≡ met owner x (reverse b) + met owner x c = met_append owner x (reverse b) c in
+        let w : met owner x (reverse b) ≡ met owner x b = met_rev owner x b in
         let y : met owner x (a ++ (b ++ c)) ≡ met owner x a + met owner x (b ++ c) = met_append owner x a (b ++ c) in
         let z : met owner x (b ++ c) ≡ met owner x b + met owner x c = met_append owner x b c in
-        let m : met owner x (a ++ (rev b ++ c)) ≡ met owner x (a ++ (b ++ c)) = omega arith in
+        let m : met owner x (a ++ (reverse b ++ c)) ≡ met owner x (a ++ (b ++ c)) = omega arith in
         ap (met owner x) e ∙ m ∙ ap (met owner x) (sym p.joined)
 
 -- another candidate of the same contour changes no contour

@@ -10,11 +10,11 @@ use lib.Dec.{eqb}
 use lib.Ieee.{Float}
 use lib.ListN.{length, get_or, set, take, drop}
 use lib.Seq.{set-get_or}
-use Rattle.bytes.specs.Bytes.{rev, slice}
+use Rattle.std.specs.Prelude.{reverse}
 use Rattle.table.specs.Each.{each}
 use Rattle.improve.specs.Code.{unpaired, distances, Judged, Taken, going, state_of}
 use Rattle.improve.specs.Search.{Chart, State, length_in, legal, shorter, judged, at_limit, stopped, tried}
-use Rattle.improve.specs.Search.{owner_of, swap, alternative, turn, turned, reversed, flip, reversal}
+use Rattle.improve.specs.Search.{owner_of, swap, alternative, turn, slice, turned, reversed, flip, reversal}
 use Rattle.improve.specs.Search.{row}
 use Rattle.improve.specs.declared.Progress.{Progress}
 use Rattle.improve.specs.declared.Tried.{Tried}
@@ -215,7 +215,7 @@ weighs_out length measured cost kept flag m e q =
 
 -- what a reversal in place leaves
 abbrev flipped : ℕ → ℕ → List ℕ → List ℕ
-flipped i j tour = take (i + 1) tour ++ (rev (slice (i + 1) (j + 1) tour) ++ drop (j + 1) tour)
+flipped i j tour = take (i + 1) tour ++ (reverse (slice (i + 1) (j + 1) tour) ++ drop (j + 1) tour)
 
 flipped_is : (i j : ℕ) (tour : List ℕ) → flipped i j tour ≡ reversed i j tour
 unfolding turned

@@ -1,8 +1,7 @@
 -- Constrained 2-opt with a counted limit: what each trial does, and in which order they come. Assumes nothing.
-use Rattle.std.specs.Prelude.{Bool, true, false, not, cond, ◌&&◌, ◌||◌, List, map, ◌++◌, ℕ, zero, suc, ◌+◌, ◌-◌, ltb, leb, eqb, Float, length, get_or, set, take, drop}
+use Rattle.std.specs.Prelude.{Bool, true, false, not, cond, ◌&&◌, ◌||◌, List, map, ◌++◌, ℕ, zero, suc, ◌+◌, ◌-◌, ltb, leb, eqb, Float, length, get_or, set, take, drop, reverse}
 use Rattle.std.specs.Float.{binary64}
 use Rattle.std.specs.Float.Ieee.{of_bits, sub, lt}
-use Rattle.bytes.specs.Bytes.{rev, slice}
 use Rattle.closure.specs.Limits.{contour_limit}
 use Rattle.keep.specs.Keep.{keeps_pairs}
 use Rattle.table.specs.Evaluate.{length_of}
@@ -102,9 +101,13 @@ turn chart limit p s =
 
 -- ---- a stretch of the tour the other way round
 
+-- the part of a list from f up to, not including, t
+unfoldable pub slice : ℕ → ℕ → List ℕ → List ℕ
+slice f t l = drop f (take t l)
+
 -- a list with its stretch from f up to, not including, t reversed
 unfoldable pub turned : ℕ → ℕ → List ℕ → List ℕ
-turned f t l = take f l ++ (rev (slice f t l) ++ drop t l)
+turned f t l = take f l ++ (reverse (slice f t l) ++ drop t l)
 
 -- a tour with its stretch from i+1 to j reversed
 abbrev pub reversed : ℕ → ℕ → List ℕ → List ℕ

@@ -2,12 +2,12 @@
 // Each trial counts one, and the search stops where one more would pass the limit.
 #![tactic(auto)]
 
-ghost use Rattle.std.specs.Prelude.{◌≡◌, false, ◌&&◌, [], ◌+◌, ◌-◌, ◌≤◌, ◌<◌, ◌^◌, length, set};
+ghost use Rattle.std.specs.Prelude.{◌≡◌, false, ◌&&◌, [], ◌+◌, ◌-◌, ◌≤◌, ◌<◌, ◌^◌, ◌++◌, length, set, take, drop, reverse};
 ghost use Rattle.table.specs.Evaluate.{length_of};
 ghost use Rattle.closure.specs.Limits.{contour_limit};
 ghost use Rattle.keep.specs.Keep.{keeps_pairs};
 ghost use Rattle.table.specs.Each.{each};
-ghost use Rattle.improve.specs.Search.{owner_of, contours, shorter, at_limit, alternative, turn, reversed, begun, repeated, searched};
+ghost use Rattle.improve.specs.Search.{owner_of, contours, shorter, at_limit, alternative, turn, slice, reversed, begun, repeated, searched};
 ghost use Rattle.improve.specs.Code.{Judged, Taken, Reached, going, state_of, chart_of};
 
 use closure::CONTOURS;
@@ -57,7 +57,7 @@ fn try_candidate(
     a: u8,
     cost: f64,
 ) -> Tried
-    requires* { do ⌜ p < (← ⟦tour.len()⟧) ⌝ }
+    requires { p < length tour.old }
     ensures { let new = set tour.old p a in
         let length = length_of home.now table.now t new in
         Judged (shorter length cost) new length (set tour.old p back) cost result tour.new }
@@ -93,7 +93,7 @@ fn alternatives(
     better: bool,
     moves: u64,
 ) -> Progress
-    requires* p_bound { do ⌜ p < (← ⟦tour.len()⟧) ⌝ }
+    requires p_bound { p < length tour.old }
     requires moves_bound { moves + 256 ≤ 2 ^ 64 }
     ensures result_after { state_of tour.new result
         ≡ each (alternative (chart_of home.now table.now t [] [] []) limit p held) (end - from) from
@@ -153,7 +153,7 @@ fn turn_at(
     better: bool,
     moves: u64,
 ) -> Progress
-    requires* p_bound { do ⌜ p < (← ⟦tour.len()⟧) ⌝ }
+    requires p_bound { p < length tour.old }
     requires moves_bound { moves + 256 ≤ 2 ^ 64 }
     ensures result_after { state_of tour.new result
         ≡ turn (chart_of home.now table.now t owner.now first.now []) limit p
@@ -181,13 +181,12 @@ fn turns(
     cost: f64,
     moves: u64,
 ) -> Progress
-    requires* do_bound { do ⌜ (← ⟦tour.len()⟧) ≤ 255 ⌝ }
+    requires tour_length { length tour.old ≤ 255 }
     requires moves_bound { moves + 65536 ≤ 2 ^ 64 }
-    ensures* result_after { do
-      n ← (⟦tour.len()⟧).entry
-      ⌜ state_of tour.new result
+    ensures result_after { let n = length tour.old in
+        state_of tour.new result
           ≡ each (turn (chart_of home.now table.now t owner.now first.now []) limit) n 0
-          (going tour.old cost false moves) ⌝ }
+          (going tour.old cost false moves) }
     ensures moves_bound_2 { result.moves ≤ moves + 65280 }
 {
     let n = tour.len();
@@ -264,6 +263,14 @@ fn weigh(
     }
 }
 
+// A stretch of the tour, from one place up to another, the other way round.
+fn reverse(tour: &mut [u8], from: usize, to: usize)
+    requires { (from ≤ to) × (to ≤ length tour.old) }
+    ensures { tour.new ≡ take from tour.old ++ (reverse (slice from to tour.old) ++ drop to tour.old) }
+{
+    tour[from..to].reverse();
+}
+
 // Tries the tour with its stretch from i + 1 to j reversed.
 fn try_reversal(
     home: &[f64],
@@ -276,8 +283,8 @@ fn try_reversal(
     j: usize,
     cost: f64,
 ) -> Tried
-    requires* do_bound { do ⌜ (← ⟦tour.len()⟧) ≤ contour_limit ⌝ }
-    requires* j_bound { do ⌜ j < (← ⟦tour.len()⟧) ⌝ }
+    requires tour_length { length tour.old ≤ contour_limit }
+    requires j_bound { j < length tour.old }
     requires i_lt_j { i < j }
     ensures { let new = reversed i j tour.old in
         let length = length_of home.now table.now t new in
@@ -286,12 +293,12 @@ fn try_reversal(
 {
     let from = i + 1;
     let to = j + 1;
-    bytes::reverse(tour, from, to);
+    reverse(tour, from, to);
     let r = weigh(home, table, t, owner, pairs, tour, cost);
     if r.accepted {
         return r;
     }
-    bytes::reverse(tour, from, to);
+    reverse(tour, from, to);
     r
 }
 
@@ -308,11 +315,10 @@ fn run(
     passes: u32,
     limit: u32,
 ) -> u64
-    requires* { do ⌜ (← ⟦tour.len()⟧) ≤ contour_limit ⌝ }
-    ensures* { do
-      n ← (⟦tour.len()⟧).entry
-      let chart = chart_of home.now table.now t owner.now first.now pairs.now in
-          ⌜ Reached result tour.new (repeated chart limit n passes (begun chart tour.old)) ⌝ }
+    requires { length tour.old ≤ contour_limit }
+    ensures { let n = length tour.old in
+        let chart = chart_of home.now table.now t owner.now first.now pairs.now in
+          Reached result tour.new (repeated chart limit n passes (begun chart tour.old)) }
 {
     let n = tour.len();
     let mut cost = table::evaluate_solution(home, table, t, tour);

@@ -3,7 +3,7 @@
 // number and keeps all it is lent.
 #![tactic(auto)]
 
-ghost use Rattle.std.specs.Prelude.{◌≡◌, []};
+ghost use Rattle.std.specs.Prelude.{◌≡◌, [], length};
 ghost use Rattle.probe.specs.Told.{root_code, root_or, length_code, length_or, closest_code, nearest_or, count_code, count_or, verdict_code, kind_of, preference_of, way_of, asked_of, nth_of, place_of, fine_or};
 ghost use Rattle.root.specs.Root.{sqrt_of, root_of};
 ghost use Rattle.points.specs.Points.{point};
@@ -442,17 +442,15 @@ pub fn probe_start(
     pairs: &[u8],
     tour: &mut [u8],
 ) -> usize
-    ensures* { do
-      n ← (⟦tour.len()⟧).entry
-      ⌜ Written (nearest (ground_of home.now table.now t first.now pairs.now) n) tour.old result tour.new ⌝ }
+    ensures { let n = length tour.old in
+        Written (nearest (ground_of home.now table.now t first.now pairs.now) n) tour.old result tour.new }
 {
     start::nn_constrained(home, table, t, first, pairs, tour)
 }
 
 pub fn probe_solve_nn(home: &[f64], table: &[f64], t: u8, first: &[u8], tour: &mut [u8]) -> usize
-    ensures* { do
-      n ← (⟦tour.len()⟧).entry
-      ⌜ Written (nearest (ground_of home.now table.now t first.now []) n) tour.old result tour.new ⌝ }
+    ensures { let n = length tour.old in
+        Written (nearest (ground_of home.now table.now t first.now []) n) tour.old result tour.new }
 {
     start::solve_nn(home, table, t, first, tour)
 }

@@ -1,7 +1,7 @@
 // The test doors as C and Rust link them: an export for each function of `probe`, under the same name and with the same contract.
 #![tactic(auto)]
 
-ghost use Rattle.std.specs.Prelude.{◌≡◌, []};
+ghost use Rattle.std.specs.Prelude.{◌≡◌, [], length};
 ghost use Rattle.probe.specs.Told.{root_code, root_or, length_code, length_or, closest_code, nearest_or, count_code, count_or, verdict_code, way_of, asked_of, nth_of, place_of, fine_or};
 ghost use Rattle.root.specs.Root.{sqrt_of, root_of};
 ghost use Rattle.points.specs.Points.{point};
@@ -256,9 +256,8 @@ pub extern "C" fn probe_start(
     pairs: &[u8],
     tour: &mut [u8],
 ) -> usize
-    ensures* { do
-      n ← (⟦tour.len()⟧).entry
-      ⌜ Written (nearest (ground_of home.now table.now t first.now pairs.now) n) tour.old result tour.new ⌝ }
+    ensures { let n = length tour.old in
+        Written (nearest (ground_of home.now table.now t first.now pairs.now) n) tour.old result tour.new }
 {
     probe::probe_start(home, table, t, first, pairs, tour)
 }
@@ -271,9 +270,8 @@ pub extern "C" fn probe_solve_nn(
     first: &[u8],
     tour: &mut [u8],
 ) -> usize
-    ensures* { do
-      n ← (⟦tour.len()⟧).entry
-      ⌜ Written (nearest (ground_of home.now table.now t first.now []) n) tour.old result tour.new ⌝ }
+    ensures { let n = length tour.old in
+        Written (nearest (ground_of home.now table.now t first.now []) n) tour.old result tour.new }
 {
     probe::probe_solve_nn(home, table, t, first, tour)
 }

@@ -23,10 +23,9 @@ pub fn solve_constrained(
     passes: u32,
     limit: u32,
 ) -> Outcome
-    ensures* { do
-      n ← (⟦tour.len()⟧).entry
-      let chart = chart_of home.now table.now t owner.now first.now pairs.now in
-          ⌜ Solved chart (end_in chart n passes limit) tour.old result tour.new ⌝ }
+    ensures { let n = length tour.old in
+        let chart = chart_of home.now table.now t owner.now first.now pairs.now in
+          Solved chart (end_in chart n passes limit) tour.old result tour.new }
 {
     let made = start::nn_constrained(home, table, t, first, pairs, tour);
     let moves = improve::improve(

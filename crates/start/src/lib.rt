@@ -1,7 +1,7 @@
 // Where a search begins: step by step to the nearest candidate of a contour that is ready.
 #![tactic(auto)]
 
-ghost use Rattle.std.specs.Prelude.{◌≡◌, [], ◌-◌};
+ghost use Rattle.std.specs.Prelude.{◌≡◌, [], ◌-◌, length};
 ghost use Rattle.closure.specs.Limits.{contour_limit};
 ghost use Rattle.table.specs.Each.{each};
 ghost use Rattle.start.specs.Nearest.{Ground, Way, reach_of, closer, offer, offered, is_open, chosen, nearest};
@@ -149,9 +149,8 @@ pub fn nn_constrained(
     pairs: &[u8],
     tour: &mut [u8],
 ) -> usize
-    ensures* { do
-      n ← (⟦tour.len()⟧).entry
-      ⌜ Written (nearest (ground_of home.now table.now t first.now pairs.now) n) tour.old result tour.new ⌝ }
+    ensures { let n = length tour.old in
+        Written (nearest (ground_of home.now table.now t first.now pairs.now) n) tour.old result tour.new }
 {
     let n = tour.len();
     if n > CONTOURS {
@@ -177,9 +176,8 @@ pub fn nn_constrained(
 
 // The same where no contour waits for another.
 pub fn solve_nn(home: &[f64], table: &[f64], t: u8, first: &[u8], tour: &mut [u8]) -> usize
-    ensures* { do
-      n ← (⟦tour.len()⟧).entry
-      ⌜ Written (nearest (ground_of home.now table.now t first.now []) n) tour.old result tour.new ⌝ }
+    ensures { let n = length tour.old in
+        Written (nearest (ground_of home.now table.now t first.now []) n) tour.old result tour.new }
 {
     let none = [0u8; 0];
     nn_constrained(home, table, t, first, &none, tour)

@@ -1,7 +1,7 @@
 // The distances between candidates, and how long a tour over them is.
 #![tactic(auto)]
 
-ghost use Rattle.std.specs.Prelude.{◌≡◌, true, cond, ◌++◌, ◌*◌, ◌≤◌, ◌<◌, get_or, take, drop};
+ghost use Rattle.std.specs.Prelude.{◌≡◌, true, cond, ◌++◌, ◌*◌, ◌≤◌, ◌<◌, get_or, take, drop, length};
 ghost use Rattle.std.proofs.Math.Seq.{paste};
 ghost use Rattle.std.specs.Float.{nan};
 ghost use Rattle.fields.specs.Limits.{candidate_limit};
@@ -120,7 +120,7 @@ fn known_in(a: usize, closed: bool) -> usize
 // The entries of row a that are known, from column a.
 fn copy_known(room: &mut [f64], t: usize, a: usize, known: usize)
     requires t_le_candidate_limit { (t ≤ candidate_limit) × ((a < t) × (known ≤ a)) }
-    requires* t_bound { do ⌜ t * t ≤ (← ⟦room.len()⟧) ⌝ }
+    requires t_bound { t * t ≤ length room.old }
     ensures { let before = room.old in room.new ≡ paste before (a * t) (listed (λ b. distance_at before t b a) t 0) known }
 {
     let at = a * t;
@@ -141,7 +141,7 @@ fn fill_row(
     known: usize,
 )
     requires t_le_candidate_limit { (t ≤ candidate_limit) × (a < t) }
-    requires* t_bound { do ⌜ t ≤ (← ⟦room.len()⟧) ⌝ }
+    requires t_bound { t ≤ length room.old }
     requires known_le_t { (known ≤ t) × (take known room.old ≡ listed (leg_at (take t items) owner.now a) known 0) }
     ensures { room.new ≡ row_of (take t items) owner.now t a ++ drop t room.old }
 {

@@ -1,7 +1,7 @@
 // What users call: the tour of a card, taken as any bytes. Its own refusals come first; a refusal changes nothing that was lent.
 #![tactic(auto)]
 
-ghost use Rattle.std.specs.Prelude.{◌≡◌, ◌*◌};
+ghost use Rattle.std.specs.Prelude.{◌≡◌, ◌*◌, length};
 ghost use Rattle.std.specs.Float.Ieee.{to_bits};
 ghost use Rattle.std.specs.Float.{binary64};
 ghost use Rattle.answer.specs.declared.Check.TheVariants.{Fine};
@@ -28,8 +28,8 @@ pub enum Toured {
 fn run(card: &[u8], p: Prepared, room: &mut [u8], table: &mut [f64]) -> Outcome
     requires card_value { check_of card.now ≡ Fine }
     requires prepared_on { PreparedOn card.now p }
-    requires* do_value { do ⌜ (← ⟦room.len()⟧) ≡ contours_of card.now ⌝ }
-    requires* do_value_2 { do ⌜ (← ⟦table.len()⟧) ≡ count_on card.now * count_on card.now ⌝ }
+    requires room_length { length room.old ≡ contours_of card.now }
+    requires table_length { length table.old ≡ count_on card.now * count_on card.now }
     ensures solved { Solved (chart_on card.now) (end_on card.now) room.old result room.new }
     ensures table_after { table.new ≡ table_on card.now }
 {
@@ -59,11 +59,10 @@ fn run(card: &[u8], p: Prepared, room: &mut [u8], table: &mut [f64]) -> Outcome
 // The tour of a card that was accepted, if the rooms are large enough.
 fn tour_of_fine(card: &[u8], room: &mut [u8], table: &mut [f64]) -> Toured
     requires { check_of card.now ≡ Fine }
-    ensures* { do
-      n ← (⟦room.len()⟧).entry
-      m ← (⟦table.len()⟧).entry
-      ⌜ left result room.new table.new
-          ≡ toured_unless (room_check card.now n m) (toured card.now room.old table.old) room.old table.old ⌝ }
+    ensures { let n = length room.old in
+        let m = length table.old in
+        left result room.new table.new
+          ≡ toured_unless (room_check card.now n m) (toured card.now room.old table.old) room.old table.old }
 {
     let p = instance::prepare(card);
     let all = p.all;

@@ -7,8 +7,8 @@ use native.Mathlib.Omega.{arith}
 use lib.Dec.{leb}
 use lib.ListN.{length, get_or, set, length-set}
 use lib.Seq.{set-set}
-use Rattle.bytes.proofs.Laws.{rev-append}
-use Rattle.bytes.specs.Bytes.{rev}
+use Rattle.std.proofs.lemmas.List.{reverse-append}
+use Rattle.std.specs.Prelude.{reverse}
 use Rattle.closure.specs.Limits.{contour_limit}
 use Rattle.table.specs.Each.{each}
 use Rattle.table.proofs.EachLaws.{each_keeps}
@@ -41,11 +41,11 @@ unfolding AllBelow
 below_back t [] b h = h
 below_back t (x ∷ a) b h = below_back t a b h.1
 
-below_rev : (t : ℕ) (b : List ℕ) → AllBelow t b → AllBelow t (rev b)
-unfolding AllBelow rev
+below_rev : (t : ℕ) (b : List ℕ) → AllBelow t b → AllBelow t (reverse b)
+unfolding AllBelow reverse
 below_rev t [] h = tt
 below_rev t (x ∷ b) h =
-    subst (AllBelow t) (sym (rev-append (x ∷ []) b)) (below_both t (rev b) (x ∷ []) (below_rev t b h.1) (h.0, tt))
+    subst (AllBelow t) (sym (reverse-append (x ∷ []) b)) (below_both t (reverse b) (x ∷ []) (below_rev t b h.1) (h.0, tt))
 
 below_set : (t : ℕ) (l : List ℕ) (p a : ℕ) → AllBelow t l → a < t → AllBelow t (set l p a)
 unfolding AllBelow
@@ -66,12 +66,12 @@ turned_below t f u l h g w = go (parts f u l h g)
         let a = p.front in
         let b = p.middle in
         let c = p.back in
-        let e : turned f u l ≡ a ++ (rev b ++ c) =
+        let e : turned f u l ≡ a ++ (reverse b ++ c) =
         ap (turned f u) p.joined ∙ turned_parts a b c f u p.starts p.ends in
         let all : AllBelow t (a ++ (b ++ c)) = subst (AllBelow t) p.joined w in
         let rest : AllBelow t (b ++ c) = below_back t a (b ++ c) all in
-        subst (AllBelow t) (sym e) (below_both t a (rev b ++ c) (below_front t a (b ++ c) all)
-        (below_both t (rev b) c (below_rev t b (below_front t b c rest)) (below_back t b c rest)))
+        subst (AllBelow t) (sym e) (below_both t a (reverse b ++ c) (below_front t a (b ++ c) all)
+        (below_both t (reverse b) c (below_rev t b (below_front t b c rest)) (below_back t b c rest)))
 
 held_kept : (chart : Chart) (t n : ℕ) → ((k : ℕ) → get_or chart.first k 0 ≤ t) → KeepsTour chart n (Held t n)
 held_kept chart t n bound = record {

@@ -13,6 +13,6 @@ returns c =
       c.edge_at.ensures,
       c.spot_on-between.ensures,
       c.spot_on-last.ensures,
-      c.Spot-on.ensures,
+      c.spot_on-first.ensures,
       c.whole_of-whole.ensures,
     )

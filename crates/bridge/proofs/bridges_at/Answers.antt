@@ -41,7 +41,7 @@ returns-in-Fine c =
     let s = c.args in
     let check = c.bridge_check-check.ensures in
     let few = fine_sized _ _ _ (sym check ∙ c.in-Fine.is) in
-    rw (← check, c.in-Fine.is, ← c.half_of_lem.ensures)
+    rw (← check, c.in-Fine.is, ← c.half_of.ensures)
     (c.each_centre.ensures
-    ∙ ap (λ (ms : List Float). filled (bridges_at (points s.numbers.now) ms c.half_of_lem.result
+    ∙ ap (λ (ms : List Float). filled (bridges_at (points s.numbers.now) ms c.half_of.result
     s.centres.now)) (marks_lent _ _ few c.marks_of-marks.ensures))
