@@ -46,6 +46,13 @@ function read_log(name,    line, rest, parts, place, goal, n, i, goals) {
     close(name)
 }
 
+# the facts refused at the place of this one
+function others(fact,    place, it, all) {
+    place = fact; sub(/ .*/, "", place)
+    for (it in refused) if (index(it, place " ") == 1) all = all " " substr(it, length(place) + 2)
+    return all == "" ? " none" : all
+}
+
 # the function of a source file in which a text stands
 function holder(name, text,    line, found, last) {
     while ((getline line < name) > 0) {
@@ -94,7 +101,7 @@ FNR == 1 {
 /^(# )?refused: / {
     fact = $0; sub(/^(# )?refused: /, "", fact)
     if (open == 0) bad("a refusal of nothing")
-    if (!(fact in refused)) bad("not refused at " fact)
+    if (!(fact in refused)) bad("not refused at " fact "; there refused:" others(fact))
     if (fact in used) bad("another wrong program is refused at " fact)
     if (of_bodies && !index("/" fact, "/" own " ")) bad("it is in " own ", not in " fact)
     used[fact] = 1; told++; open = 0
