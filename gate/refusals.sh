@@ -1,5 +1,5 @@
 #!/bin/sh
-# refusals.sh [TOP]: holds what each wrong program says of its refusal against the logs that tries.py left in TOP/target.
+# refusals.sh [TOP]: holds what each wrong program says of its refusal against the facts that tries.py left in TOP/target.
 #
 # A sweep, crates/NAME/must-fail/*.edit, tries many wrong programs at once, and rt is content if anything in it is refused. So
 # each wrong program stands there under its name, `wrong: NAME`, and behind each of its replacements a line `refused: PLACE FACT`
@@ -13,36 +13,10 @@ cd "${1:-$(dirname "$0")/..}"
 awk '
 function bad(what) { print sweep ": " wrong ": " what; failed = 1 }
 
-# the facts that a log refuses, as refused[PLACE FACT]: an answer or a lemma that the prover does not take, and a goal that it
-# does not prove by itself, which it names above the function. A fact that only leans on another counts for nothing, nor does one
-# that is refused for naming what the edit took away
-function read_log(name,    line, rest, parts, place, goal, n, i, goals) {
+# the facts that are refused of a sweep, as refused[PLACE FACT]
+function read_facts(name,    line) {
     delete refused
-    goals = ""
-    while ((getline line < name) > 0) {
-        if (match(line, /^[^ ]*:[0-9]+:[0-9]+: error: `[^`]+`: /)) {
-            rest = substr(line, RSTART + RLENGTH)
-            if (rest ~ /was not admitted|that can be named from here|has no field|is not in scope/) continue
-            split(substr(line, 1, RLENGTH), parts, "`")
-            place = line
-            sub(/:[0-9]+:[0-9]+: error: .*/, "", place)
-            sub(/^\.\//, "", place); sub(/^proofs\//, "", place)
-            sub(/\/(Answers|Invariants|Proof)\.antt$/, "", place); sub(/\.antt$/, "", place)
-            refused[place " " parts[2]] = 1
-        } else if (match(line, /^note: src\/[^ ]*:[0-9]+:[0-9]+: it is not proved that .*\(`[^`]+`\)/)) {
-            goal = substr(line, 1, RLENGTH)
-            sub(/`\)$/, "", goal); sub(/^.*\(`/, "", goal)
-            goals = goals "`" goal "`"
-        } else if (match(line, /^fn [^ ]*: /)) {
-            place = substr(line, 4, RLENGTH - 5)
-            sub(/^[^:]*::/, "", place); gsub(/::/, "/", place)
-            if (line ~ /^fn [^ ]*: proved/) goals = ""
-            if (match(line, /`search` did not prove /)) goals = goals substr(line, RSTART + RLENGTH)
-            n = split(goals, parts, "`")
-            for (i = 2; i <= n; i += 2) refused[place " " parts[i]] = 1
-            goals = ""
-        }
-    }
+    while ((getline line < name) > 0) refused[line] = 1
     close(name)
 }
 
@@ -78,7 +52,7 @@ FNR == 1 {
     sweep = FILENAME
     crate = sweep; sub(/\/must-fail\/.*/, "", crate)
     label = sweep; sub(/.*\//, "", label); sub(/\.edit$/, "", label)
-    read_log("target/must-fail/" substr(crate, 8) "/" label ".log")
+    read_facts("target/must-fail/" substr(crate, 8) "/" label ".facts")
     delete used; delete changed
     of_bodies = (label !~ /^statements/)
 }

@@ -1,7 +1,7 @@
 #!/bin/sh
 # test.sh: refusals.sh must pass a sweep whose wrong programs are each refused at their own fact, and name what is wrong with
 # one that has a harmless replacement in it, one refused elsewhere, one told twice, a name that docs/PROMISES.md lacks, and so
-# on. The log is one that tries.py wrote of crates/block, cut short. And contracts.sh must pass a crate whose callable
+# on. The log that tries.py reads the facts from is one of crates/block, cut short. And contracts.sh must pass a crate whose callable
 # functions all have their entries, and name one that has none, one that cites another's contract, and a record not proved. And
 # limits.sh must name a header, a table and a longest card that have another number than the code.
 set -eu
@@ -24,7 +24,7 @@ pub fn is_checked(s: &[u8], at: usize) -> bool
     check_at(s, at) == u32_at(s, at + CHECK)
 }
 END
-cat >"$tree/target/must-fail/block/bodies_1.log" <<'END'
+"$here/tries.py" --facts >"$tree/target/must-fail/block/bodies_1.facts" <<'END'
 ./proofs/is_checked/Answers.antt:20:66: error: `returns`: as printed, the two types differ
 ./proofs/is_checked/Answers.antt:24:78: error: `spec`: `returns` was not admitted
 ./proofs/is_checked/Answers.antt:26:31: error: `bounds-at`: record `block.proofs.is_checked.Lts` has no field `if-at` (nearest: .if-s)
@@ -83,7 +83,7 @@ says 1 'check_read_early: first_byte_for_any changes byte_at too'
 echo "$whole" | sed '/^wrong: /d' >"$edit"
 says 1 ': a replacement that has no name'
 echo "$whole" >"$edit"
-rm "$tree/target/must-fail/block/bodies_1.log"
+rm "$tree/target/must-fail/block/bodies_1.facts"
 says 1 'first_byte_for_any: not refused at byte_at returns-then-at-s'
 
 # ---- contracts.sh
