@@ -1,5 +1,7 @@
 -- Each contract of the search's crates and of `bridge` comes to its definition. Assumes nothing.
 use mathlib.Core.Path.{refl}
+use Rattle.std.specs.Prelude.{◌≡◌, ℕ, List}
+use Rattle.start.specs.Code.{Written}
 use Rattle.contracts.proofs.Laws.{same, ◌&◌, told, lent, alike}
 use Rattle.contracts.specs.Search.{OfCandidates, OfBridge, OfTable, OfStart, OfImprove, OfInstance, OfSolve}
 use Rattle.contracts.specs.Search.{Claim}
@@ -31,14 +33,22 @@ of_table = record {
   fill_home_lem = lent (λ κs a x y p q. refl & same p q & refl) (λ κs a x. alike);
 }
 
+-- one tour, written to a room twice over, is told and left alike
+told_once : {tour room : List ℕ} {m n : ℕ} {after left : List ℕ} → Written tour room m after → Written tour room n left
+    → m ≡ n
+told_once p q = same p.counted q.counted
+
+left_once : {tour room : List ℕ} {m n : ℕ} {after left : List ℕ} → Written tour room m after → Written tour room n left
+    → after ≡ left
+left_once p q = same p.held q.held
+
 of_start : OfStart
 of_start = record {
   nn_constrained_lem = lent
-      (λ κs a x y p q. same p.counted q.counted & refl & refl & refl & refl & refl & same p.held q.held &
-      refl)
+      (λ κs a x y p q. told_once p q & refl & refl & refl & refl & refl & left_once p q & refl)
       (λ κs a x. alike);
   solve_nn_lem = lent
-      (λ κs a x y p q. same p.counted q.counted & refl & refl & refl & refl & same p.held q.held & refl)
+      (λ κs a x y p q. told_once p q & refl & refl & refl & refl & left_once p q & refl)
       (λ κs a x. alike);
 }
 
