@@ -17,4 +17,4 @@ returns-then-held-lt-CARD_BYTES c =
 pub returns : goal.returns
 returns c =
     let k = c.keep-n.ensures in
-    add_kept _ _ _ _ _ c.if-f.false c.if-held-lt-CARD_BYTES.false k.0 k.1
+    add_kept _ _ _ _ _ c.if-f.false c.if-held-lt-CARD_BYTES.false k.value k.held_after
