@@ -1,5 +1,5 @@
--- What a contract comes to by its clauses as they are written, in every model of the logic, with no reading of them: said
--- of the functions that take or make a reader, which once were proved by hand, without a reading. Assumes nothing.
+-- What a contract comes to by its clauses as they are written, in every model of the logic, with no reading of them:
+-- said of the functions that take or make a reader, which once were proved by hand, without a reading. Assumes nothing.
 use Rattle.std.specs.Prelude.{◌≡◌}
 use seplogic.Ra.Ura.{Ura}
 use base.Logic.{SProp, ent, sep, emp}
