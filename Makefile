@@ -1,7 +1,7 @@
 # The proofs are rt's; this file joins them with what is built around them in Rust and C.
-#   make               proves every crate and builds the programs
-#   make job           proves the program cutlist and prints the list of CARD
-#   make test          the gate (rt ci), then every test on what it proved and refused; the last line is the gate's own
+#   make               proves every crate
+#   make job           proves and builds the program cutlist, and prints the list of CARD
+#   make test          the gate (.ci/run): rt ci, then every test on what it proved and refused; the last line is rt's own
 #   make differential  the comparisons in full size          make bench   the speed figures
 #   make soak SECONDS=600 SEED=7   comparisons from a seed for a time
 #   make fuzz SECONDS=600 SEED=7   any bytes through the exports, between guard pages, led by what they reach
@@ -17,35 +17,31 @@ SECONDS ?= 600
 # `make test` compares the quick parts in full size, and so many percent of the others.
 PERCENT ?= 5
 
-# Four edits side by side are quickest on two processors: each waits now and then.
-export RT_JOBS ?= 4
-
 CARGO = cargo
 # Without the original the comparisons with it are left out, and say so.
 ORIGINAL = $(if $(wildcard $(U_NESTING_SRC)/gtsp.rs),--features original)
 TEST = $(CARGO) test --release --offline --quiet
 ORACLE = $(CARGO) run --release --offline --quiet --package oracle $(ORIGINAL) --bin
 
-.PHONY: all job test hosts no-cargo archives differential bench soak fuzz examples fmt
+.PHONY: all job test gated hosts no-cargo refusals archives differential bench soak fuzz examples fmt
 
 all:
-	rt check
+	rt all check
 
 job:
-	rt check cutlist
-	hosts/native/run.sh cutlist <$(CARD)
+	cd crates/cutlist && rt run <$(abspath $(CARD))
 
-# The gate starts from nothing and leaves what it proved, so that the archives below need no second proof. Its last line
-# is kept, once target/ is there again, and said again at the end; whatever fails before ends the run.
 test:
-	@log=$$(mktemp) && trap "rm -f $$log" EXIT && \
-	{ rt ci >$$log 2>&1 || { cat $$log; exit 1; }; } && cat $$log && tail -n 1 $$log >target/gate
+	@.ci/run
+
+# What .ci/run does once rt ci has passed. That proved every library just now, so the archives below are built over what it left.
+gated: export JAMBOLIVE_GATED = yes
+gated:
 	gate/test.sh
-	gate/refusals.sh
 	gate/contracts.sh
 	gate/limits.sh
 	@$(MAKE) --no-print-directory $(if $(shell command -v $(CARGO)),hosts,no-cargo)
-	@cat target/gate
+	@$(MAKE) --no-print-directory refusals
 
 # The oracle is built without the original too, so that it still can be where that is not at hand.
 hosts: archives
@@ -58,7 +54,13 @@ hosts: archives
 no-cargo:
 	@echo 'the tests from Rust and C are left out: cargo is not on this machine'
 
-# The archives that Rust and C link, for this machine.
+# Each wrong program at its own fact: the edits are tried once more, over what rt check keeps of each crate.
+refusals:
+	@log=$$(mktemp) && trap "rm -f $$log" EXIT && { rt all check >$$log 2>&1 || { cat $$log; exit 1; }; } && echo 'rt all check passed'
+	gate/tries.py
+	gate/refusals.sh
+
+# The archives that Rust and C link.
 archives:
 	hosts/native/archive.sh probe host
 
@@ -88,5 +90,5 @@ else
 endif
 
 fmt:
-	rt fmt
+	for crate in crates/*/; do (cd $$crate && rt fmt) || exit 1; done
 	$(CARGO) fmt --all

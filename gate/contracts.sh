@@ -1,27 +1,50 @@
 #!/bin/sh
-# contracts.sh [TOP]: every callable function of TOP/crates, `pub fn` or `pub extern "C" fn`, has its entry in a record of
-# crates/contracts/specs, and crates/contracts/proofs has the record. An entry cites all of one contract:
-# `Says F.ended F.Reads.Asked F.Reads.Learnt` or, of a function proved by hand, `SaysByHand F.ended (λ M. F.clauses)`, where
-# F is the function, in a crate that the file names by `use Rattle·CRATE.proofs as ALIAS`.
+# contracts.sh [TOP]: every callable function of TOP/crates, `pub fn`, has its entry in a record of crates/contracts/specs, and
+# crates/contracts/proofs has the record. An entry has the function's name, or that with _lem, and cites all of one contract:
+# `Says F.ended F.Reads.Asked F.Reads.Learnt` or, by the clauses themselves, `SaysByHand F.ended (λ M 𝓤. F.clauses)`, where F is
+# the function, in a crate that the file names by `use Rattle.CRATE.specs.contracts as ALIAS`, and for what the prover reads by
+# `use Rattle.CRATE.proofs as ALIAS`.
+# No crate can cite a static library, NAME_c: each function that it exports has instead, word for word, the parameters and the
+# contract of the function of that name in the library NAME, and none of NAME's is left out.
 set -eu
 
 cd "${1:-$(dirname "$0")/..}"
 awk '
 function bad(what) { print what; failed = 1 }
 
+# the function that a word names whose last part is the given one, as CRATE::NAME
+function named(word, last,    parts, n) {
+    n = length(word) - length(last)
+    if (n < 1 || substr(word, n + 1) != last) return ""
+    word = substr(word, 1, n)
+    n = split(word, parts, ".")
+    if (!(parts[1] in crate)) { bad(FILENAME ": no crate is named " parts[1]); return "" }
+    return crate[parts[1]] "::" parts[n]
+}
+
 # an entry of the record that is open: its name, and the words after it
-function end_entry(    f, parts, n) {
+function end_entry(    f, name, whole) {
+    whole = 0
     if (words[1] == "Says" || words[1] == "SaysByHand") {
-        f = words[2]
-        if (sub(/\.ended$/, "", f) && (words[1] == "Says" ? words[3] == f ".Reads.Asked" && words[4] == f ".Reads.Learnt" \
-            : words[3] words[4] words[5] == "(λM." f ".clauses)")) {
-            n = split(f, parts, ".")
-            if (!(parts[1] in crate)) bad(FILENAME ": no crate is named " parts[1])
-            else if (!(record in proved)) bad(FILENAME ": crates/contracts/proofs has no " record)
-            else said[crate[parts[1]] "::" parts[n]]++
-        } else bad(FILENAME ": " entry " does not cite one contract whole")
+        f = named(words[2], ".ended")
+        if (f != "" && words[1] == "Says")
+            whole = named(words[3], ".Reads.Asked") == f && named(words[4], ".Reads.Learnt") == f
+        else if (f != "")
+            whole = words[3] words[4] words[5] == "(λM𝓤." && sub(/\)$/, "", words[6]) && named(words[6], ".clauses") == f
+        name = f; sub(/^.*::/, "", name)
+        if (!whole) bad(FILENAME ": " entry " does not cite one contract whole")
+        else if (entry != name && entry != name "_lem") bad(FILENAME ": " entry " is the entry of " name)
+        else if (!(record in proved)) bad(FILENAME ": crates/contracts/proofs has no " record)
+        else said[f]++
     }
     count = 0; delete words
+}
+
+# the head of a function, from its parameters on, without what only lays it out
+function end_head() {
+    gsub(/[ \t]/, "", head); gsub(/,\)/, ")", head)
+    heads[own "::" name] = head
+    open = 0
 }
 
 FILENAME ~ /^crates\/contracts\/proofs\// {
@@ -32,7 +55,7 @@ FILENAME ~ /^crates\/contracts\/specs\// {
     if (FNR == 1) { end_entry(); delete crate; record = "" }
     if ($1 == "use" && $3 == "as") {
         name = $2
-        if (sub(/^Rattle·/, "", name) && sub(/\.proofs$/, "", name)) crate[$4] = name
+        if (sub(/^Rattle\./, "", name) && sub(/\.(proofs|specs\.contracts)$/, "", name)) crate[$4] = name
     }
     if ($1 == "pub" && $2 == "record") { end_entry(); record = $3; next }
     if ($0 !~ /^  /) { end_entry(); next }
@@ -41,14 +64,34 @@ FILENAME ~ /^crates\/contracts\/specs\// {
     for (i = first; i <= NF; i++) words[++count] = $i
     next
 }
-FNR == 1 { end_entry() }
+FNR == 1 { end_entry(); open = 0 }
 match($0, /^ *pub (extern "C" )?fn [a-z_0-9]+/) {
     name = substr($0, RSTART, RLENGTH); sub(/^.* /, "", name)
     own = FILENAME; sub(/^crates\//, "", own); sub(/\/.*/, "", own)
-    callable++
-    if (++seen[own "::" name] > said[own "::" name]) bad(own "::" name ": no entry in crates/contracts/specs")
+    open = 1; head = substr($0, RSTART + RLENGTH)
+    if (own ~ /_c$/) exported[own "::" name] = 1
+    else {
+        callable++
+        if (++seen[own "::" name] > said[own "::" name]) bad(own "::" name ": no entry in crates/contracts/specs")
+    }
+    if (sub(/ \{$/, "", head)) end_head()
+    next
 }
+open && /^ *\{$/ { end_head() }
+open { head = head $0 }
 END {
-    if (!failed) print callable " callable functions, the contract of each cited whole in crates/contracts"
+    for (f in exported) {
+        library = f; sub(/_c::/, "::", library)
+        own = f; sub(/::.*/, "", own); static[own] = 1
+        if (heads[f] != heads[library]) bad(f ": not the parameters and the contract of " library)
+        exports++
+    }
+    for (f in seen) {
+        own = f; sub(/::.*/, "", own)
+        name = f; sub(/^.*::/, "", name)
+        if ((own "_c") in static && !((own "_c::" name) in exported)) bad(f ": no export in " own "_c")
+    }
+    if (!failed) print callable " callable functions, the contract of each cited whole in crates/contracts" \
+        (exports ? "; " exports " exports, each with the contract of its library" : "")
     exit failed
 }' crates/contracts/proofs/*.antt crates/contracts/specs/*.antt crates/*/src/*.rt

@@ -1,40 +1,30 @@
 #!/bin/sh
-# refusals.sh [TOP]: holds what each wrong program says of its refusal against the logs that `rt ci` left in TOP/target.
+# refusals.sh [TOP]: holds what each wrong program says of its refusal against the facts that tries.py left in TOP/target.
 #
 # A sweep, crates/NAME/must-fail/*.edit, tries many wrong programs at once, and rt is content if anything in it is refused. So
 # each wrong program stands there under its name, `wrong: NAME`, and behind each of its replacements a line `refused: PLACE FACT`
-# says which fact of which function or file of proofs the prover must refuse. It fails unless every fact named is refused, no
-# two of a sweep name the same one, and docs/PROMISES.md has the name. In a sweep of bodies each replacement is refused in the
-# function that it changes, and no function is changed by two wrong programs; replacements share a line only where they make
-# one change of one function or statement.
+# says which fact of which function or file of proofs the prover must refuse. (rt reads neither line; each may begin with `# `.)
+# It fails unless every fact named is refused, no two of a sweep name the same one, and docs/PROMISES.md has the name. In a sweep
+# of bodies each replacement is refused in the function that it changes, and no function is changed by two wrong programs;
+# replacements share a line only where they make one change of one function or statement.
 set -eu
 
 cd "${1:-$(dirname "$0")/..}"
 awk '
 function bad(what) { print sweep ": " wrong ": " what; failed = 1 }
 
-# the facts that a log refuses, as refused[PLACE FACT]; one that only leans on another counts for nothing
-function read_log(name,    line, parts, place, rest) {
+# the facts that are refused of a sweep, as refused[PLACE FACT]
+function read_facts(name,    line) {
     delete refused
-    while ((getline line < name) > 0) {
-        if (match(line, /^[^ ]*:[0-9]+:[0-9]+: error: `[^`]+`: /)) {
-            rest = substr(line, RSTART + RLENGTH, 300)
-            if (rest ~ /was not admitted/ || rest ~ /that can be named from here/) continue
-            split(substr(line, 1, RLENGTH), parts, "`")
-            place = line
-            sub(/:[0-9]+:[0-9]+: error: .*/, "", place)
-            sub(/^.*\/must-fail\/[^\/]*\/[^\/]*\//, "", place)
-            sub(/^proofs\//, "", place); sub(/\/Proof\.antt$/, "", place); sub(/\.antt$/, "", place)
-            refused[place " " parts[2]] = 1
-        } else if (line ~ /^fn [^ ]*: no proof: .*`search` does not close /) {
-            place = line
-            sub(/^fn /, "", place); sub(/: no proof: .*/, "", place); sub(/^.*::/, "", place)
-            sub(/^.*`search` does not close /, "", line)
-            n = split(line, parts, "`")
-            for (i = 2; i <= n; i += 2) refused[place " " parts[i]] = 1
-        }
-    }
+    while ((getline line < name) > 0) refused[line] = 1
     close(name)
+}
+
+# the facts refused at the place of this one
+function others(fact,    place, it, all) {
+    place = fact; sub(/ .*/, "", place)
+    for (it in refused) if (index(it, place " ") == 1) all = all " " substr(it, length(place) + 2)
+    return all == "" ? " none" : all
 }
 
 # the function of a source file in which a text stands
@@ -62,13 +52,13 @@ FNR == 1 {
     sweep = FILENAME
     crate = sweep; sub(/\/must-fail\/.*/, "", crate)
     label = sweep; sub(/.*\//, "", label); sub(/\.edit$/, "", label)
-    read_log("target/must-fail/" substr(crate, 8) "/" label "/.log")
+    read_facts("target/must-fail/" substr(crate, 8) "/" label ".facts")
     delete used; delete changed
     of_bodies = (label !~ /^statements/)
 }
-/^wrong: / {
+/^(# )?wrong: / {
     end_wrong()
-    wrong = substr($0, 8); wrongs++; told = 0
+    wrong = $0; sub(/^(# )?wrong: /, "", wrong); wrongs++; told = 0
     if (!(wrong in promised)) bad("docs/PROMISES.md does not name it")
 }
 /^file: / { file = substr($0, 7) }
@@ -82,12 +72,12 @@ FNR == 1 {
     }
     open++
 }
-/^refused: / {
-    fact = substr($0, 10)
+/^(# )?refused: / {
+    fact = $0; sub(/^(# )?refused: /, "", fact)
     if (open == 0) bad("a refusal of nothing")
-    if (!(fact in refused)) bad("not refused at " fact)
+    if (!(fact in refused)) bad("not refused at " fact "; there refused:" others(fact))
     if (fact in used) bad("another wrong program is refused at " fact)
-    if (of_bodies && index(fact, own " ") != 1) bad("it is in " own ", not in " fact)
+    if (of_bodies && !index("/" fact, "/" own " ")) bad("it is in " own ", not in " fact)
     used[fact] = 1; told++; open = 0
 }
 END {

@@ -1,7 +1,7 @@
 #!/bin/sh
 # test.sh: refusals.sh must pass a sweep whose wrong programs are each refused at their own fact, and name what is wrong with
 # one that has a harmless replacement in it, one refused elsewhere, one told twice, a name that docs/PROMISES.md lacks, and so
-# on. The log is one that `rt must-fail` wrote of crates/block, cut short. And contracts.sh must pass a crate whose callable
+# on. The log that tries.py reads the facts from is one of crates/block, cut short. And contracts.sh must pass a crate whose callable
 # functions all have their entries, and name one that has none, one that cites another's contract, and a record not proved. And
 # limits.sh must name a header, a table and a longest card that have another number than the code.
 set -eu
@@ -9,7 +9,7 @@ set -eu
 here=$(cd "$(dirname "$0")" && pwd -P)
 tree=$(mktemp -d)
 trap 'rm -rf "$tree"' EXIT
-mkdir -p "$tree/docs" "$tree/crates/block/src" "$tree/crates/block/must-fail" "$tree/target/must-fail/block/bodies_1"
+mkdir -p "$tree/docs" "$tree/crates/block/src" "$tree/crates/block/must-fail" "$tree/target/must-fail/block"
 cat >"$tree/docs/PROMISES.md" <<'END'
 | byte_at | first_byte_for_any (`returns`) | is_checked | check_read_early (`returns-2`) | harmless |
 END
@@ -24,10 +24,15 @@ pub fn is_checked(s: &[u8], at: usize) -> bool
     check_at(s, at) == u32_at(s, at + CHECK)
 }
 END
-cat >"$tree/target/must-fail/block/bodies_1/.log" <<'END'
-/x/target/must-fail/block/bodies_1/proofs/is_checked/Proof.antt:20:66: error: `returns-2`: the two types differ
-/x/target/must-fail/block/bodies_1/proofs/is_checked/Proof.antt:24:78: error: `is-checked-spec`: `returns-2` was not admitted
-fn block::byte_at: no proof: expected `byte-at-spec`; `search` does not close `returns`
+"$here/tries.py" --facts >"$tree/target/must-fail/block/bodies_1.facts" <<'END'
+./proofs/is_checked/Answers.antt:20:66: error: `returns`: as printed, the two types differ
+./proofs/is_checked/Answers.antt:24:78: error: `spec`: `returns` was not admitted
+./proofs/is_checked/Answers.antt:26:31: error: `bounds-at`: record `block.proofs.is_checked.Lts` has no field `if-at` (nearest: .if-s)
+note: src/lib.rt:3:9: it is not proved that what the function ensures holds when it returns (`returns-then-at-s`); `search` gave up
+fn block::byte_at: not proved
+note: src/lib.rt:9:9: it is not proved that the index is below the length (`bounds-s-at`); the facts known there allow values
+fn block::wide: no proof: expected answers in ./proofs/wide/Answers.antt; `search` did not prove `bounds-s-at`
+fn block::half: proved
 END
 
 sweep() { # NAME-OF-THE-SECOND NEW-TEXT REFUSED: a sweep of two wrong programs
@@ -36,7 +41,7 @@ wrong: first_byte_for_any
 file: src/lib.rt
 old:         return s[at];
 new:         return s[0];
-refused: byte_at returns
+refused: byte_at returns-then-at-s
 
 wrong: $1
 old:     check_at(s, at) == u32_at(s, at + CHECK)
@@ -51,20 +56,24 @@ says() { # STATUS TEXT: how the script ends on the tree, and what is in the line
     case $status:$said in "$1:"*"$2"*) ;; *) echo "gate/test.sh: due was $1 and «$2», got $status and «$said»"; exit 1 ;; esac
 }
 
-sweep check_read_early '    check_at(s, at) == u32_at(s, at + 504)' 'is_checked returns-2'
+sweep check_read_early '    check_at(s, at) == u32_at(s, at + 504)' 'is_checked returns'
 says 0 '2 wrong programs in 1 sweeps, each refused at its own fact'
 sweep harmless '    u32_at(s, at + CHECK) == check_at(s, at)' 'is_checked returns-3'
 says 1 'harmless: not refused at is_checked returns-3'
-sweep harmless '    u32_at(s, at + CHECK) == check_at(s, at)' 'is_checked is-checked-spec'
-says 1 'harmless: not refused at is_checked is-checked-spec'
-sweep harmless '    u32_at(s, at + CHECK) == check_at(s, at)' 'byte_at returns'
-says 1 'harmless: another wrong program is refused at byte_at returns'
-says 1 'harmless: it is in is_checked, not in byte_at returns'
-sweep unheard_of '    check_at(s, at) == u32_at(s, at + 504)' 'is_checked returns-2'
+sweep harmless '    u32_at(s, at + CHECK) == check_at(s, at)' 'is_checked spec'
+says 1 'harmless: not refused at is_checked spec'
+sweep harmless '    u32_at(s, at + CHECK) == check_at(s, at)' 'is_checked bounds-at'
+says 1 'harmless: not refused at is_checked bounds-at'
+sweep harmless '    u32_at(s, at + CHECK) == check_at(s, at)' 'is_checked returns-then-at-s'
+says 1 'harmless: not refused at is_checked returns-then-at-s'
+sweep harmless '    u32_at(s, at + CHECK) == check_at(s, at)' 'byte_at returns-then-at-s'
+says 1 'harmless: another wrong program is refused at byte_at returns-then-at-s'
+says 1 'harmless: it is in is_checked, not in byte_at returns-then-at-s'
+sweep unheard_of '    check_at(s, at) == u32_at(s, at + 504)' 'is_checked returns'
 says 1 'unheard_of: docs/PROMISES.md does not name it'
 
 # one refusal for two functions, one function changed twice, a replacement without a name, and no log
-sweep check_read_early '    check_at(s, at) == u32_at(s, at + 504)' 'is_checked returns-2'
+sweep check_read_early '    check_at(s, at) == u32_at(s, at + 504)' 'is_checked returns'
 edit=$tree/crates/block/must-fail/bodies_1.edit
 whole=$(cat "$edit")
 echo "$whole" | sed '/^refused: byte_at/d; /^wrong: check_read_early/d' >"$edit"
@@ -74,49 +83,84 @@ says 1 'check_read_early: first_byte_for_any changes byte_at too'
 echo "$whole" | sed '/^wrong: /d' >"$edit"
 says 1 ': a replacement that has no name'
 echo "$whole" >"$edit"
-rm "$tree/target/must-fail/block/bodies_1/.log"
-says 1 'first_byte_for_any: not refused at byte_at returns'
+rm "$tree/target/must-fail/block/bodies_1.facts"
+says 1 'first_byte_for_any: not refused at byte_at returns-then-at-s'
 
 # ---- contracts.sh
 script=contracts.sh
-mkdir -p "$tree/crates/contracts/specs" "$tree/crates/contracts/proofs" "$tree/crates/contracts/src"
+mkdir -p "$tree/crates/contracts/specs" "$tree/crates/contracts/proofs" "$tree/crates/contracts/src" "$tree/crates/block_c/src"
 cat >"$tree/crates/block/src/lib.rt" <<'END'
 pub fn byte_at(s: &[u8], at: usize) -> u8
+    ensures { result ≡ byte_at s.now at }
+{
 pub(crate) fn inner(s: &[u8]) -> u8
 fn private(s: &[u8]) -> u8
-    pub extern "C" fn door(
-pub fn next<'a>(r: Reader<'a>) -> u8
+    pub fn door(s: &[u8]) -> u8
+    ensures { result ≡ door_of s.now }
+{
+pub fn next<'a>(r: Reader<'a>) -> u8 {
 END
 echo '// no code' >"$tree/crates/contracts/src/lib.rt"
 entries() { # ENTRY-OF-DOOR: the statements, with this line for the second
     cat >"$tree/crates/contracts/specs/Words.antt" <<END
-use Rattle·block.proofs as Block
+use Rattle.block.specs.contracts as Block
+use Rattle.block.proofs as Proof
 
 pub record OfBlock : Type 0 where
-  pub byte-at : Says Block.byte_at.ended Block.byte_at.Reads.Asked
-      Block.byte_at.Reads.Learnt
-      (λ _ s at r. r ≡ byteAt (now s) at)
+  pub byte_at_lem : Says Block.byte_at.ended Proof.byte_at.Reads.Asked
+      Proof.byte_at.Reads.Learnt
+      (λ _ s at r. r ≡ byte_at s.now at)
 $1
-  pub next : SaysByHand Block.next.ended (λ M. Block.next.clauses) (λ _ r f. f ≡ fieldAt (now (r .src)) (r .at))
+  pub next : SaysByHand Proof.next.ended (λ M 𝓤. Block.next.clauses) (λ _ r f. f ≡ field_at r.src.now r.at)
 
 abbrev pub Claim : Type 0
 Claim = OfBlock
 END
 }
-door='  pub door : Says Block.door.ended Block.door.Reads.Asked Block.door.Reads.Learnt (λ _ s r. r ≡ doorOf (now s))'
-echo 'of-block : OfBlock' >"$tree/crates/contracts/proofs/Words.antt"
+door='  pub door : Says Block.door.ended Proof.door.Reads.Asked Proof.door.Reads.Learnt (λ _ s r. r ≡ door_of s.now)'
+echo 'of_block : OfBlock' >"$tree/crates/contracts/proofs/Words.antt"
 entries "$door"
 says 0 '3 callable functions, the contract of each cited whole in crates/contracts'
 entries ''
 says 1 'block::door: no entry in crates/contracts/specs'
-entries "$(echo "$door" | sed 's/Block.door.Reads.Learnt/Block.byte_at.Reads.Learnt/')"
+entries "$(echo "$door" | sed 's/Proof.door.Reads.Learnt/Proof.byte_at.Reads.Learnt/')"
 says 1 'door does not cite one contract whole'
 says 1 'block::door: no entry in crates/contracts/specs'
+entries "$(echo "$door" | sed 's/pub door/pub gate/')"
+says 1 'gate is the entry of door'
 entries "$(echo "$door" | sed 's/Block/Card/g')"
 says 1 'no crate is named Card'
+entries "$door" && sed -i 's/λ M 𝓤. Block.next/λ M 𝓤. Block.door/' "$tree/crates/contracts/specs/Words.antt"
+says 1 'next does not cite one contract whole'
 entries "$door"
-echo 'of-card : OfCard' >"$tree/crates/contracts/proofs/Words.antt"
+echo 'of_card : OfCard' >"$tree/crates/contracts/proofs/Words.antt"
 says 1 'crates/contracts/proofs has no OfBlock'
+echo 'of_block : OfBlock' >"$tree/crates/contracts/proofs/Words.antt"
+exports() { # CONTRACT-OF-DOOR: the static library, with this contract for its second export
+    cat >"$tree/crates/block_c/src/lib.rt" <<END
+pub extern "C" fn byte_at(
+    s: &[u8],
+    at: usize,
+) -> u8
+    ensures { result ≡ byte_at s.now at }
+{
+    block::byte_at(s, at)
+}
+pub extern "C" fn door(s: &[u8]) -> u8
+    $1
+{
+pub extern "C" fn next<'a>(r: Reader<'a>) -> u8 {
+END
+}
+exports 'ensures { result ≡ door_of s.now }'
+says 0 '3 callable functions, the contract of each cited whole in crates/contracts; 3 exports, each with the contract of its library'
+exports 'ensures { result ≤ 255 }'
+says 1 'block_c::door: not the parameters and the contract of block::door'
+exports 'ensures { result ≡ door_of s.now }' && sed -i 's/at: usize/at: u32/' "$tree/crates/block_c/src/lib.rt"
+says 1 'block_c::byte_at: not the parameters and the contract of block::byte_at'
+exports 'ensures { result ≡ door_of s.now }' && sed -i '/fn next/d' "$tree/crates/block_c/src/lib.rt"
+says 1 'block::next: no export in block_c'
+rm -r "$tree/crates/block_c"
 
 # ---- limits.sh
 script=limits.sh

@@ -66,9 +66,10 @@ echo 'C host: the bridges of a contour, and a centre that is refused'
 "$feed" <crates/replay/data/cards
 "$stack" <crates/replay/data/cards
 "$roots" <crates/replay/data/cards
-if [ -x target/bin/cutlist ]; then
-    prints hosts/native/run.sh cutlist
+cutlist=crates/cutlist/out/cutlist
+if [ -x $cutlist ]; then
+    prints $cutlist
     echo "cutlist: $cards cards print their lists, no bytes and a million are refused"
 else
-    echo 'cutlist: left out, target/bin/cutlist is not there (rt check cutlist builds it)'
+    echo "cutlist: left out, $cutlist is not there (rt ci and make job build it)"
 fi

@@ -28,8 +28,8 @@ of_fields_lem = record {
   part = told _ (λ κs a u v. refl) (λ κs a x. alike);
   copy = told _ (λ κs a u v. refl) (λ κs a x. alike);
   vertex = told _ (λ κs a u v. refl) (λ κs a x. alike);
-  before-id = told _ (λ κs a u v. refl) (λ κs a x. alike);
-  before-tag = told _ (λ κs a u v. refl) (λ κs a x. alike);
+  before_id = told _ (λ κs a u v. refl) (λ κs a x. alike);
+  before_tag = told _ (λ κs a u v. refl) (λ κs a x. alike);
   after_id_lem = told _ (λ κs a u v. refl) (λ κs a x. alike);
   after_tag = told _ (λ κs a u v. refl) (λ κs a x. alike);
 }
@@ -51,6 +51,10 @@ of_reader = record {
   contour_head_lem = told _ (λ κs a u v. refl) (λ κs a x. alike);
   read_contour_lem = told _ (λ κs a u v. refl) (λ κs a x. alike);
   read_pair_lem = told _ (λ κs a u v. refl) (λ κs a x. alike);
+  new = told _ (λ κs a u v. refl) (λ κs a x. alike);
+  moved = told _ (λ κs a u v. refl) (λ κs a x. alike);
+  next = told _ (λ κs a u v. refl) (λ κs a x. alike);
+  left = told _ (λ κs a u v. refl) (λ κs a x. alike);
 }
 
 of_reader_by_hand : OfReaderByHand

@@ -40,7 +40,7 @@ module _ {T : Ended} {D : Definition T} where
       → Says T (λ κs a. Unit {0}) L D
   lent one says = record { asks_nothing = λ κs a. tt; one_answer = one; says = says }
 
-  -- as `told`, of a function that is proved by hand
+  -- as `told`, of the clauses themselves
   pub by_hand : (f : (κs : Lives T) → Handed T κs → Res T.signature κs)
       → ((κs : Lives T) (a : Handed T κs) (u v : Lasts T κs a) → u ≡ v)
       → ((κs : Lives T) (a : Handed T κs) (x : Back T κs a) → (x.0 ≡ f κs a) ↔ Holds T D κs a x)

@@ -24,16 +24,16 @@ of_points = record {
 of_grid : OfGrid
 of_grid = record {
   moved = told _ (λ κs a u v. refl) (λ κs a x. alike);
-  moved-point = told _ (λ κs a u v. refl) (λ κs a x. alike);
+  moved_point_lem = told _ (λ κs a u v. refl) (λ κs a x. alike);
 }
 
 of_cost : OfCost
 of_cost = record {
-  point-distance_sq = told _ (λ κs a u v. refl) (λ κs a x. alike);
-  point-distance = told _ (λ κs a u v. refl) (λ κs a x. alike);
+  point_distance_sq = told _ (λ κs a u v. refl) (λ κs a x. alike);
+  point_distance = told _ (λ κs a u v. refl) (λ κs a x. alike);
   clamp = told _ (λ κs a u v. refl) (λ κs a x. alike);
   closest_to_lem = told _ (λ κs a u v. refl) (λ κs a x. alike);
-  closest_point-on_polygon = told _ (λ κs a u v. refl) (λ κs a x. alike);
+  closest_point_on_polygon = told _ (λ κs a u v. refl) (λ κs a x. alike);
   rapid_distance_lem = told _ (λ κs a u v. refl) (λ κs a x. alike);
   total_rapid_distance_lem = told _ (λ κs a u v. refl) (λ κs a x. alike);
   sequence_cost_lem = told _ (λ κs a u v. refl) (λ κs a x. alike);

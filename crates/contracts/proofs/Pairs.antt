@@ -5,13 +5,13 @@ use Rattle.contracts.specs.Pairs.{OfClosure, OfKeep, OfHierarchy, Claim}
 
 of_closure : OfClosure
 of_closure = record {
-  first-on_cycle = told _ (λ κs a u v. refl) (λ κs a x. alike);
-  first-on_cycle_wide = told _ (λ κs a u v. refl) (λ κs a x. alike);
+  first_on_cycle_lem = told _ (λ κs a u v. refl) (λ κs a x. alike);
+  first_on_cycle_wide = told _ (λ κs a u v. refl) (λ κs a x. alike);
 }
 
 of_keep : OfKeep
 of_keep = record {
-  kept-at = told _ (λ κs a u v. refl) (λ κs a x. alike);
+  kept_at_lem = told _ (λ κs a u v. refl) (λ κs a x. alike);
   keeps_pairs_lem = told _ (λ κs a u v. refl) (λ κs a x. alike);
   is_ready_lem = told _ (λ κs a u v. refl) (λ κs a x. alike);
 }

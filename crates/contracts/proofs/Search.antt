@@ -1,5 +1,7 @@
 -- Each contract of the search's crates and of `bridge` comes to its definition. Assumes nothing.
 use mathlib.Core.Path.{refl}
+use Rattle.std.specs.Prelude.{◌≡◌, ℕ, List}
+use Rattle.start.specs.Code.{Written}
 use Rattle.contracts.proofs.Laws.{same, ◌&◌, told, lent, alike}
 use Rattle.contracts.specs.Search.{OfCandidates, OfBridge, OfTable, OfStart, OfImprove, OfInstance, OfSolve}
 use Rattle.contracts.specs.Search.{Claim}
@@ -11,7 +13,7 @@ of_candidates = record {
   perimeter = told _ (λ κs a u v. refl) (λ κs a x. alike);
   on_the_way_lem = told _ (λ κs a u v. refl) (λ κs a x. alike);
   last_spot_lem = told _ (λ κs a u v. refl) (λ κs a x. alike);
-  spot-at = told _ (λ κs a u v. refl) (λ κs a x. alike);
+  spot_at_lem = told _ (λ κs a u v. refl) (λ κs a x. alike);
   candidates_of_lem = told _ (λ κs a u v. refl) (λ κs a x. alike);
   contour_check_lem = told _ (λ κs a u v. refl) (λ κs a x. alike);
   contour_candidates_lem = told _ (λ κs a u v. refl) (λ κs a x. alike);
@@ -24,21 +26,29 @@ of_table : OfTable
 of_table = record {
   float_at = told _ (λ κs a u v. refl) (λ κs a x. alike);
   byte_at_lem = told _ (λ κs a u v. refl) (λ κs a x. alike);
-  home-at = told _ (λ κs a u v. refl) (λ κs a x. alike);
-  distance-at = told _ (λ κs a u v. refl) (λ κs a x. alike);
+  home_at_lem = told _ (λ κs a u v. refl) (λ κs a x. alike);
+  distance_at_lem = told _ (λ κs a u v. refl) (λ κs a x. alike);
   evaluate_solution_lem = told _ (λ κs a u v. refl) (λ κs a x. alike);
   fill_table_lem = lent (λ κs a x y p q. refl & same p q & refl) (λ κs a x. alike);
   fill_home_lem = lent (λ κs a x y p q. refl & same p q & refl) (λ κs a x. alike);
 }
 
+-- one tour, written to a room twice over, is told and left alike
+told_once : {tour room : List ℕ} {m n : ℕ} {after left : List ℕ} → Written tour room m after → Written tour room n left
+    → m ≡ n
+told_once p q = same p.counted q.counted
+
+left_once : {tour room : List ℕ} {m n : ℕ} {after left : List ℕ} → Written tour room m after → Written tour room n left
+    → after ≡ left
+left_once p q = same p.held q.held
+
 of_start : OfStart
 of_start = record {
   nn_constrained_lem = lent
-      (λ κs a x y p q. same p.counted q.counted & refl & refl & refl & refl & refl & same p.held q.held &
-      refl)
+      (λ κs a x y p q. told_once p q & refl & refl & refl & refl & refl & left_once p q & refl)
       (λ κs a x. alike);
   solve_nn_lem = lent
-      (λ κs a x y p q. same p.counted q.counted & refl & refl & refl & refl & same p.held q.held & refl)
+      (λ κs a x y p q. told_once p q & refl & refl & refl & refl & left_once p q & refl)
       (λ κs a x. alike);
 }
 

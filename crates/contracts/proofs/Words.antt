@@ -17,19 +17,21 @@ of_block = record {
   u64_at_lem = told _ (λ κs a u v. refl) (λ κs a x. alike);
   f64_at_lem = told _ (λ κs a u v. refl) (λ κs a x. alike);
   starts_as_lem = told _ (λ κs a u v. refl) (λ κs a x. alike);
-  check-at = told _ (λ κs a u v. refl) (λ κs a x. alike);
+  check_at_lem = told _ (λ κs a u v. refl) (λ κs a x. alike);
   is_checked_lem = told _ (λ κs a u v. refl) (λ κs a x. alike);
   zeros_at_lem = told _ (λ κs a u v. refl) (λ κs a x. alike);
 }
 
 of_text : OfText
 of_text = record {
-  put_byte_lem = lent (λ κs a x y p q. ap (λ z. z.at) (same p q) & ap (λ z. z.held) (same p q) & refl) (λ κs a x. alike);
+  put_byte_lem = lent (λ κs a x y p q. ap (λ z. z.at) (same p q) & ap (λ z. z.held) (same p q) & refl)
+      (λ κs a x. alike);
   put = lent (λ κs a x y p q. ap (λ z. z.at) (same p q) & ap (λ z. z.held) (same p q) & refl) (λ κs a x. alike);
   put_decimal_lem = lent (λ κs a x y p q. ap (λ z. z.at) (same p q) & ap (λ z. z.held) (same p q) & refl)
       (λ κs a x. alike);
-  put_hex_lem = lent (λ κs a x y p q. ap (λ z. z.at) (same p q) & ap (λ z. z.held) (same p q) & refl) (λ κs a x. alike);
-  put-number = lent (λ κs a x y p q. ap (λ z. z.at) (same p q) & ap (λ z. z.held) (same p q) & refl)
+  put_hex_lem = lent (λ κs a x y p q. ap (λ z. z.at) (same p q) & ap (λ z. z.held) (same p q) & refl)
+      (λ κs a x. alike);
+  put_number = lent (λ κs a x y p q. ap (λ z. z.at) (same p q) & ap (λ z. z.held) (same p q) & refl)
       (λ κs a x. alike);
 }
 

@@ -1,5 +1,5 @@
--- What a contract comes to, of a function that is proved by hand: the prover makes no reading of its contract, so the
--- statements take the clauses as they are written, in every model of the logic. Assumes nothing.
+-- What a contract comes to by its clauses as they are written, in every model of the logic, with no reading of them:
+-- said of the functions that take or make a reader, which once were proved by hand, without a reading. Assumes nothing.
 use Rattle.std.specs.Prelude.{◌≡◌}
 use seplogic.Ra.Ura.{Ura}
 use base.Logic.{SProp, ent, sep, emp}
@@ -18,7 +18,7 @@ module _ (T : Ended) where
 
   module _ (c : AsWritten) (w : World) (κs : Lives T) (a : Handed T κs) where
     abbrev pub clauses : ClausesAt w.𝓤 T κs
-    clauses = c w.M w.𝓤 w.𝓛 w.𝓜.mem w.𝓡.run κs a
+    clauses = c w.M w.𝓤 w.𝓛 w.𝓜.mem w.𝓡.returns κs a
 
     -- what came back is as the contract says
     abbrev pub Ensured : clauses.ghost → Back T κs a → SProp w.𝓤

@@ -11,102 +11,131 @@ use Rattle.card.specs.Names.{named_of}
 use Rattle.card.specs.Verdict.{check_of}
 use Rattle.reader.specs.Fields.{field_at}
 use Rattle.reader.specs.OnCard.{head_of, contour_head, contour_read, pair_read}
-use Rattle.fields.proofs as Fields
-use Rattle.card.proofs as Card
-use Rattle.reader.proofs as Reader
+use Rattle.fields.specs.contracts as Fields
+use Rattle.fields.proofs as FieldsProofs
+use Rattle.card.specs.contracts as Card
+use Rattle.card.proofs as CardProofs
+use Rattle.reader.specs.contracts as Reader
+use Rattle.reader.proofs as ReaderProofs
 use Rattle.contracts.specs.Contract.{Says}
 use Rattle.contracts.specs.ByHand.{SaysByHand}
 
 -- fields
 pub record OfFields : Type 0 where
-  pub version : Says Fields.version.ended Fields.version.Reads.Asked Fields.version.Reads.Learnt
+  pub version : Says Fields.version.ended FieldsProofs.version.Reads.Asked FieldsProofs.version.Reads.Learnt
       (λ _ card r. r ≡ version_of card.now)
-  pub is_two_lem : Says Fields.is_two.ended Fields.is_two.Reads.Asked Fields.is_two.Reads.Learnt
+  pub is_two_lem : Says Fields.is_two.ended FieldsProofs.is_two.Reads.Asked FieldsProofs.is_two.Reads.Learnt
       (λ _ card r. r ≡ is_two card.now)
-  pub job : Says Fields.job.ended Fields.job.Reads.Asked Fields.job.Reads.Learnt (λ _ card r. r ≡ job_of card.now)
-  pub contours : Says Fields.contours.ended Fields.contours.Reads.Asked Fields.contours.Reads.Learnt
+  pub job : Says Fields.job.ended FieldsProofs.job.Reads.Asked FieldsProofs.job.Reads.Learnt
+      (λ _ card r. r ≡ job_of card.now)
+  pub contours : Says Fields.contours.ended FieldsProofs.contours.Reads.Asked FieldsProofs.contours.Reads.Learnt
       (λ _ card r. r ≡ contours_of card.now)
-  pub pairs : Says Fields.pairs.ended Fields.pairs.Reads.Asked Fields.pairs.Reads.Learnt
+  pub pairs : Says Fields.pairs.ended FieldsProofs.pairs.Reads.Asked FieldsProofs.pairs.Reads.Learnt
       (λ _ card r. r ≡ pairs_of card.now)
-  pub per_contour_lem : Says Fields.per_contour.ended Fields.per_contour.Reads.Asked Fields.per_contour.Reads.Learnt
+  pub per_contour_lem : Says Fields.per_contour.ended FieldsProofs.per_contour.Reads.Asked
+      FieldsProofs.per_contour.Reads.Learnt
       (λ _ card r. r ≡ per_contour_of card.now)
-  pub passes : Says Fields.passes.ended Fields.passes.Reads.Asked Fields.passes.Reads.Learnt
+  pub passes : Says Fields.passes.ended FieldsProofs.passes.Reads.Asked FieldsProofs.passes.Reads.Learnt
       (λ _ card r. r ≡ passes_of card.now)
-  pub move_limit_lem : Says Fields.move_limit.ended Fields.move_limit.Reads.Asked Fields.move_limit.Reads.Learnt
+  pub move_limit_lem : Says Fields.move_limit.ended FieldsProofs.move_limit.Reads.Asked
+      FieldsProofs.move_limit.Reads.Learnt
       (λ _ card r. r ≡ move_limit_of card.now)
-  pub home : Says Fields.home.ended Fields.home.Reads.Asked Fields.home.Reads.Learnt
+  pub home : Says Fields.home.ended FieldsProofs.home.Reads.Asked FieldsProofs.home.Reads.Learnt
       (λ _ card r. r ≡ point_at card.now home_offset)
-  pub exterior : Says Fields.exterior.ended Fields.exterior.Reads.Asked Fields.exterior.Reads.Learnt
+  pub exterior : Says Fields.exterior.ended FieldsProofs.exterior.Reads.Asked FieldsProofs.exterior.Reads.Learnt
       (λ _ card r. r ≡ as_preference (exterior_of card.now))
-  pub interior : Says Fields.interior.ended Fields.interior.Reads.Asked Fields.interior.Reads.Learnt
+  pub interior : Says Fields.interior.ended FieldsProofs.interior.Reads.Asked FieldsProofs.interior.Reads.Learnt
       (λ _ card r. r ≡ as_preference (interior_of card.now))
-  pub grid : Says Fields.grid.ended Fields.grid.Reads.Asked Fields.grid.Reads.Learnt
+  pub grid : Says Fields.grid.ended FieldsProofs.grid.Reads.Asked FieldsProofs.grid.Reads.Learnt
       (λ _ card r. r ≡ grid_of card.now)
-  pub asks_grid_lem : Says Fields.asks_grid.ended Fields.asks_grid.Reads.Asked Fields.asks_grid.Reads.Learnt
+  pub asks_grid_lem : Says Fields.asks_grid.ended FieldsProofs.asks_grid.Reads.Asked
+      FieldsProofs.asks_grid.Reads.Learnt
       (λ _ card r. r ≡ asks_grid card.now)
-  pub contour_offset_lem : Says Fields.contour_offset.ended Fields.contour_offset.Reads.Asked
-      Fields.contour_offset.Reads.Learnt
+  pub contour_offset_lem : Says Fields.contour_offset.ended FieldsProofs.contour_offset.Reads.Asked
+      FieldsProofs.contour_offset.Reads.Learnt
       (λ _ card k offset r. r ≡ min (payload (k + 1) + offset) (length card.now))
-  pub pair_offset_lem : Says Fields.pair_offset.ended Fields.pair_offset.Reads.Asked Fields.pair_offset.Reads.Learnt
+  pub pair_offset_lem : Says Fields.pair_offset.ended FieldsProofs.pair_offset.Reads.Asked
+      FieldsProofs.pair_offset.Reads.Learnt
       (λ _ card q r. r ≡ min (pair_offset card.now q) (length card.now))
-  pub contour_byte_lem : Says Fields.contour_byte.ended Fields.contour_byte.Reads.Asked Fields.contour_byte.Reads.Learnt
+  pub contour_byte_lem : Says Fields.contour_byte.ended FieldsProofs.contour_byte.Reads.Asked
+      FieldsProofs.contour_byte.Reads.Learnt
       (λ _ card k offset r. r ≡ byte_at card.now (payload (k + 1) + offset))
-  pub id : Says Fields.id.ended Fields.id.Reads.Asked Fields.id.Reads.Learnt (λ _ card k r. r ≡ id_of card.now k)
-  pub tag : Says Fields.tag.ended Fields.tag.Reads.Asked Fields.tag.Reads.Learnt (λ _ card k r. r ≡ tag_of card.now k)
-  pub vertices : Says Fields.vertices.ended Fields.vertices.Reads.Asked Fields.vertices.Reads.Learnt
+  pub id : Says Fields.id.ended FieldsProofs.id.Reads.Asked FieldsProofs.id.Reads.Learnt
+      (λ _ card k r. r ≡ id_of card.now k)
+  pub tag : Says Fields.tag.ended FieldsProofs.tag.Reads.Asked FieldsProofs.tag.Reads.Learnt
+      (λ _ card k r. r ≡ tag_of card.now k)
+  pub vertices : Says Fields.vertices.ended FieldsProofs.vertices.Reads.Asked FieldsProofs.vertices.Reads.Learnt
       (λ _ card k r. r ≡ vertex_count_of card.now k)
-  pub contour_type_lem : Says Fields.contour_type.ended Fields.contour_type.Reads.Asked Fields.contour_type.Reads.Learnt
+  pub contour_type_lem : Says Fields.contour_type.ended FieldsProofs.contour_type.Reads.Asked
+      FieldsProofs.contour_type.Reads.Learnt
       (λ _ card k r. r ≡ as_type (type_of card.now k))
-  pub part : Says Fields.part.ended Fields.part.Reads.Asked Fields.part.Reads.Learnt
+  pub part : Says Fields.part.ended FieldsProofs.part.Reads.Asked FieldsProofs.part.Reads.Learnt
       (λ _ card k r. r ≡ part_of card.now k)
-  pub copy : Says Fields.copy.ended Fields.copy.Reads.Asked Fields.copy.Reads.Learnt
+  pub copy : Says Fields.copy.ended FieldsProofs.copy.Reads.Asked FieldsProofs.copy.Reads.Learnt
       (λ _ card k r. r ≡ copy_of card.now k)
-  pub vertex : Says Fields.vertex.ended Fields.vertex.Reads.Asked Fields.vertex.Reads.Learnt
+  pub vertex : Says Fields.vertex.ended FieldsProofs.vertex.Reads.Asked FieldsProofs.vertex.Reads.Learnt
       (λ _ card k j r. r ≡ point_at card.now (vertex_offset k j))
-  pub before-id : Says Fields.before_id.ended Fields.before_id.Reads.Asked Fields.before_id.Reads.Learnt
+  pub before_id : Says Fields.before_id.ended FieldsProofs.before_id.Reads.Asked FieldsProofs.before_id.Reads.Learnt
       (λ _ card q r. r ≡ before_id_of card.now q)
-  pub before-tag : Says Fields.before_tag.ended Fields.before_tag.Reads.Asked Fields.before_tag.Reads.Learnt
+  pub before_tag : Says Fields.before_tag.ended FieldsProofs.before_tag.Reads.Asked
+      FieldsProofs.before_tag.Reads.Learnt
       (λ _ card q r. r ≡ before_tag_of card.now q)
-  pub after_id_lem : Says Fields.after_id.ended Fields.after_id.Reads.Asked Fields.after_id.Reads.Learnt
+  pub after_id_lem : Says Fields.after_id.ended FieldsProofs.after_id.Reads.Asked FieldsProofs.after_id.Reads.Learnt
       (λ _ card q r. r ≡ after_id_of card.now q)
-  pub after_tag : Says Fields.after_tag.ended Fields.after_tag.Reads.Asked Fields.after_tag.Reads.Learnt
+  pub after_tag : Says Fields.after_tag.ended FieldsProofs.after_tag.Reads.Asked FieldsProofs.after_tag.Reads.Learnt
       (λ _ card q r. r ≡ after_tag_of card.now q)
 
 -- card
 pub record OfCard : Type 0 where
-  pub position_of_lem : Says Card.position_of.ended Card.position_of.Reads.Asked Card.position_of.Reads.Learnt
+  pub position_of_lem : Says Card.position_of.ended CardProofs.position_of.Reads.Asked
+      CardProofs.position_of.Reads.Learnt
       (λ _ card wanted r. r ≡ position_of card.now wanted)
-  pub pair_places_lem : Says Card.pair_places.ended Card.pair_places.Reads.Asked Card.pair_places.Reads.Learnt
+  pub pair_places_lem : Says Card.pair_places.ended CardProofs.pair_places.Reads.Asked
+      CardProofs.pair_places.Reads.Learnt
       (λ _ card r. r ≡ named_of card.now)
-  pub check : Says Card.check.ended Card.check.Reads.Asked Card.check.Reads.Learnt (λ _ card r. r ≡ check_of card.now)
+  pub check : Says Card.check.ended CardProofs.check.Reads.Asked CardProofs.check.Reads.Learnt
+      (λ _ card r. r ≡ check_of card.now)
 
 -- reader
 pub record OfReader : Type 0 where
-  pub field_at_lem : Says Reader.field_at.ended Reader.field_at.Reads.Asked Reader.field_at.Reads.Learnt
+  pub field_at_lem : Says Reader.field_at.ended ReaderProofs.field_at.Reads.Asked ReaderProofs.field_at.Reads.Learnt
       (λ _ s at width r. r ≡ field_at s.now at width)
-  pub left_at : Says Reader.left_at.ended Reader.left_at.Reads.Asked Reader.left_at.Reads.Learnt
+  pub left_at : Says Reader.left_at.ended ReaderProofs.left_at.Reads.Asked ReaderProofs.left_at.Reads.Learnt
       (λ _ s at r. r ≡ length s.now - at)
-  pub read_field_lem : Says Reader.read_field.ended Reader.read_field.Reads.Asked Reader.read_field.Reads.Learnt
+  pub read_field_lem : Says Reader.read_field.ended ReaderProofs.read_field.Reads.Asked
+      ReaderProofs.read_field.Reads.Learnt
       (λ _ s at width f. f ≡ field_at s.now at width)
-  pub read_head : Says Reader.read_head.ended Reader.read_head.Reads.Asked Reader.read_head.Reads.Learnt
+  pub read_head : Says Reader.read_head.ended ReaderProofs.read_head.Reads.Asked ReaderProofs.read_head.Reads.Learnt
       (λ _ card r. r ≡ head_of card.now)
-  pub read_grid_lem : Says Reader.read_grid.ended Reader.read_grid.Reads.Asked Reader.read_grid.Reads.Learnt
+  pub read_grid_lem : Says Reader.read_grid.ended ReaderProofs.read_grid.Reads.Asked
+      ReaderProofs.read_grid.Reads.Learnt
       (λ _ card r. r ≡ grid_of card.now)
-  pub contour_head_lem : Says Reader.contour_head.ended Reader.contour_head.Reads.Asked Reader.contour_head.Reads.Learnt
+  pub contour_head_lem : Says Reader.contour_head.ended ReaderProofs.contour_head.Reads.Asked
+      ReaderProofs.contour_head.Reads.Learnt
       (λ _ card k r. r ≡ contour_head card.now k)
-  pub read_contour_lem : Says Reader.read_contour.ended Reader.read_contour.Reads.Asked Reader.read_contour.Reads.Learnt
+  pub read_contour_lem : Says Reader.read_contour.ended ReaderProofs.read_contour.Reads.Asked
+      ReaderProofs.read_contour.Reads.Learnt
       (λ _ card k r. r ≡ contour_read card.now k)
-  pub read_pair_lem : Says Reader.read_pair.ended Reader.read_pair.Reads.Asked Reader.read_pair.Reads.Learnt
+  pub read_pair_lem : Says Reader.read_pair.ended ReaderProofs.read_pair.Reads.Asked
+      ReaderProofs.read_pair.Reads.Learnt
       (λ _ card q r. r ≡ pair_read card.now q)
-
--- reader, by hand
-pub record OfReaderByHand : Type 2 where
-  pub new : SaysByHand Reader.new.ended (λ M. Reader.new.clauses) (λ _ src r. r ≡ record { src = src; at = 0 })
-  pub moved : SaysByHand Reader.moved.ended (λ M. Reader.moved.clauses)
+  pub new : Says Reader.new.ended ReaderProofs.new.Reads.Asked ReaderProofs.new.Reads.Learnt
+      (λ _ src r. r ≡ record { src = src; at = 0 })
+  pub moved : Says Reader.moved.ended ReaderProofs.moved.Reads.Asked ReaderProofs.moved.Reads.Learnt
       (λ _ r at q. q ≡ record { src = r.src; at = at })
-  pub next : SaysByHand Reader.next.ended (λ M. Reader.next.clauses)
+  pub next : Says Reader.next.ended ReaderProofs.next.Reads.Asked ReaderProofs.next.Reads.Learnt
+      (λ _ reader width f. f ≡ field_at reader.src.now reader.at width)
+  pub left : Says Reader.left.ended ReaderProofs.left.Reads.Asked ReaderProofs.left.Reads.Learnt
+      (λ _ r n. n ≡ length r.src.now - r.at)
+
+-- reader, its struct, by the clauses themselves
+pub record OfReaderByHand : Type 2 where
+  pub new : SaysByHand Reader.new.ended (λ M 𝓤. Reader.new.clauses) (λ _ src r. r ≡ record { src = src; at = 0 })
+  pub moved : SaysByHand Reader.moved.ended (λ M 𝓤. Reader.moved.clauses)
+      (λ _ r at q. q ≡ record { src = r.src; at = at })
+  pub next : SaysByHand Reader.next.ended (λ M 𝓤. Reader.next.clauses)
       (λ _ r width f. f ≡ field_at r.src.now r.at width)
-  pub left : SaysByHand Reader.left.ended (λ M. Reader.left.clauses) (λ _ r n. n ≡ length r.src.now - r.at)
+  pub left : SaysByHand Reader.left.ended (λ M 𝓤. Reader.left.clauses) (λ _ r n. n ≡ length r.src.now - r.at)
 
 abbrev pub Claim : Type 2
 Claim = OfFields × OfCard × OfReader × OfReaderByHand

@@ -1,8 +1,10 @@
 -- What a contract comes to: it asks nothing of a caller, leaves one answer, and says a definition. The statements take
--- the contract itself, as the prover reads it in the source, and no copy: `ended`, its signature; `Reads.Asked`, what a
--- caller must show; `Reads.Learnt`, what a caller learns. So a contract that says less or asks more has no proof here.
--- In the files beside this one each callable function has an entry: its name, its contract, and its definition, a claim
--- of the lifetimes (no definition reads them: _), the arguments, the result, and what each lent value is left as (').
+-- the contract itself, as the prover reads it in the source, and no copy: `ended`, its signature, from the contracts of
+-- its crate; `Reads.Asked`, what a caller must show, and `Reads.Learnt`, what a caller learns, from the crate's proofs.
+-- So a contract that says less or asks more has no proof here.
+-- In the files beside this one each callable function has an entry: its name, or that with _lem; its contract; and its
+-- definition, a claim of the lifetimes (no definition reads them: _), the arguments, the result, and what each lent
+-- value is left as (').
 -- gate/contracts.sh sees to it that none is missing. Assumes nothing.
 use Rattle.std.specs.Prelude.{◌≡◌, ◌↔◌, List, [], ◌∷◌, ℕ}
 use contract.Lifetimes.{Lfts}
@@ -26,11 +28,11 @@ applied (T ∷ Ts) R f a = applied Ts (λ b. R (a.0, b)) (f a.0) a.1
 -- what takes the value that an argument is left with; one that stays as it was passed has none to take
 abbrev pub Leaving : {D : Type 0} → Exit D → D → Type 1 → Type 1
 Leaving unchanged x R = R
-Leaving (leaves L l S s) x R = L x → R
+Leaving (leaves L l S s r₀) x R = L x → R
 
 abbrev pub applied_to : {D : Type 0} (e : Exit D) (x : D) (R : Type 1) → Leaving e x R → Last e x → R
 applied_to unchanged x R f w = f
-applied_to (leaves L l S s) x R f w = f w
+applied_to (leaves L l S s r₀) x R f w = f w
 
 -- a claim of all the values that arguments are left with, and what it comes to at some
 module _ {n : ℕ} (κs : Lfts n) where

@@ -16,93 +16,108 @@ use Rattle.improve.specs.Code.{Reached, chart_of}
 use Rattle.instance.specs.Room.{instance_of}
 use Rattle.instance.specs.Prepared.{prepared_of}
 use Rattle.solve.specs.Solve.{end_in, Solved}
-use Rattle.candidates.proofs as Candidates
-use Rattle.bridge.proofs as Bridge
-use Rattle.table.proofs as Table
-use Rattle.start.proofs as Start
-use Rattle.improve.proofs as Improve
-use Rattle.instance.proofs as Instance
-use Rattle.solve.proofs as Solve
+use Rattle.candidates.specs.contracts as Candidates
+use Rattle.candidates.proofs as CandidatesProofs
+use Rattle.bridge.specs.contracts as Bridge
+use Rattle.bridge.proofs as BridgeProofs
+use Rattle.table.specs.contracts as Table
+use Rattle.table.proofs as TableProofs
+use Rattle.start.specs.contracts as Start
+use Rattle.start.proofs as StartProofs
+use Rattle.improve.specs.contracts as Improve
+use Rattle.improve.proofs as ImproveProofs
+use Rattle.instance.specs.contracts as Instance
+use Rattle.instance.proofs as InstanceProofs
+use Rattle.solve.specs.contracts as Solve
+use Rattle.solve.proofs as SolveProofs
 use Rattle.contracts.specs.Contract.{Says}
 
 -- candidates
 pub record OfCandidates : Type 0 where
-  pub determine_direction_lem : Says Candidates.determine_direction.ended Candidates.determine_direction.Reads.Asked
-      Candidates.determine_direction.Reads.Learnt
+  pub determine_direction_lem : Says Candidates.determine_direction.ended
+      CandidatesProofs.determine_direction.Reads.Asked CandidatesProofs.determine_direction.Reads.Learnt
       (λ _ kind exterior interior r. r ≡ direction_of kind exterior interior)
-  pub length_of_lem : Says Candidates.length_of.ended Candidates.length_of.Reads.Asked Candidates.length_of.Reads.Learnt
+  pub length_of_lem : Says Candidates.length_of.ended CandidatesProofs.length_of.Reads.Asked
+      CandidatesProofs.length_of.Reads.Learnt
       (λ _ e r. r ≡ edge_length e)
-  pub perimeter : Says Candidates.perimeter.ended Candidates.perimeter.Reads.Asked Candidates.perimeter.Reads.Learnt
+  pub perimeter : Says Candidates.perimeter.ended CandidatesProofs.perimeter.Reads.Asked
+      CandidatesProofs.perimeter.Reads.Learnt
       (λ _ numbers r. r ≡ perimeter_of (points numbers.now))
-  pub on_the_way_lem : Says Candidates.on_the_way.ended Candidates.on_the_way.Reads.Asked Candidates.on_the_way.Reads.Learnt
+  pub on_the_way_lem : Says Candidates.on_the_way.ended CandidatesProofs.on_the_way.Reads.Asked
+      CandidatesProofs.on_the_way.Reads.Learnt
       (λ _ d before after r. r ≡ reaches d before after)
-  pub last_spot_lem : Says Candidates.last_spot.ended Candidates.last_spot.Reads.Asked Candidates.last_spot.Reads.Learnt
+  pub last_spot_lem : Says Candidates.last_spot.ended CandidatesProofs.last_spot.Reads.Asked
+      CandidatesProofs.last_spot.Reads.Learnt
       (λ _ numbers r. r ≡ last_spot (points numbers.now))
-  pub spot-at : Says Candidates.spot_at.ended Candidates.spot_at.Reads.Asked Candidates.spot_at.Reads.Learnt
+  pub spot_at_lem : Says Candidates.spot_at.ended CandidatesProofs.spot_at.Reads.Asked
+      CandidatesProofs.spot_at.Reads.Learnt
       (λ _ numbers d r. r ≡ spot_at (points numbers.now) d)
-  pub candidates_of_lem : Says Candidates.candidates_of.ended Candidates.candidates_of.Reads.Asked
-      Candidates.candidates_of.Reads.Learnt
+  pub candidates_of_lem : Says Candidates.candidates_of.ended CandidatesProofs.candidates_of.Reads.Asked
+      CandidatesProofs.candidates_of.Reads.Learnt
       (λ _ numbers c grid kind exterior interior r.
       r ≡ filled (candidates_of grid (direction_of kind exterior interior) (points numbers.now) c))
-  pub contour_check_lem : Says Candidates.contour_check.ended Candidates.contour_check.Reads.Asked
-      Candidates.contour_check.Reads.Learnt
+  pub contour_check_lem : Says Candidates.contour_check.ended CandidatesProofs.contour_check.Reads.Asked
+      CandidatesProofs.contour_check.Reads.Learnt
       (λ _ numbers r. r ≡ contour_check numbers.now)
-  pub contour_candidates_lem : Says Candidates.contour_candidates.ended Candidates.contour_candidates.Reads.Asked
-      Candidates.contour_candidates.Reads.Learnt
+  pub contour_candidates_lem : Says Candidates.contour_candidates.ended CandidatesProofs.contour_candidates.Reads.Asked
+      CandidatesProofs.contour_candidates.Reads.Learnt
       (λ _ numbers c grid kind exterior interior r. r ≡ offered_of numbers.now c grid kind exterior interior)
 
 -- bridge
 pub record OfBridge : Type 0 where
-  pub bridges_at_lem : Says Bridge.bridges_at.ended Bridge.bridges_at.Reads.Asked Bridge.bridges_at.Reads.Learnt
+  pub bridges_at_lem : Says Bridge.bridges_at.ended BridgeProofs.bridges_at.Reads.Asked
+      BridgeProofs.bridges_at.Reads.Learnt
       (λ _ numbers width centres r. r ≡ bridges_of numbers.now width centres.now)
 
 -- table
 pub record OfTable : Type 0 where
-  pub float_at : Says Table.float_at.ended Table.float_at.Reads.Asked Table.float_at.Reads.Learnt
+  pub float_at : Says Table.float_at.ended TableProofs.float_at.Reads.Asked TableProofs.float_at.Reads.Learnt
       (λ _ s i r. r ≡ get_or s.now i nan)
-  pub byte_at_lem : Says Table.byte_at.ended Table.byte_at.Reads.Asked Table.byte_at.Reads.Learnt
+  pub byte_at_lem : Says Table.byte_at.ended TableProofs.byte_at.Reads.Asked TableProofs.byte_at.Reads.Learnt
       (λ _ s i r. r ≡ get_or s.now i 0)
-  pub home-at : Says Table.home_at.ended Table.home_at.Reads.Asked Table.home_at.Reads.Learnt
+  pub home_at_lem : Says Table.home_at.ended TableProofs.home_at.Reads.Asked TableProofs.home_at.Reads.Learnt
       (λ _ home a r. r ≡ home_at home.now a)
-  pub distance-at : Says Table.distance_at.ended Table.distance_at.Reads.Asked Table.distance_at.Reads.Learnt
+  pub distance_at_lem : Says Table.distance_at.ended TableProofs.distance_at.Reads.Asked
+      TableProofs.distance_at.Reads.Learnt
       (λ _ table t a b r. r ≡ distance_at table.now t a b)
-  pub evaluate_solution_lem : Says Table.evaluate_solution.ended Table.evaluate_solution.Reads.Asked
-      Table.evaluate_solution.Reads.Learnt
+  pub evaluate_solution_lem : Says Table.evaluate_solution.ended TableProofs.evaluate_solution.Reads.Asked
+      TableProofs.evaluate_solution.Reads.Learnt
       (λ _ home table t tour r. r ≡ length_of home.now table.now t tour.now)
-  pub fill_table_lem : Says Table.fill_table.ended Table.fill_table.Reads.Asked Table.fill_table.Reads.Learnt
+  pub fill_table_lem : Says Table.fill_table.ended TableProofs.fill_table.Reads.Asked
+      TableProofs.fill_table.Reads.Learnt
       (λ _ room items t owner _ room'. room' ≡ tabled items t owner.now room.now)
-  pub fill_home_lem : Says Table.fill_home.ended Table.fill_home.Reads.Asked Table.fill_home.Reads.Learnt
+  pub fill_home_lem : Says Table.fill_home.ended TableProofs.fill_home.Reads.Asked TableProofs.fill_home.Reads.Learnt
       (λ _ room items t home _ room'. room' ≡ homed items t home room.now)
 
 -- start
 pub record OfStart : Type 0 where
-  pub nn_constrained_lem : Says Start.nn_constrained.ended Start.nn_constrained.Reads.Asked
-      Start.nn_constrained.Reads.Learnt
+  pub nn_constrained_lem : Says Start.nn_constrained.ended StartProofs.nn_constrained.Reads.Asked
+      StartProofs.nn_constrained.Reads.Learnt
       (λ _ home table t first pairs tour r tour'.
-      let ground = ground_of home.now table.now t first.now pairs.now in
-      Written (nearest ground (length tour.now)) tour.now r tour')
-  pub solve_nn_lem : Says Start.solve_nn.ended Start.solve_nn.Reads.Asked Start.solve_nn.Reads.Learnt
-      (λ _ home table t first tour r tour'. let ground = ground_of home.now table.now t first.now [] in
-      Written (nearest ground (length tour.now)) tour.now r tour')
+      let land = ground_of home.now table.now t first.now pairs.now in
+      Written (nearest land (length tour.now)) tour.now r tour')
+  pub solve_nn_lem : Says Start.solve_nn.ended StartProofs.solve_nn.Reads.Asked StartProofs.solve_nn.Reads.Learnt
+      (λ _ home table t first tour r tour'. let land = ground_of home.now table.now t first.now [] in
+      Written (nearest land (length tour.now)) tour.now r tour')
 
 -- improve
 pub record OfImprove : Type 0 where
-  pub improve : Says Improve.improve.ended Improve.improve.Reads.Asked Improve.improve.Reads.Learnt
+  pub improve : Says Improve.improve.ended ImproveProofs.improve.Reads.Asked ImproveProofs.improve.Reads.Learnt
       (λ _ home table t owner first pairs tour passes limit r tour'.
       let chart = chart_of home.now table.now t owner.now first.now pairs.now in
       Reached r tour' (searched chart passes limit tour.now))
 
 -- instance
 pub record OfInstance : Type 0 where
-  pub gather : Says Instance.gather.ended Instance.gather.Reads.Asked Instance.gather.Reads.Learnt
+  pub gather : Says Instance.gather.ended InstanceProofs.gather.Reads.Asked InstanceProofs.gather.Reads.Learnt
       (λ _ card r. r ≡ instance_of card.now)
-  pub prepare : Says Instance.prepare.ended Instance.prepare.Reads.Asked Instance.prepare.Reads.Learnt
+  pub prepare : Says Instance.prepare.ended InstanceProofs.prepare.Reads.Asked InstanceProofs.prepare.Reads.Learnt
       (λ _ card r. r ≡ prepared_of card.now)
 
 -- solve
 pub record OfSolve : Type 0 where
-  pub solve_constrained_lem : Says Solve.solve_constrained.ended Solve.solve_constrained.Reads.Asked
-      Solve.solve_constrained.Reads.Learnt
+  pub solve_constrained_lem : Says Solve.solve_constrained.ended SolveProofs.solve_constrained.Reads.Asked
+      SolveProofs.solve_constrained.Reads.Learnt
       (λ _ home table t owner first pairs tour passes limit r tour'.
       let chart = chart_of home.now table.now t owner.now first.now pairs.now in
       Solved chart (end_in chart (length tour.now) passes limit) tour.now r tour')

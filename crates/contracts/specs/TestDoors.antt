@@ -23,97 +23,107 @@ use Rattle.start.specs.Nearest.{nearest}
 use Rattle.start.specs.Code.{ground_of, Written}
 use Rattle.improve.specs.Search.{searched}
 use Rattle.improve.specs.Code.{Reached, chart_of}
-use Rattle.probe.proofs as Probe
+use Rattle.probe.specs.contracts as Probe
+use Rattle.probe.proofs as ProbeProofs
 use Rattle.contracts.specs.Contract.{Says}
 
 -- probe
 pub record OfProbe : Type 0 where
-  pub probe_root_lem : Says Probe.probe_root.ended Probe.probe_root.Reads.Asked Probe.probe_root.Reads.Learnt
+  pub probe_root_lem : Says Probe.probe_root.ended ProbeProofs.probe_root.Reads.Asked
+      ProbeProofs.probe_root.Reads.Learnt
       (λ _ x out r out'. (r ≡ root_code (root_of x)) × (out' ≡ root_or (root_of x) out.now))
-  pub probe_sqrt_lem : Says Probe.probe_sqrt.ended Probe.probe_sqrt.Reads.Asked Probe.probe_sqrt.Reads.Learnt
+  pub probe_sqrt_lem : Says Probe.probe_sqrt.ended ProbeProofs.probe_sqrt.Reads.Asked
+      ProbeProofs.probe_sqrt.Reads.Learnt
       (λ _ x r. r ≡ sqrt_of x)
-  pub probe_moved_lem : Says Probe.probe_moved.ended Probe.probe_moved.Reads.Asked Probe.probe_moved.Reads.Learnt
+  pub probe_moved_lem : Says Probe.probe_moved.ended ProbeProofs.probe_moved.Reads.Asked
+      ProbeProofs.probe_moved.Reads.Learnt
       (λ _ x r. r ≡ moved x)
-  pub probe_distance : Says Probe.probe_distance.ended Probe.probe_distance.Reads.Asked
-      Probe.probe_distance.Reads.Learnt
+  pub probe_distance : Says Probe.probe_distance.ended ProbeProofs.probe_distance.Reads.Asked
+      ProbeProofs.probe_distance.Reads.Learnt
       (λ _ ax ay bx by out r out'. let d = point_distance_of (point ax ay) (point bx by) in
       (r ≡ length_code d) × (out' ≡ length_or d out.now))
-  pub probe_distance_sq_lem : Says Probe.probe_distance_sq.ended Probe.probe_distance_sq.Reads.Asked
-      Probe.probe_distance_sq.Reads.Learnt
+  pub probe_distance_sq_lem : Says Probe.probe_distance_sq.ended ProbeProofs.probe_distance_sq.Reads.Asked
+      ProbeProofs.probe_distance_sq.Reads.Learnt
       (λ _ ax ay bx by out r out'. let d = point_distance_sq_of (point ax ay) (point bx by) in
       (r ≡ length_code d) × (out' ≡ length_or d out.now))
-  pub probe_between_lem : Says Probe.probe_between.ended Probe.probe_between.Reads.Asked Probe.probe_between.Reads.Learnt
+  pub probe_between_lem : Says Probe.probe_between.ended ProbeProofs.probe_between.Reads.Asked
+      ProbeProofs.probe_between.Reads.Learnt
       (λ _ ax ay bx by r. r ≡ distance_of (point ax ay) (point bx by))
-  pub probe_rapid_lem : Says Probe.probe_rapid.ended Probe.probe_rapid.Reads.Asked Probe.probe_rapid.Reads.Learnt
+  pub probe_rapid_lem : Says Probe.probe_rapid.ended ProbeProofs.probe_rapid.Reads.Asked
+      ProbeProofs.probe_rapid.Reads.Learnt
       (λ _ x y legs out r out'. let d = total_rapid_of (point x y) legs.now in
       (r ≡ length_code d) × (out' ≡ length_or d out.now))
-  pub probe_sequence_cost_lem : Says Probe.probe_sequence_cost.ended Probe.probe_sequence_cost.Reads.Asked
-      Probe.probe_sequence_cost.Reads.Learnt
+  pub probe_sequence_cost_lem : Says Probe.probe_sequence_cost.ended ProbeProofs.probe_sequence_cost.Reads.Asked
+      ProbeProofs.probe_sequence_cost.Reads.Learnt
       (λ _ total count weight out r out'. let d = sequence_cost_of total count weight in
       (r ≡ length_code d) × (out' ≡ length_or d out.now))
-  pub probe_closest_lem : Says Probe.probe_closest.ended Probe.probe_closest.Reads.Asked Probe.probe_closest.Reads.Learnt
+  pub probe_closest_lem : Says Probe.probe_closest.ended ProbeProofs.probe_closest.Reads.Asked
+      ProbeProofs.probe_closest.Reads.Learnt
       (λ _ polygon px py x y t vertex r x' y' t' vertex'.
       let c = closest_on_polygon_of polygon.now (point px py) in
       (r ≡ closest_code c) × ((x' ≡ nearest_or c (λ n. n.point.x) x.now) ×
       ((y' ≡ nearest_or c (λ n. n.point.y) y.now) × ((t' ≡ nearest_or c (λ n. n.t) t.now) ×
       (vertex' ≡ nearest_or c (λ n. n.vertex) vertex.now)))))
-  pub probe_num_contours_lem : Says Probe.probe_num_contours.ended Probe.probe_num_contours.Reads.Asked
-      Probe.probe_num_contours.Reads.Learnt
+  pub probe_num_contours_lem : Says Probe.probe_num_contours.ended ProbeProofs.probe_num_contours.Reads.Asked
+      ProbeProofs.probe_num_contours.Reads.Learnt
       (λ _ contours pairs out r out'. let n = num_contours contours pairs.now in
       (r ≡ count_code n) × (out' ≡ count_or n out.now))
-  pub probe_violates_lem : Says Probe.probe_violates.ended Probe.probe_violates.Reads.Asked
-      Probe.probe_violates.Reads.Learnt
+  pub probe_violates_lem : Says Probe.probe_violates.ended ProbeProofs.probe_violates.Reads.Asked
+      ProbeProofs.probe_violates.Reads.Learnt
       (λ _ contours pairs a b r. r ≡ verdict_code (violates_of contours pairs.now a b))
-  pub probe_is_valid_sequence_lem : Says Probe.probe_is_valid_sequence.ended Probe.probe_is_valid_sequence.Reads.Asked
-      Probe.probe_is_valid_sequence.Reads.Learnt
+  pub probe_is_valid_sequence_lem : Says Probe.probe_is_valid_sequence.ended
+      ProbeProofs.probe_is_valid_sequence.Reads.Asked ProbeProofs.probe_is_valid_sequence.Reads.Learnt
       (λ _ contours pairs ids r. r ≡ verdict_code (valid_sequence contours pairs.now ids.now))
-  pub probe_precedences_lem : Says Probe.probe_precedences.ended Probe.probe_precedences.Reads.Asked
-      Probe.probe_precedences.Reads.Learnt
+  pub probe_precedences_lem : Says Probe.probe_precedences.ended ProbeProofs.probe_precedences.Reads.Asked
+      ProbeProofs.probe_precedences.Reads.Learnt
       (λ _ contours pairs ids count r ids' count'. let l = precedences_of contours pairs.now in
       (r ≡ code_of l.check) × ((ids' ≡ fine_or l.check l.ids ids.now) ×
       (count' ≡ fine_or l.check l.count count.now)))
-  pub probe_predecessors_lem : Says Probe.probe_predecessors.ended Probe.probe_predecessors.Reads.Asked
-      Probe.probe_predecessors.Reads.Learnt
+  pub probe_predecessors_lem : Says Probe.probe_predecessors.ended ProbeProofs.probe_predecessors.Reads.Asked
+      ProbeProofs.probe_predecessors.Reads.Learnt
       (λ _ contours pairs id ids count r ids' count'. let l = predecessors_of contours pairs.now id in
       (r ≡ code_of l.check) × ((ids' ≡ fine_or l.check l.ids ids.now) ×
       (count' ≡ fine_or l.check l.count count.now)))
-  pub probe_successors_lem : Says Probe.probe_successors.ended Probe.probe_successors.Reads.Asked
-      Probe.probe_successors.Reads.Learnt
+  pub probe_successors_lem : Says Probe.probe_successors.ended ProbeProofs.probe_successors.Reads.Asked
+      ProbeProofs.probe_successors.Reads.Learnt
       (λ _ contours pairs id ids count r ids' count'. let l = successors_of contours pairs.now id in
       (r ≡ code_of l.check) × ((ids' ≡ fine_or l.check l.ids ids.now) ×
       (count' ≡ fine_or l.check l.count count.now)))
-  pub probe_candidate_lem : Says Probe.probe_candidate.ended Probe.probe_candidate.Reads.Asked
-      Probe.probe_candidate.Reads.Learnt
+  pub probe_candidate_lem : Says Probe.probe_candidate.ended ProbeProofs.probe_candidate.Reads.Asked
+      ProbeProofs.probe_candidate.Reads.Learnt
       (λ _ numbers c grid kind exterior interior k place vertex way count r place' vertex' way' count'.
       let o = asked_of numbers.now c grid kind exterior interior in let n = nth_of o.found k in
       (r ≡ code_of o.check) × ((place' ≡ fine_or o.check (place_of n) place.now) ×
       ((vertex' ≡ fine_or o.check n.vertex vertex.now) ×
       ((way' ≡ fine_or o.check (way_of n.direction) way.now) ×
       (count' ≡ fine_or o.check o.found.count count.now)))))
-  pub probe_topological_sort_lem : Says Probe.probe_topological_sort.ended Probe.probe_topological_sort.Reads.Asked
-      Probe.probe_topological_sort.Reads.Learnt
+  pub probe_topological_sort_lem : Says Probe.probe_topological_sort.ended
+      ProbeProofs.probe_topological_sort.Reads.Asked ProbeProofs.probe_topological_sort.Reads.Learnt
       (λ _ contours pairs positions count r positions' count'. let o = topological_sort contours pairs.now in
       (r ≡ code_of o.check) × ((positions' ≡ fine_or o.check o.positions positions.now) ×
       (count' ≡ fine_or o.check o.count count.now)))
-  pub probe_check_lem : Says Probe.probe_check.ended Probe.probe_check.Reads.Asked Probe.probe_check.Reads.Learnt
+  pub probe_check_lem : Says Probe.probe_check.ended ProbeProofs.probe_check.Reads.Asked
+      ProbeProofs.probe_check.Reads.Learnt
       (λ _ card r. r ≡ code_of (check_of card.now))
-  pub probe_evaluate_lem : Says Probe.probe_evaluate.ended Probe.probe_evaluate.Reads.Asked
-      Probe.probe_evaluate.Reads.Learnt
+  pub probe_evaluate_lem : Says Probe.probe_evaluate.ended ProbeProofs.probe_evaluate.Reads.Asked
+      ProbeProofs.probe_evaluate.Reads.Learnt
       (λ _ home table t tour r. r ≡ length_of home.now table.now t tour.now)
-  pub probe_improve_lem : Says Probe.probe_improve.ended Probe.probe_improve.Reads.Asked Probe.probe_improve.Reads.Learnt
+  pub probe_improve_lem : Says Probe.probe_improve.ended ProbeProofs.probe_improve.Reads.Asked
+      ProbeProofs.probe_improve.Reads.Learnt
       (λ _ home table t owner first pairs tour passes limit r tour'.
       let chart = chart_of home.now table.now t owner.now first.now pairs.now in
       Reached r tour' (searched chart passes limit tour.now))
-  pub probe_start : Says Probe.probe_start.ended Probe.probe_start.Reads.Asked Probe.probe_start.Reads.Learnt
+  pub probe_start : Says Probe.probe_start.ended ProbeProofs.probe_start.Reads.Asked
+      ProbeProofs.probe_start.Reads.Learnt
       (λ _ home table t first pairs tour r tour'.
-      let ground = ground_of home.now table.now t first.now pairs.now in
-      Written (nearest ground (length tour.now)) tour.now r tour')
-  pub probe_solve_nn_lem : Says Probe.probe_solve_nn.ended Probe.probe_solve_nn.Reads.Asked
-      Probe.probe_solve_nn.Reads.Learnt
-      (λ _ home table t first tour r tour'. let ground = ground_of home.now table.now t first.now [] in
-      Written (nearest ground (length tour.now)) tour.now r tour')
-  pub probe_distances_lem : Says Probe.probe_distances.ended Probe.probe_distances.Reads.Asked
-      Probe.probe_distances.Reads.Learnt
+      let land = ground_of home.now table.now t first.now pairs.now in
+      Written (nearest land (length tour.now)) tour.now r tour')
+  pub probe_solve_nn_lem : Says Probe.probe_solve_nn.ended ProbeProofs.probe_solve_nn.Reads.Asked
+      ProbeProofs.probe_solve_nn.Reads.Learnt
+      (λ _ home table t first tour r tour'. let land = ground_of home.now table.now t first.now [] in
+      Written (nearest land (length tour.now)) tour.now r tour')
+  pub probe_distances_lem : Says Probe.probe_distances.ended ProbeProofs.probe_distances.Reads.Asked
+      ProbeProofs.probe_distances.Reads.Learnt
       (λ _ card home table _ _ home' table' count'. let all = instance_of card.now in
       (home' ≡ homed all.items all.count (point_at card.now home_offset) home.now) ×
       ((table' ≡ tabled all.items all.count all.owner table.now) × (count' ≡ all.count)))

@@ -6,49 +6,55 @@ use Rattle.block.specs.Field.{byte_at, u16_at, u32_at, u64_at, f64_at}
 use Rattle.block.specs.Block.{check_at, checked, starts, zeros_at}
 use Rattle.text.specs.Page.{paged, put_byte, put as put_text}
 use Rattle.text.specs.Text.{decimal_of, hex_of}
-use Rattle.answer.proofs as Answer
-use Rattle.block.proofs as Block
-use Rattle.text.proofs as Text
+use Rattle.answer.specs.contracts as Answer
+use Rattle.answer.proofs as AnswerProofs
+use Rattle.block.specs.contracts as Block
+use Rattle.block.proofs as BlockProofs
+use Rattle.text.specs.contracts as Text
+use Rattle.text.proofs as TextProofs
 use Rattle.contracts.specs.Contract.{Says}
 
 -- answer
 pub record OfAnswer : Type 0 where
-  pub refused : Says Answer.refused.ended Answer.refused.Reads.Asked Answer.refused.Reads.Learnt
+  pub refused : Says Answer.refused.ended AnswerProofs.refused.Reads.Asked AnswerProofs.refused.Reads.Learnt
       (λ _ number place r. r ≡ Check.Refused (record { number = number; place = place }))
-  pub code : Says Answer.code.ended Answer.code.Reads.Asked Answer.code.Reads.Learnt (λ _ c r. r ≡ code_of c)
+  pub code : Says Answer.code.ended AnswerProofs.code.Reads.Asked AnswerProofs.code.Reads.Learnt
+      (λ _ c r. r ≡ code_of c)
 
 -- block
 pub record OfBlock : Type 0 where
-  pub byte_at_lem : Says Block.byte_at.ended Block.byte_at.Reads.Asked Block.byte_at.Reads.Learnt
+  pub byte_at_lem : Says Block.byte_at.ended BlockProofs.byte_at.Reads.Asked BlockProofs.byte_at.Reads.Learnt
       (λ _ s at r. r ≡ byte_at s.now at)
-  pub u16_at_lem : Says Block.u16_at.ended Block.u16_at.Reads.Asked Block.u16_at.Reads.Learnt
+  pub u16_at_lem : Says Block.u16_at.ended BlockProofs.u16_at.Reads.Asked BlockProofs.u16_at.Reads.Learnt
       (λ _ s at r. r ≡ u16_at s.now at)
-  pub u32_at_lem : Says Block.u32_at.ended Block.u32_at.Reads.Asked Block.u32_at.Reads.Learnt
+  pub u32_at_lem : Says Block.u32_at.ended BlockProofs.u32_at.Reads.Asked BlockProofs.u32_at.Reads.Learnt
       (λ _ s at r. r ≡ u32_at s.now at)
-  pub u64_at_lem : Says Block.u64_at.ended Block.u64_at.Reads.Asked Block.u64_at.Reads.Learnt
+  pub u64_at_lem : Says Block.u64_at.ended BlockProofs.u64_at.Reads.Asked BlockProofs.u64_at.Reads.Learnt
       (λ _ s at r. r ≡ u64_at s.now at)
-  pub f64_at_lem : Says Block.f64_at.ended Block.f64_at.Reads.Asked Block.f64_at.Reads.Learnt
+  pub f64_at_lem : Says Block.f64_at.ended BlockProofs.f64_at.Reads.Asked BlockProofs.f64_at.Reads.Learnt
       (λ _ s at r. r ≡ f64_at s.now at)
-  pub starts_as_lem : Says Block.starts_as.ended Block.starts_as.Reads.Asked Block.starts_as.Reads.Learnt
+  pub starts_as_lem : Says Block.starts_as.ended BlockProofs.starts_as.Reads.Asked BlockProofs.starts_as.Reads.Learnt
       (λ _ s at kind version number r. r ≡ starts s.now at kind version number)
-  pub check-at : Says Block.check_at.ended Block.check_at.Reads.Asked Block.check_at.Reads.Learnt
+  pub check_at_lem : Says Block.check_at.ended BlockProofs.check_at.Reads.Asked BlockProofs.check_at.Reads.Learnt
       (λ _ s at r. r ≡ check_at s.now at)
-  pub is_checked_lem : Says Block.is_checked.ended Block.is_checked.Reads.Asked Block.is_checked.Reads.Learnt
+  pub is_checked_lem : Says Block.is_checked.ended BlockProofs.is_checked.Reads.Asked
+      BlockProofs.is_checked.Reads.Learnt
       (λ _ s at r. r ≡ checked s.now at)
-  pub zeros_at_lem : Says Block.zeros_at.ended Block.zeros_at.Reads.Asked Block.zeros_at.Reads.Learnt
+  pub zeros_at_lem : Says Block.zeros_at.ended BlockProofs.zeros_at.Reads.Asked BlockProofs.zeros_at.Reads.Learnt
       (λ _ s at count r. r ≡ zeros_at s.now at count)
 
 -- text
 pub record OfText : Type 0 where
-  pub put_byte_lem : Says Text.put_byte.ended Text.put_byte.Reads.Asked Text.put_byte.Reads.Learnt
+  pub put_byte_lem : Says Text.put_byte.ended TextProofs.put_byte.Reads.Asked TextProofs.put_byte.Reads.Learnt
       (λ _ page at b r page'. paged r page' ≡ put_byte b (paged at page.now))
-  pub put : Says Text.put.ended Text.put.Reads.Asked Text.put.Reads.Learnt
+  pub put : Says Text.put.ended TextProofs.put.Reads.Asked TextProofs.put.Reads.Learnt
       (λ _ page at text r page'. paged r page' ≡ put_text text.now (paged at page.now))
-  pub put_decimal_lem : Says Text.put_decimal.ended Text.put_decimal.Reads.Asked Text.put_decimal.Reads.Learnt
+  pub put_decimal_lem : Says Text.put_decimal.ended TextProofs.put_decimal.Reads.Asked
+      TextProofs.put_decimal.Reads.Learnt
       (λ _ page at n r page'. paged r page' ≡ put_text (decimal_of n) (paged at page.now))
-  pub put_hex_lem : Says Text.put_hex.ended Text.put_hex.Reads.Asked Text.put_hex.Reads.Learnt
+  pub put_hex_lem : Says Text.put_hex.ended TextProofs.put_hex.Reads.Asked TextProofs.put_hex.Reads.Learnt
       (λ _ page at n r page'. paged r page' ≡ put_text (hex_of n) (paged at page.now))
-  pub put-number : Says Text.put_number.ended Text.put_number.Reads.Asked Text.put_number.Reads.Learnt
+  pub put_number : Says Text.put_number.ended TextProofs.put_number.Reads.Asked TextProofs.put_number.Reads.Learnt
       (λ _ page at text n r page'. paged r page' ≡ put_text (text.now ++ decimal_of n) (paged at page.now))
 
 abbrev pub Claim : Type 0

@@ -32,21 +32,14 @@ fn told(r: Refusal) -> u64
 }
 
 // A card's check as one number: 0, or the refusal's number times 2^32 plus its place.
-#[unsafe(no_mangle)]
-pub extern "C" fn jl_check(card: &[u8]) -> u64
+pub fn jl_check(card: &[u8]) -> u64
     ensures { result ≡ code_of (check_of card.now) }
 {
     answer::code(card::check(card))
 }
 
 // The tour of a card into a room of bytes, with the trials and the bits of the length through lent numbers. A refusal keeps them all.
-#[unsafe(no_mangle)]
-pub extern "C" fn jl_tour(
-    card: &[u8],
-    tour: &mut [u8],
-    moves: &mut u64,
-    length_bits: &mut u64,
-) -> u64
+pub fn jl_tour(card: &[u8], tour: &mut [u8], moves: &mut u64, length_bits: &mut u64) -> u64
     ensures { hosted result tour.new moves.new length_bits.new
         ≡ host_tour card.now tour.old moves.old length_bits.old }
 {
@@ -62,8 +55,7 @@ pub extern "C" fn jl_tour(
 }
 
 // Where a candidate is, through lent numbers that a refusal keeps.
-#[unsafe(no_mangle)]
-pub extern "C" fn jl_place(card: &[u8], candidate: u64, contour: &mut u64, within: &mut u64) -> u64
+pub fn jl_place(card: &[u8], candidate: u64, contour: &mut u64, within: &mut u64) -> u64
     ensures { pointed result contour.new within.new
         ≡ host_place (located_of card.now candidate) contour.old within.old }
 {
@@ -111,8 +103,7 @@ fn state_of(n: u64) -> Feed
 }
 
 // A piece of a card, kept in a lent byte room, with the state as a lent number. A refusal keeps them both.
-#[unsafe(no_mangle)]
-pub extern "C" fn jl_feed(state: &mut u64, held: &mut [u8], piece: &[u8]) -> u64
+pub fn jl_feed(state: &mut u64, held: &mut [u8], piece: &[u8]) -> u64
     ensures { host_fed result state.new held.new
         ≡ host_feed state.old held.old piece.now }
 {
@@ -128,8 +119,7 @@ pub extern "C" fn jl_feed(state: &mut u64, held: &mut [u8], piece: &[u8]) -> u64
 
 // The end of a card in pieces: the tour, as `jl_tour` gives it of the whole. A refusal keeps what `jl_tour` would, and one for the byte room the
 // state too.
-#[unsafe(no_mangle)]
-pub extern "C" fn jl_ask(
+pub fn jl_ask(
     state: &mut u64,
     held: &[u8],
     tour: &mut [u8],
@@ -190,13 +180,7 @@ fn write_bridges(found: Bridges, room: &mut [f64; NUMBERS])
 }
 
 // The bridges of a contour, eight numbers each at the front of a room for the most there are. A refusal keeps the room.
-#[unsafe(no_mangle)]
-pub extern "C" fn jl_bridges(
-    contour: &[f64],
-    width: f64,
-    centres: &[f64],
-    room: &mut [f64; NUMBERS],
-) -> u64
+pub fn jl_bridges(contour: &[f64], width: f64, centres: &[f64], room: &mut [f64; NUMBERS]) -> u64
     ensures { spanned result room.new
         ≡ host_bridges contour.now width centres.now room.old }
 {

@@ -47,16 +47,14 @@ fn tell_root(a: Rooted, out: &mut f64) -> u64
     }
 }
 
-#[unsafe(no_mangle)]
-pub extern "C" fn probe_root(x: f64, out: &mut f64) -> u64
+pub fn probe_root(x: f64, out: &mut f64) -> u64
     ensures value { result ≡ root_code (root_of x) }
     ensures out_after { out.new ≡ root_or (root_of x) out.old }
 {
     tell_root(root::root(x), out)
 }
 
-#[unsafe(no_mangle)]
-pub extern "C" fn probe_sqrt(x: f64) -> f64
+pub fn probe_sqrt(x: f64) -> f64
     ensures { result ≡ sqrt_of x }
 {
     root::sqrt(x)
@@ -76,8 +74,7 @@ fn tell_length(a: Measured, out: &mut f64) -> u64
     }
 }
 
-#[unsafe(no_mangle)]
-pub extern "C" fn probe_distance(ax: f64, ay: f64, bx: f64, by: f64, out: &mut f64) -> u64
+pub fn probe_distance(ax: f64, ay: f64, bx: f64, by: f64, out: &mut f64) -> u64
     ensures value { result ≡ length_code (point_distance_of (point ax ay) (point bx by)) }
     ensures out_after { out.new ≡ length_or (point_distance_of (point ax ay) (point bx by)) out.old }
 {
@@ -87,8 +84,7 @@ pub extern "C" fn probe_distance(ax: f64, ay: f64, bx: f64, by: f64, out: &mut f
     )
 }
 
-#[unsafe(no_mangle)]
-pub extern "C" fn probe_distance_sq(ax: f64, ay: f64, bx: f64, by: f64, out: &mut f64) -> u64
+pub fn probe_distance_sq(ax: f64, ay: f64, bx: f64, by: f64, out: &mut f64) -> u64
     ensures value { result ≡ length_code (point_distance_sq_of (point ax ay) (point bx by)) }
     ensures out_after { out.new ≡ length_or (point_distance_sq_of (point ax ay) (point bx by)) out.old }
 {
@@ -99,31 +95,27 @@ pub extern "C" fn probe_distance_sq(ax: f64, ay: f64, bx: f64, by: f64, out: &mu
 }
 
 // A coordinate moved to the grid.
-#[unsafe(no_mangle)]
-pub extern "C" fn probe_moved(x: f64) -> f64
+pub fn probe_moved(x: f64) -> f64
     ensures { result ≡ moved x }
 {
     grid::moved(x)
 }
 
 // The distance that the search works with: it refuses nothing.
-#[unsafe(no_mangle)]
-pub extern "C" fn probe_between(ax: f64, ay: f64, bx: f64, by: f64) -> f64
+pub fn probe_between(ax: f64, ay: f64, bx: f64, by: f64) -> f64
     ensures { result ≡ distance_of (point ax ay) (point bx by) }
 {
     points::distance(Point { x: ax, y: ay }, Point { x: bx, y: by })
 }
 
-#[unsafe(no_mangle)]
-pub extern "C" fn probe_rapid(x: f64, y: f64, legs: &[f64], out: &mut f64) -> u64
+pub fn probe_rapid(x: f64, y: f64, legs: &[f64], out: &mut f64) -> u64
     ensures value { result ≡ length_code (total_rapid_of (point x y) legs.now) }
     ensures out_after { out.new ≡ length_or (total_rapid_of (point x y) legs.now) out.old }
 {
     tell_length(cost::total_rapid_distance(Point { x, y }, legs), out)
 }
 
-#[unsafe(no_mangle)]
-pub extern "C" fn probe_sequence_cost(total: f64, count: usize, weight: f64, out: &mut f64) -> u64
+pub fn probe_sequence_cost(total: f64, count: usize, weight: f64, out: &mut f64) -> u64
     ensures value { result ≡ length_code (sequence_cost_of total count weight) }
     ensures out_after { out.new ≡ length_or (sequence_cost_of total count weight) out.old }
 {
@@ -152,8 +144,7 @@ fn tell_closest(a: Closest, x: &mut f64, y: &mut f64, t: &mut f64, vertex: &mut 
     }
 }
 
-#[unsafe(no_mangle)]
-pub extern "C" fn probe_closest(
+pub fn probe_closest(
     polygon: &[f64],
     px: f64,
     py: f64,
@@ -191,8 +182,7 @@ fn tell_count(a: Count, out: &mut usize) -> u64
     }
 }
 
-#[unsafe(no_mangle)]
-pub extern "C" fn probe_num_contours(contours: usize, pairs: &[u32], out: &mut usize) -> u64
+pub fn probe_num_contours(contours: usize, pairs: &[u32], out: &mut usize) -> u64
     ensures value { result ≡ count_code (num_contours contours pairs.now) }
     ensures out_after { out.new ≡ count_or (num_contours contours pairs.now) out.old }
 {
@@ -214,23 +204,20 @@ fn tell_verdict(a: Verdict) -> u64
     }
 }
 
-#[unsafe(no_mangle)]
-pub extern "C" fn probe_violates(contours: usize, pairs: &[u32], a: u32, b: u32) -> u64
+pub fn probe_violates(contours: usize, pairs: &[u32], a: u32, b: u32) -> u64
     ensures { result ≡ verdict_code (violates_of contours pairs.now a b) }
 {
     tell_verdict(hierarchy::violates(contours, pairs, a, b))
 }
 
-#[unsafe(no_mangle)]
-pub extern "C" fn probe_is_valid_sequence(contours: usize, pairs: &[u32], ids: &[u32]) -> u64
+pub fn probe_is_valid_sequence(contours: usize, pairs: &[u32], ids: &[u32]) -> u64
     ensures { result ≡ verdict_code (valid_sequence contours pairs.now ids.now) }
 {
     tell_verdict(hierarchy::is_valid_sequence(contours, pairs, ids))
 }
 
 // A list comes as the whole array that it stands in, and its length.
-#[unsafe(no_mangle)]
-pub extern "C" fn probe_precedences(
+pub fn probe_precedences(
     contours: usize,
     pairs: &[u32],
     ids: &mut [u32; 2 * PAIRS],
@@ -271,8 +258,7 @@ fn tell_ids(found: Ids, ids: &mut [u32; PAIRS], count: &mut usize) -> u64
     }
 }
 
-#[unsafe(no_mangle)]
-pub extern "C" fn probe_predecessors(
+pub fn probe_predecessors(
     contours: usize,
     pairs: &[u32],
     id: u32,
@@ -286,8 +272,7 @@ pub extern "C" fn probe_predecessors(
     tell_ids(hierarchy::predecessors(contours, pairs, id), ids, count)
 }
 
-#[unsafe(no_mangle)]
-pub extern "C" fn probe_successors(
+pub fn probe_successors(
     contours: usize,
     pairs: &[u32],
     id: u32,
@@ -360,8 +345,7 @@ fn offered(numbers: &[f64], c: usize, grid: u8, kind: u8, exterior: u8, interior
 }
 
 // Candidate k of a contour: its point and end point, its vertex and direction, and how many there are.
-#[unsafe(no_mangle)]
-pub extern "C" fn probe_candidate(
+pub fn probe_candidate(
     numbers: &[f64],
     c: usize,
     grid: u8,
@@ -398,8 +382,7 @@ pub extern "C" fn probe_candidate(
     }
 }
 
-#[unsafe(no_mangle)]
-pub extern "C" fn probe_topological_sort(
+pub fn probe_topological_sort(
     contours: usize,
     pairs: &[u32],
     positions: &mut [u32; CONTOURS],
@@ -422,22 +405,19 @@ pub extern "C" fn probe_topological_sort(
     }
 }
 
-#[unsafe(no_mangle)]
-pub extern "C" fn probe_check(card: &[u8]) -> u64
+pub fn probe_check(card: &[u8]) -> u64
     ensures { result ≡ code_of (check_of card.now) }
 {
     answer::code(card::check(card))
 }
 
-#[unsafe(no_mangle)]
-pub extern "C" fn probe_evaluate(home: &[f64], table: &[f64], t: u8, tour: &[u8]) -> f64
+pub fn probe_evaluate(home: &[f64], table: &[f64], t: u8, tour: &[u8]) -> f64
     ensures { result ≡ length_of home.now table.now t tour.now }
 {
     table::evaluate_solution(home, table, t, tour)
 }
 
-#[unsafe(no_mangle)]
-pub extern "C" fn probe_improve(
+pub fn probe_improve(
     home: &[f64],
     table: &[f64],
     t: u8,
@@ -454,8 +434,7 @@ pub extern "C" fn probe_improve(
     improve::improve(home, table, t, owner, first, pairs, tour, passes, limit)
 }
 
-#[unsafe(no_mangle)]
-pub extern "C" fn probe_start(
+pub fn probe_start(
     home: &[f64],
     table: &[f64],
     t: u8,
@@ -469,14 +448,7 @@ pub extern "C" fn probe_start(
     start::nn_constrained(home, table, t, first, pairs, tour)
 }
 
-#[unsafe(no_mangle)]
-pub extern "C" fn probe_solve_nn(
-    home: &[f64],
-    table: &[f64],
-    t: u8,
-    first: &[u8],
-    tour: &mut [u8],
-) -> usize
+pub fn probe_solve_nn(home: &[f64], table: &[f64], t: u8, first: &[u8], tour: &mut [u8]) -> usize
     ensures { let n = length tour.old in
         Written (nearest (ground_of home.now table.now t first.now []) n) tour.old result tour.new }
 {
@@ -484,13 +456,7 @@ pub extern "C" fn probe_solve_nn(
 }
 
 // The distances from home and between the candidates of a card, and how many candidates there are.
-#[unsafe(no_mangle)]
-pub extern "C" fn probe_distances(
-    card: &[u8],
-    home: &mut [f64],
-    table: &mut [f64],
-    count: &mut usize,
-)
+pub fn probe_distances(card: &[u8], home: &mut [f64], table: &mut [f64], count: &mut usize)
     ensures home_after { home.new ≡ homed (instance_of card.now).items (instance_of card.now).count (point_at card.now home_offset) home.old }
     ensures table_after { table.new ≡ tabled (instance_of card.now).items (instance_of card.now).count (instance_of card.now).owner table.old }
     ensures count_after { count.new ≡ (instance_of card.now).count }
