@@ -95,7 +95,7 @@ pub record GoesBack (c : Card) (r : Refusal) (list : String) : Type 0 where
 
 -- no contours and no pairs: an empty tour, no trial, length 0
 abbrev pub OfNothing : Type 0
-OfNothing = GoesThrough (as_job41 [] []) 0 0 [] 0 0 "JOB 41 CONTOURS 0\n_moves 0\n_rapid 0000000000000000\n"
+OfNothing = GoesThrough (as_job41 [] []) 0 0 [] 0 0 "JOB 41 CONTOURS 0\nMOVES 0\nRAPID 0000000000000000\n"
 
 -- position 3 waits on itself; position 0 waits on a cycle of 1 and 2
 pub record OfCycles : Type 0 where
@@ -105,7 +105,7 @@ pub record OfCycles : Type 0 where
 -- job 41
 abbrev pub OfJob41 : Type 0
 OfJob41 = GoesThrough job41 3 3 (2 ∷ 1 ∷ 0 ∷ []) 1 0x4038_0000_0000_0000
-    "JOB 41 CONTOURS 3\n2 20 0 cw\n9 90 0 ccw\n7 70 0 ccw\n_moves 1\n_rapid 4038000000000000\n"
+    "JOB 41 CONTOURS 3\n2 20 0 cw\n9 90 0 ccw\n7 70 0 ccw\nMOVES 1\nRAPID 4038000000000000\n"
 
 -- ---- the table: what stands apart is proved apart
 

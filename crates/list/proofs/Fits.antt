@@ -160,9 +160,9 @@ outcome_short : (o : Outcome) → length (outcome_lines o) ≤ outcome_longest
 unfolding outcome_lines
 outcome_short o =
     let bits = to_bits binary64 o.length in
-    joined (bytes "MOVES " ++ decimal_of o.moves ++ bytes "\n_rapid " ++ hex_of bits) (bytes "\n") 49 1
-    (joined (bytes "MOVES " ++ decimal_of o.moves ++ bytes "\n_rapid ") (hex_of bits) 33 16
-    (joined (bytes "MOVES " ++ decimal_of o.moves) (bytes "\n_rapid ") 26 7
+    joined (bytes "MOVES " ++ decimal_of o.moves ++ bytes "\nRAPID " ++ hex_of bits) (bytes "\n") 49 1
+    (joined (bytes "MOVES " ++ decimal_of o.moves ++ bytes "\nRAPID ") (hex_of bits) 33 16
+    (joined (bytes "MOVES " ++ decimal_of o.moves) (bytes "\nRAPID ") 26 7
     (joined (bytes "MOVES ") (decimal_of o.moves) 6 20 (lit≤ tt) (at_all o.moves))
     (lit≤ tt))
     (hex_long bits))

@@ -75,7 +75,7 @@ unfolding place_line
 place_put s place d p q r t w e f g = rw (← w) (put_then _ _ p r t (put_then _ _ p q r e f) g)
 
 pub outcome_put : (o : Outcome) (bits : ℕ) (p q r t u : Page) → bits ≡ to_bits binary64 o.length
-    → q ≡ put (bytes "MOVES " ++ decimal_of o.moves) p → r ≡ put (bytes "\n_rapid ") q → t ≡ put (hex_of bits) r
+    → q ≡ put (bytes "MOVES " ++ decimal_of o.moves) p → r ≡ put (bytes "\nRAPID ") q → t ≡ put (hex_of bits) r
     → u ≡ put (bytes "\n") t
     → u ≡ put (outcome_lines o) p
 unfolding outcome_lines

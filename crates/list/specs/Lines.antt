@@ -47,7 +47,7 @@ stop_lines s (a ∷ tour) = stop_line s a ++ stop_lines s tour
 -- the trials, and the bits of the length
 unfoldable pub outcome_lines : Outcome → List ℕ
 outcome_lines o =
-    bytes "MOVES " ++ decimal_of o.moves ++ bytes "\n_rapid " ++ hex_of (to_bits binary64 o.length) ++ bytes "\n"
+    bytes "MOVES " ++ decimal_of o.moves ++ bytes "\nRAPID " ++ hex_of (to_bits binary64 o.length) ++ bytes "\n"
 
 -- the list of a tour
 unfoldable pub tour_lines : List ℕ → List ℕ → Outcome → List ℕ

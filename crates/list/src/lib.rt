@@ -1,7 +1,8 @@
 // A card's list as a text: the stops of its tour, one to a line, or the one line of a refusal; and that text on standard output.
 #![tactic(auto)]
 
-ghost use Rattle.std.specs.Prelude.{◌≡◌, ◌≤◌, min, length, take};
+ghost use Rattle.std.specs.Prelude.{◌≡◌, ◌≤◌, OnOk, min, length, take};
+ghost use Rattle.std.specs.Io.KnownBytes.{Appends};
 ghost use Rattle.answer.specs.declared.Check.TheVariants.{Fine};
 ghost use Rattle.card.specs.Verdict.{check_of};
 ghost use Rattle.instance.specs.Gather.{way_of};
@@ -13,9 +14,10 @@ ghost use Rattle.list.specs.Fits.{longest};
 use answer::{CutDirection, Refusal};
 use closure::CONTOURS;
 use instance::Instance;
-use libc::STDOUT_FILENO;
 use questions::Local;
 use solve::Outcome;
+use std::io;
+use std::io::{Stdout, Write};
 use table::ENTRIES;
 use tour::Toured;
 
@@ -153,9 +155,17 @@ fn write_whole(card: &[u8], page: &mut [u8]) -> usize
     write_list(card, page)
 }
 
-// The list of a card, given as any bytes, on standard output.
-pub fn show_card(card: &[u8]) {
+// The list of a card, given as any bytes, to a writer: where no write fails, all of it and nothing else.
+fn hand_over<W: Write>(card: &[u8], out: &mut W) -> io::Result<()>
+    ensures { OnOk result (Appends (W.contents out.old) (W.contents out.new) (list_of card.now)) }
+{
     let mut page = [0u8; LONGEST];
     let n = write_whole(card, &mut page);
-    io::write_all(STDOUT_FILENO, &page[..n]);
+    out.write_all(&page[..n])
+}
+
+// The list of a card, given as any bytes, on standard output. That it could not be written is no failure: nobody reads it then.
+pub fn show_card(card: &[u8], out: &Stdout) {
+    let mut writer = out;
+    let _ = hand_over(card, &mut writer);
 }

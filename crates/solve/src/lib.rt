@@ -1,6 +1,7 @@
 // The whole search: the nearest-neighbour start that respects the pairs, then its improvement, and the length of the tour held.
 #![tactic(auto)]
 
+ghost use Rattle.std.specs.Prelude.{length};
 ghost use Rattle.improve.specs.Code.{chart_of};
 ghost use Rattle.solve.specs.Solve.{end_in, Solved};
 

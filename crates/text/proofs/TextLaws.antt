@@ -57,8 +57,8 @@ decimal_is k n out h f e = e ∙ decimal_in_lem k 20 n (few 10 1 20 n k (lit≤ 
 
 -- ---- hexadecimal
 
-pub hex_is : (k n : ℕ) (out : List ℕ) → n < 2 ^ 64 → IsDigitCount 16 (min (max 16 1) 16) n k → take k out ≡ last_digits 16 k n
-    → take k out ≡ hex_of n
+pub hex_is : (k n : ℕ) (out : List ℕ) → n < 2 ^ 64 → IsDigitCount 16 (min (max 16 1) 16) n k
+    → take k out ≡ last_digits 16 k n → take k out ≡ hex_of n
 unfolding hex_of
 hex_is k n out h f e =
     let all : k ≡ 16 = omega (arith, f.0, few 16 16 16 n k (lit≤ tt) (lit≤ tt) h f) in

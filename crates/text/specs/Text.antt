@@ -13,7 +13,8 @@ bytes (string.◌∷◌ c more) = code c ∷ bytes more
 -- the last digits of a number, at most so many: those above the last one, if there are any, then the last one
 unfoldable pub decimal_in : ℕ → ℕ → List ℕ
 decimal_in zero n = []
-decimal_in (suc most) n = let more = decimal_in most (n / 10) in cond (ltb n 10) [] more ++ (hex_digit_ascii (n % 10) ∷ [])
+decimal_in (suc most) n =
+    let more = decimal_in most (n / 10) in cond (ltb n 10) [] more ++ (hex_digit_ascii (n % 10) ∷ [])
 
 -- a number in decimal; none of 64 bits has more than 20 digits
 unfoldable pub decimal_of : ℕ → List ℕ

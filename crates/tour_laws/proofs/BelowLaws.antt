@@ -42,7 +42,7 @@ below_back t [] b h = h
 below_back t (x ∷ a) b h = below_back t a b h.1
 
 below_rev : (t : ℕ) (b : List ℕ) → AllBelow t b → AllBelow t (reverse b)
-unfolding AllBelow reverse
+unfolding AllBelow
 below_rev t [] h = tt
 below_rev t (x ∷ b) h =
     subst (AllBelow t) (sym (reverse-append (x ∷ []) b)) (below_both t (reverse b) (x ∷ []) (below_rev t b h.1) (h.0, tt))

@@ -36,6 +36,6 @@ unfolding verdict_computes tour_within tour_check_within room_check end_within c
     along_of moved_point moved distance_of distance_sq_of squares sqrt_of root_finite halves whole_root digits
     homes_of home_leg distances_of row_of leg_at leg_of listed chained each length_of walk legs
     nearest_within walked step visit chosen considered is_open is_in offered offer closer reach_of last_of
-    searched_within repeated pass turn alternative swap judged shorter tried at_limit row reversal flip turned reverse slice
+    searched_within repeated pass turn alternative swap judged shorter tried at_limit row reversal flip turned slice
     contours keeps_pairs kept_in last_rank every add sub mul div rem neg lt le eq of_int sum
 tour_computes = tt

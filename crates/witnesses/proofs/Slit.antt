@@ -151,7 +151,7 @@ two_tours = record {
 -- ---- printed
 
 slit_lines : tour_lines slit_bytes (0 ∷ 3 ∷ 4 ∷ []) (record { moves = 6; length = mm 6 })
-    ≡ bytes "JOB 45 CONTOURS 3\n5 50 0 ccw\n6 60 0 ccw\n7 70 0 ccw\n_moves 6\n_rapid 4018000000000000\n"
+    ≡ bytes "JOB 45 CONTOURS 3\n5 50 0 ccw\n6 60 0 ccw\n7 70 0 ccw\nMOVES 6\nRAPID 4018000000000000\n"
 unfolding list_computes
 slit_lines = refl
 

@@ -351,12 +351,12 @@ unfolding list_of
 printed_by s tour length moves fine e = rw (fine, e.tour_long, e.tour_is, e.moves_are) refl
 
 free_lines : tour_lines free (1 ∷ 4 ∷ 3 ∷ []) (record { moves = 9; length = mm 7 })
-    ≡ bytes "JOB 43 CONTOURS 3\n5 50 1 ccw\n7 70 0 ccw\n6 60 1 ccw\n_moves 9\n_rapid 401c000000000000\n"
+    ≡ bytes "JOB 43 CONTOURS 3\n5 50 1 ccw\n7 70 0 ccw\n6 60 1 ccw\nMOVES 9\nRAPID 401c000000000000\n"
 unfolding list_computes
 free_lines = refl
 
 capped_lines : tour_lines capped (1 ∷ 3 ∷ 4 ∷ []) (record { moves = 5; length = mm 8 })
-    ≡ bytes "JOB 43 CONTOURS 3\n5 50 1 ccw\n6 60 1 ccw\n7 70 0 ccw\n_moves 5\n_rapid 4020000000000000\n"
+    ≡ bytes "JOB 43 CONTOURS 3\n5 50 1 ccw\n6 60 1 ccw\n7 70 0 ccw\nMOVES 5\nRAPID 4020000000000000\n"
 unfolding list_computes
 capped_lines = refl
 

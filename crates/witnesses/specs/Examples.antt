@@ -73,7 +73,7 @@ pub record SentBackWith12 : Type 0 where
 pub record Printed : Type 0 where
   pub job41_printed :
       list_of (written job41)
-      ≡ bytes "JOB 41 CONTOURS 3\n2 20 0 cw\n9 90 0 ccw\n7 70 0 ccw\n_moves 1\n_rapid 4038000000000000\n"
+      ≡ bytes "JOB 41 CONTOURS 3\n2 20 0 cw\n9 90 0 ccw\n7 70 0 ccw\nMOVES 1\nRAPID 4038000000000000\n"
   pub waiting_printed : list_of (written waiting) ≡ bytes "REFUSED 12 AT 1\n"
 
 -- all of them: what stands apart is proved apart

@@ -57,7 +57,7 @@ pub record SquareMoved : Type 0 where
   pub tour_long : (outcome_on (written (thirds true))).length ≡ of_bits binary64 0x4020_0000_0000_0000
   pub moves_are : (outcome_on (written (thirds true))).moves ≡ 3
   pub printed : list_of (written (thirds true))
-      ≡ bytes "JOB 49 CONTOURS 3\n6 60 0 ccw\n7 70 0 ccw\n5 50 1 ccw\n_moves 3\n_rapid 4020000000000000\n"
+      ≡ bytes "JOB 49 CONTOURS 3\n6 60 0 ccw\n7 70 0 ccw\n5 50 1 ccw\nMOVES 3\nRAPID 4020000000000000\n"
   pub not_asking_answered : Answered (thirds false) 3 5
   pub not_asking_off : OnGrid (written (thirds false)) → ⊥
 
@@ -110,7 +110,7 @@ pub record TiesMoved : Type 0 where
       ∷ at 0 0 ∷ at 0 0 ∷ at one_step_down 0 ∷ at one_step_down 0 ∷ at one_step_down 0 ∷ at one_step_down 0
       ∷ at one_step_down 0 ∷ at 0 0 ∷ []
   pub printed : list_of (written (ties 4 true))
-      ≡ bytes "JOB 50 CONTOURS 2\n6 60 1 ccw\n5 50 0 ccw\n_moves 0\n_rapid 3f68000000000000\n"
+      ≡ bytes "JOB 50 CONTOURS 2\n6 60 1 ccw\n5 50 0 ccw\nMOVES 0\nRAPID 3f68000000000000\n"
 
 abbrev pub Claim : Type 0
 Claim = SquareMoved × TiesMoved

@@ -115,7 +115,7 @@ pub record TwoTours : Type 0 where
 pub record SlitPrinted : Type 0 where
   pub slit_printed :
       list_of slit_bytes
-      ≡ bytes "JOB 45 CONTOURS 3\n5 50 0 ccw\n6 60 0 ccw\n7 70 0 ccw\n_moves 6\n_rapid 4018000000000000\n"
+      ≡ bytes "JOB 45 CONTOURS 3\n5 50 0 ccw\n6 60 0 ccw\n7 70 0 ccw\nMOVES 6\nRAPID 4018000000000000\n"
 
 -- all of them: what stands apart is proved apart
 abbrev pub Claim : Type 0

@@ -168,9 +168,9 @@ pub record CutInside : Type 0 where
 
 pub record LinePrinted : Type 0 where
   pub free_printed :
-      list_of free ≡ bytes "JOB 43 CONTOURS 3\n5 50 1 ccw\n7 70 0 ccw\n6 60 1 ccw\n_moves 9\n_rapid 401c000000000000\n"
+      list_of free ≡ bytes "JOB 43 CONTOURS 3\n5 50 1 ccw\n7 70 0 ccw\n6 60 1 ccw\nMOVES 9\nRAPID 401c000000000000\n"
   pub capped_printed :
-      list_of capped ≡ bytes "JOB 43 CONTOURS 3\n5 50 1 ccw\n6 60 1 ccw\n7 70 0 ccw\n_moves 5\n_rapid 4020000000000000\n"
+      list_of capped ≡ bytes "JOB 43 CONTOURS 3\n5 50 1 ccw\n6 60 1 ccw\n7 70 0 ccw\nMOVES 5\nRAPID 4020000000000000\n"
 
 -- all of them: what stands apart is proved apart
 abbrev pub Claim : Type 0

@@ -1,0 +1,10 @@
+-- `list::put_outcome` meets its contract. Assumes nothing.
+use Rattle.list.proofs.LineLaws.{outcome_put}
+use borrow.Author.Rules.{rules}
+use Rattle.list.proofs.put_outcome.Goals as goal
+
+pub returns : goal.returns
+returns c =
+    outcome_put _ _ _ _ _ _ _ c.bits_of.ensures
+    c.put_number-moves.ensures c.put-rapid.ensures
+    c.put_hex-length.ensures c.put.ensures
