@@ -1,7 +1,7 @@
 -- Demand 2 holds. Assumes nothing.
 use mathlib.Core.Path.{◌≡◌, refl, sym, ap, ◌∙◌, subst}
 use mathlib.Core.Logic.{◌⊎◌, inl, inr}
-use mathlib.Core.Bool.{Bool, true, false, and-false}
+use mathlib.Core.Bool.{Bool, true, false, cond, and-false}
 use mathlib.Core.List.{List, [], ◌∷◌, ◌++◌}
 use Prim.Native.Nat.{ℕ, zero, suc, ◌+◌, ◌-◌, ◌≤◌, ◌<◌}
 use native.Mathlib.Nat.{sub-zero, min-eq_left}
@@ -171,7 +171,7 @@ measured s = record {
 }
 
 terms : (s : List ℕ) → check_of s ≡ Fine → Terms s
-unfolding chart_on shorter reverse
+unfolding chart_on shorter
 terms s fine =
     let sound = (exactly s).fine_only fine in
     record {
@@ -292,12 +292,15 @@ module _ (s : List ℕ) (fine : check_of s ≡ Fine) where
   unfolding trials_of passes_trials
   whole zero h = refl
   whole (suc k) h =
-      rw (
+      let fits : worthwhile (suc k) (length (start_on s)) ≡ true = rw (
         start_long s fine,
         lt-ltb 0 (suc k) (omega arith),
         le-leb 3 (contours_of s) h,
         le-leb (contours_of s) contour_limit (accepted s fine).few_contours,
-      )
+      ) in
+      let long = passes_trials (chart_on s) (length (start_on s)) (suc k) (begun_on s) in
+      ap (λ (b : Bool). cond b long []) fits
+      ∙ ap (λ (n : ℕ). passes_trials (chart_on s) n (suc k) (begun_on s)) (start_long s fine)
 
   few : contours_of s < 3 → all_on s ≡ []
   unfolding trials_of
