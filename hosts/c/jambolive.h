@@ -8,7 +8,7 @@
  *
  * Calls may run side by side: the library has no memory of its own.
  * A call takes at most JL_STACK_BYTES of stack.
- * It asks for memcpy, memset and fmod of the C library (-lm), and is right if they are.
+ * It asks for memcpy, memmove, memset and fmod of the C library (-lm), and is right if they are.
  * No bytes, numbers or centres, and no room for a tour or a card, need no address: NULL with 0 behind it will do. */
 #ifndef JAMBOLIVE_H
 #define JAMBOLIVE_H
