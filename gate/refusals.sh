@@ -6,7 +6,9 @@
 # says which fact of which function or file of proofs the prover must refuse. (rt reads neither line; each may begin with `# `.)
 # It fails unless every fact named is refused, no two of a sweep name the same one, and docs/PROMISES.md has the name. In a sweep
 # of bodies each replacement is refused in the function that it changes, and no function is changed by two wrong programs;
-# replacements share a line only where they make one change of one function or statement.
+# replacements share a line only where they make one change of one function or statement. Goals and steps are named after the
+# code: where a wrong program has other names, replacements in its function's proof, and only there, put them in place of the
+# right ones, and change nothing else, so that the proof is tried on the wrong program and does not fail for a name.
 set -eu
 
 cd "${1:-$(dirname "$0")/..}"
@@ -62,6 +64,21 @@ FNR == 1 {
     if (!(wrong in promised)) bad("docs/PROMISES.md does not name it")
 }
 /^file: / { file = substr($0, 7) }
+# a line of a proof without the names of goals and steps
+function nameless(text) {
+    gsub(/c\.[a-z_0-9]+(-[A-Za-z_0-9]+)*|[A-Za-z_0-9]+(-[A-Za-z_0-9]+)+/, "@", text)
+    return text
+}
+
+/^old: / && file ~ /^proofs\// {
+    was = substr($0, 6)
+    if (!of_bodies || !open || index(file, "proofs/" own "/") != 1) bad(file " is no proof of what it changes")
+    next
+}
+/^new:/ && file ~ /^proofs\// {
+    if ($0 != "new:" && nameless(substr($0, 6)) != nameless(was)) bad("it changes more than names: " was)
+    next
+}
 /^old: / {
     if (wrong == "") bad("a replacement that has no name")
     if (of_bodies) {

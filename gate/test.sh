@@ -1,9 +1,10 @@
 #!/bin/sh
 # test.sh: refusals.sh must pass a sweep whose wrong programs are each refused at their own fact, and name what is wrong with
-# one that has a harmless replacement in it, one refused elsewhere, one told twice, a name that docs/PROMISES.md lacks, and so
-# on. The log that tries.py reads the facts from is one of crates/block, cut short. And contracts.sh must pass a crate whose callable
-# functions all have their entries, and name one that has none, one that cites another's contract, and a record not proved. And
-# limits.sh must name a header, a table and a longest card that have another number than the code.
+# one that has a harmless replacement in it, one refused elsewhere, one told twice, a name that docs/PROMISES.md lacks, one
+# that changes more of a proof than names, and so on. The log that tries.py reads the facts from is one of crates/block, cut
+# short. And contracts.sh must pass a crate whose callable functions all have their entries, and name one that has none, one
+# that cites another's contract, and a record not proved. And limits.sh must name a header, a table and a longest card that have
+# another number than the code.
 set -eu
 
 here=$(cd "$(dirname "$0")" && pwd -P)
@@ -82,6 +83,16 @@ echo "$whole" | sed 's/^old:     check_at.*/old: return s[at];/' >"$edit"
 says 1 'check_read_early: first_byte_for_any changes byte_at too'
 echo "$whole" | sed '/^wrong: /d' >"$edit"
 says 1 ': a replacement that has no name'
+# a wrong program with other names, which its own proof is given, and no other change of a proof
+named() { # FILE NEW-LINE: the same sweep, the second program with a replacement in this file of a proof
+    echo "$whole" | sed "s|^refused: is_checked|file: $1\nold: returns c = held c.if-s.true\nnew: $2\n&|" >"$edit"
+}
+named proofs/is_checked/Answers.antt 'returns c = held c.if-s-at.true'
+says 0 '2 wrong programs in 1 sweeps, each refused at its own fact'
+named proofs/is_checked/Answers.antt 'returns c = other c.if-s-at.true'
+says 1 'check_read_early: it changes more than names: returns c = held c.if-s.true'
+named proofs/byte_at/Answers.antt 'returns c = held c.if-s-at.true'
+says 1 'check_read_early: proofs/byte_at/Answers.antt is no proof of what it changes'
 echo "$whole" >"$edit"
 rm "$tree/target/must-fail/block/bodies_1.facts"
 says 1 'first_byte_for_any: not refused at byte_at returns-then-at-s'

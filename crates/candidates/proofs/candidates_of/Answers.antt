@@ -44,7 +44,7 @@ returns c =
       some_vertices _ _ _ _ c.if-numbers-eq0.false,
       ←
           c.held-wanted.ensures,
-      ne_eqb _ _ c.if-wanted-eq1.false,
+      ne_eqb _ 1 c.if-wanted-eq1.false,
       ←
           c.perimeter-total.ensures,
       c.if-total.false,
