@@ -6,3 +6,5 @@ pub mod CountLaws
 pub mod SizeLaws
 pub mod Moved
 pub mod Starred
+pub mod RestLaws
+pub mod RestCases

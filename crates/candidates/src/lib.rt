@@ -1,8 +1,12 @@
 // Where on a contour's boundary, or on the grid beside it, the beam may pierce, and which way round the contour is cut.
 #![tactic(auto)]
 
-ghost use Rattle.std.specs.Prelude.{◌≡◌, ◌≤◌, min, [], ◌∷◌, slice_index_or};
+ghost use Rattle.std.specs.Prelude.{◌≡◌, ◌≤◌, min, true, [], ◌∷◌, slice_index_or};
+ghost use Rattle.std.specs.Float.{binary64};
+ghost use Rattle.std.specs.Float.Ieee.{lt, rem};
+ghost use Rattle.root.specs.Steps.{has_root};
 ghost use Rattle.fields.specs.Limits.{per_contour_limit};
+ghost use Rattle.points.specs.Numbers.{zero64};
 ghost use Rattle.points.specs.Points.{points, nowhere};
 ghost use Rattle.candidates.specs.Direction.{direction_of};
 ghost use Rattle.candidates.specs.Along.{edge_length, perimeter_of, reaches, on_edge, spot, spot_at, last_spot};
@@ -208,12 +212,67 @@ fn first_vertex(direction: CutDirection, numbers: &[f64]) -> Candidates
     Candidates { items, count: 1 }
 }
 
+// 2^1023: what is below it can be doubled.
+const HALF_OF_ALL: f64 = 8.98846567431158e307;
+
+// What is left of x where y, above zero, is taken off as often as it goes: x itself below y; else what is left by twice y,
+// less y where that goes once more. Each step is exact.
+fn left_of(x: f64, y: f64) -> f64
+    requires real_x { has_root x ≡ true }
+    requires real_y { has_root y ≡ true }
+    requires above { lt zero64 y ≡ true }
+    ensures { result ≡ rem binary64 x y }
+{
+    if x < y {
+        return x;
+    }
+    if y < HALF_OF_ALL {
+        let left = left_of(x, y + y);
+        if left < y {
+            return left;
+        }
+        return left - y;
+    }
+    x - y
+}
+
+// The remainder of any two numbers, as `%` has it. Said by steps of its own, since `%` calls the C library's fmod, which not
+// every machine that runs the programs has in the form that they are linked against.
+fn rest(x: f64, y: f64) -> f64
+    ensures { result ≡ rem binary64 x y }
+{
+    let none = x - x;
+    if none != none {
+        return none;
+    }
+    if y != y {
+        return y;
+    }
+    let other = y - y;
+    if other != other {
+        return x;
+    }
+    if y < 0.0 {
+        if x < 0.0 {
+            return -left_of(-x, -y);
+        }
+        return left_of(x, -y);
+    }
+    if 0.0 < y {
+        if x < 0.0 {
+            return -left_of(-x, y);
+        }
+        return left_of(x, y);
+    }
+    y / y
+}
+
 // How far along the way candidate k of c is.
 fn target_of(total: f64, c: usize, k: usize) -> f64
     ensures { result ≡ target total c k }
 {
     let spacing = total / std::num::nearest_u64_to_f64(c as u64);
-    std::num::nearest_u64_to_f64(k as u64) * spacing % total
+    rest(std::num::nearest_u64_to_f64(k as u64) * spacing, total)
 }
 
 // A spot found at a distance, on the grid where that is asked for; its vertex is the one found.
