@@ -8,7 +8,8 @@
 # of bodies each replacement is refused in the function that it changes, and no function is changed by two wrong programs;
 # replacements share a line only where they make one change of one function or statement. Goals and steps are named after the
 # code: where a wrong program has other names, replacements in its function's proof, and only there, put them in place of the
-# right ones, and change nothing else, so that the proof is tried on the wrong program and does not fail for a name.
+# right ones, or leave out of a list what it has not, and change nothing else: so the proof is tried on the wrong program, and
+# does not fail for a name.
 set -eu
 
 cd "${1:-$(dirname "$0")/..}"
@@ -67,6 +68,7 @@ FNR == 1 {
 # a line of a proof without the names of goals and steps
 function nameless(text) {
     gsub(/c\.[a-z_0-9]+(-[A-Za-z_0-9]+)*|[A-Za-z_0-9]+(-[A-Za-z_0-9]+)+/, "@", text)
+    gsub(/@\.[a-z_.]+, /, "", text)
     return text
 }
 
