@@ -3,7 +3,7 @@
 -- told is evaluated from the tour handed out; and square roots are IEEE 754's. tour_of is what `tour::tour` promises.
 -- It shuts out a constant tour and the order of the file (Told.tour, with Starts and Order); a start never improved
 -- and a search that idles after its first pass (Passes: the trials of every further pass are in the list; Cut: all of
--- the list is made); a candidate that is found and lost again (Trials.other-left, Keeping, AlwaysEven); an invented
+-- the list is made); a candidate that is found and lost again (Trials.other_left, Keeping, AlwaysEven); an invented
 -- number of moves (Told.moves, Cut); another length told than that of the tour (Told.rapid). That `tour` promises
 -- tour_of and nothing else is said in contracts/specs/Doors; what the candidates of one contour are, in
 -- candidates/specs/Generate, two cases of it in Starred; when they are moved to the grid, which, and how, in OnTheGrid.
