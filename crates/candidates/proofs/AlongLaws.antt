@@ -1,5 +1,6 @@
 -- The way around a contour, an edge at a time. Assumes nothing.
-use Rattle.std.proofs.Common.{◌≡◌, ℕ, ◌+◌, ◌-◌, ◌/◌, ◌<◌, ◌≤◌, true, false, List, [], length, get_or, drop, sym, refl, ◌∙◌, add-one, drop_of_length-le, drop-cons}
+use Rattle.std.proofs.Common.{◌≡◌, ℕ, ◌+◌, ◌-◌, ◌/◌, ◌<◌, ◌≤◌, true, false, List, [], length, get_or, drop, sym, refl}
+use Rattle.std.proofs.Common.{◌∙◌, add-one, drop_of_length-le, drop-cons}
 use lib.Ieee.{Float, binary64, add}
 use Rattle.points.specs.Points.{nowhere, no_ends, points, edges}
 use Rattle.points.specs.Numbers.{zero64}

@@ -1,5 +1,6 @@
 -- How many candidates a contour has, what each of them keeps, and where they stand when handed out. Assumes nothing.
-use Rattle.std.proofs.Common.{◌≡◌, ℕ, ◌<◌, ◌≤◌, min, Bool, true, false, cond, eqb, List, [], ◌∷◌, length, get_or, refl, not-suc-le-zero, arith, length-append}
+use Rattle.std.proofs.Common.{◌≡◌, ℕ, ◌<◌, ◌≤◌, min, Bool, true, false, cond, eqb, List, [], ◌∷◌, length, get_or}
+use Rattle.std.proofs.Common.{refl, not-suc-le-zero, arith, length-append}
 use lib.ListN.{length-replicate}
 use lib.Ieee.{lt}
 use Rattle.answer.specs.declared.Point.{Point}

@@ -1,6 +1,7 @@
 -- What holds of the candidate at the first vertex, and of one at every spot that is looked for, holds of every
 -- candidate. Assumes nothing.
-use Rattle.std.proofs.Common.{◌≡◌, ℕ, zero, suc, ◌+◌, ◌<◌, min, Bool, true, false, cond, eqb, List, [], ◌∷◌, length, get_or, refl, le_of_suc-le-suc, not-suc-le-zero, zero-lt-suc, arith}
+use Rattle.std.proofs.Common.{◌≡◌, ℕ, zero, suc, ◌+◌, ◌<◌, min, Bool, true, false, cond, eqb, List, [], ◌∷◌, length}
+use Rattle.std.proofs.Common.{get_or, refl, le_of_suc-le-suc, not-suc-le-zero, zero-lt-suc, arith}
 use lib.Ieee.{lt}
 use Rattle.answer.specs.declared.Point.{Point}
 use Rattle.answer.specs.declared.CutDirection.{CutDirection}

@@ -2,24 +2,28 @@
 use mathlib.Core.Path.{◌≡◌, refl, sym, ap, ◌∙◌, subst}
 use mathlib.Core.Bool.{Bool, true, false, not, ◌&&◌, beq, cond, true≢false}
 use Prim.Native.Nat.{ℕ, zero, suc, ◌+◌, ◌-◌, ◌*◌, ◌/◌, ◌%◌, ◌^◌, ◌<◌, ◌≤◌, compare}
-use native.Mathlib.Nat.{mod-eq_of_lt, mod-eq-sub-mod, mod-lt, zero-mul, not-le_of_lt, mul-pos, zero-lt-suc, lt_of_not-le}
+use native.Mathlib.Nat.{mod-eq_of_lt, mod-eq-sub-mod, mod-lt, zero-mul, not-le_of_lt, mul-pos, zero-lt-suc}
+use native.Mathlib.Nat.{lt_of_not-le}
 use native.Mathlib.Omega.{arith}
 use borrow.Author.Tests.{ltb-true, lt-ltb}
 use lib.IntN.{ℤ}
 use lib.Dec.{T, ltb}
-use lib.Ieee.{Float, nan, inf, fin, binary64, Format, prec, emax, low, up, down, size, nearest, odd, units, round, add, sub, neg, sum, div, rem, fits, lt, ne, is_nan, of_bits}
+use lib.Ieee.{Float, nan, inf, fin, binary64, Format, prec, emax, low, up, down, size, nearest, odd, units, round}
+use lib.Ieee.{add, sub, neg, sum, div, rem, fits, lt, ne, is_nan, of_bits}
 use lib.Ieee.Fits.{up_pos, add-fits, neg-fits, round-fits}
 use lib.Ieee.Compare.{differs_from_itself}
 use lib.Ieee.Exact.{HasValue}
 use lib.Ieee.Scale.{finite, overflow}
-use Rattle.std.proofs.lemmas.Float.{lt_irrefl, lt_of_lt_of_le, le_of_not-lt}
+use Rattle.std.proofs.lemmas.Float.{lt_irrefl, lt_of_lt_of_le, le_of_not-lt, T_from_true, T_from_false}
 use Rattle.root.specs.Steps.{steps_of, sign_of, has_root}
-use Rattle.root.proofs.StepLaws.{Held, steps_value, steps_of_lem, steps-held, real_finite, minus_zero, le→steps, steps→le}
+use Rattle.root.proofs.StepLaws.{Held, steps_value, steps_of_lem, steps-held, real_finite, minus_zero, le→steps}
+use Rattle.root.proofs.StepLaws.{steps→le}
 use Rattle.root.proofs.RootLaws.{plus_real}
 use Rattle.root.proofs.Negation.{round-neg}
 use Rattle.points.specs.Numbers.{zero64}
 use Rattle.grid.proofs.MoveLaws.{above_of_below}
-use Rattle.candidates.proofs.RestLaws.{mod_twice_below, mod_twice_above, held_rest, round_held, own_round, rem_steps, sub_steps, twice_steps, held_twice}
+use Rattle.candidates.proofs.RestLaws.{mod_twice_below, mod_twice_above, held_rest, round_held, own_round, rem_steps}
+use Rattle.candidates.proofs.RestLaws.{sub_steps, twice_steps, held_twice}
 
 abbrev L : ℕ
 L = 2 ^ low binary64
@@ -29,9 +33,6 @@ L = 2 ^ low binary64
 pub record Real (x : Float) : Type 0 where
   pub held : T (fits binary64 x)
   pub real : has_root x ≡ true
-
-holds : {b : Bool} → b ≡ true → T b
-holds e = subst T (sym e) tt
 
 told : (b : Bool) → T b → b ≡ true
 told true t = refl
@@ -44,14 +45,14 @@ real_number (inf s) h = tt
 real_number (fin s m e) h = tt
 
 pub lt→steps : (x y : Float) → Real x → Real y → lt x y ≡ true → steps_of x < steps_of y
-lt→steps x y p q e = lt_of_not-le (λ h. lt_irrefl x (lt_of_lt_of_le x y x (holds e)
-    (steps→le binary64 y x q.held (holds q.real) p.held (holds p.real) h)))
+lt→steps x y p q e = lt_of_not-le (λ h. lt_irrefl x (lt_of_lt_of_le x y x (T_from_true _ e)
+    (steps→le binary64 y x q.held (T_from_true _ q.real) p.held (T_from_true _ p.real) h)))
 
 pub nlt→steps : (x y : Float) → Real x → Real y → lt x y ≡ false → steps_of y ≤ steps_of x
 nlt→steps x y p q e =
-    le→steps binary64 y x q.held (holds q.real) p.held (holds p.real)
-    (le_of_not-lt x y (real_number x (holds p.real)) (real_number y (holds q.real))
-    (subst (λ (b : Bool). T (not b)) (sym e) tt))
+    le→steps binary64 y x q.held (T_from_true _ q.real) p.held (T_from_true _ p.real)
+    (le_of_not-lt x y (real_number x (T_from_true _ p.real)) (real_number y (T_from_true _ q.real))
+    (T_from_false (lt x y) e))
 
 pub steps→lt : (x y : Float) → Real x → Real y → steps_of x < steps_of y → lt x y ≡ true
 steps→lt x y p q h = go (lt x y) refl
@@ -72,7 +73,7 @@ pub above_steps : (y : Float) → Real y → lt zero64 y ≡ true → 0 < steps_
 above_steps y q e = subst (λ (z : ℕ). z < steps_of y) zero_steps (lt→steps zero64 y zero_real q e)
 
 value : (x : Float) → Real x → HasValue x (sign_of x) (steps_of x) L
-value x p = steps_value binary64 x p.held (real_finite x (holds p.real))
+value x p = steps_value binary64 x p.held (real_finite x (T_from_true _ p.real))
 
 plus_sign : (x : Float) → T (has_root x) → 0 < steps_of x → sign_of x ≡ false
 plus_sign nan h p = refl
@@ -88,10 +89,10 @@ plus_sign (fin true zero e) h p = absurd (native.Mathlib.Nat.lt_irrefl 0 (subst 
 plus_sign (fin true (suc m) e) h p = let z : suc m ≡ 0 = minus_zero (suc m) h in absurd (omega arith)
 
 plus_value : (x : Float) → Real x → 0 < steps_of x → HasValue x false (steps_of x) L
-plus_value x p h = subst (λ (s : Bool). HasValue x s (steps_of x) L) (plus_sign x (holds p.real) h) (value x p)
+plus_value x p h = subst (λ (s : Bool). HasValue x s (steps_of x) L) (plus_sign x (T_from_true _ p.real) h) (value x p)
 
 held : (x : Float) → Real x → Held binary64 (steps_of x)
-held x p = steps-held binary64 x p.held (real_finite x (holds p.real))
+held x p = steps-held binary64 x p.held (real_finite x (T_from_true _ p.real))
 
 -- what has a value that is not below zero is such a number
 real_value : (z : Float) (n : ℕ) → T (fits binary64 z) → HasValue z false n L → Real z
@@ -109,7 +110,7 @@ module _ (x y : Float) (p : Real x) (q : Real y) (above : lt zero64 y ≡ true) 
   -- below y it is x
   pub rest_below : lt x y ≡ true → x ≡ rem binary64 x y
   rest_below e =
-      own_round binary64 x p.held (real_finite x (holds p.real))
+      own_round binary64 x p.held (real_finite x (T_from_true _ p.real))
       ∙ ap (λ (z : ℕ). round binary64 (sign_of x) z L) (sym (mod-eq_of_lt (lt→steps x y p q e)))
       ∙ sym by_steps
 
@@ -148,8 +149,8 @@ module _ (x y : Float) (p : Real x) (q : Real y) (above : lt zero64 y ≡ true) 
       -- what is left by twice as much
       module _ (z : Float) (is : z ≡ rem binary64 x (add binary64 y y)) where
         Z : z ≡ round binary64 false (steps_of x % (steps_of y + steps_of y)) L
-        Z = is ∙ rem_steps binary64 x (add binary64 y y) false false (steps_of x) (steps_of y + steps_of y) plus_x twice_value
-            (omega (arith, some))
+        Z = is ∙ rem_steps binary64 x (add binary64 y y) false false (steps_of x) (steps_of y + steps_of y) plus_x
+            twice_value (omega (arith, some))
 
         left_value : HasValue z false (steps_of x % (steps_of y + steps_of y)) L
         left_value =
@@ -217,7 +218,7 @@ doubles_not y q e =
 
 pub none_own : (x y : Float) → ne x x ≡ true → x ≡ rem binary64 y x
 unfolding rem
-none_own x y e = rw (differs_from_itself x (holds e)) (go y)
+none_own x y e = rw (differs_from_itself x (T_from_true _ e)) (go y)
   where
     go : (y : Float) → nan ≡ rem binary64 y nan
     go nan = refl
@@ -254,7 +255,8 @@ round_number f s num den =
 sum_number : (f : Format) (s : Bool) (a : ℕ) (t : Bool) (b c : ℕ) → is_nan (sum f s a t b c) ≡ false
 unfolding sum
 sum_number f s a t b c =
-    cond_number (beq s t) (round f s (a + b) c) (cond (ltb a b) (round f t (b - a) c) (round f (s && ltb b a) (a - b) c))
+    cond_number (beq s t) (round f s (a + b) c)
+    (cond (ltb a b) (round f t (b - a) c) (round f (s && ltb b a) (a - b) c))
     (round_number f s (a + b) c)
     (cond_number (ltb a b) (round f t (b - a) c) (round f (s && ltb b a) (a - b) c)
     (round_number f t (b - a) c) (round_number f (s && ltb b a) (a - b) c))
@@ -264,7 +266,7 @@ unfolding is_nan
 nan_is z q = rw q
 
 number_same : (z : Float) → is_nan z ≡ false → ne z z ≡ true → ⊥
-number_same z n e = true≢false (sym (nan_is z (differs_from_itself z (holds e))) ∙ n)
+number_same z n e = true≢false (sym (nan_is z (differs_from_itself z (T_from_true _ e))) ∙ n)
 
 -- what is no number less itself, or infinite, has no rest
 pub rest_none : (x y : Float) → ne (sub binary64 x x) (sub binary64 x x) ≡ true → sub binary64 x x ≡ rem binary64 x y
@@ -297,6 +299,10 @@ rest_whole (fin s m d) (fin t k z) h n e =
     let c = down z * down z in
     absurd (number_same (sum binary64 t a (not t) a c) (sum_number binary64 t a (not t) a c) e)
 
+-- what has a digit is above zero
+sized : (m : ℕ) (d : ℤ) → 0 < suc m * up d * 1
+sized m d = mul-pos (mul-pos (zero-lt-suc m) (up_pos d)) (zero-lt-suc 0)
+
 pub real_above : (y : Float) → T (fits binary64 y) → T (finite y) → lt zero64 y ≡ true → Real y
 unfolding lt of_bits
 real_above nan t h e = absurd h
@@ -311,8 +317,9 @@ real_not_below (inf s) t h e = absurd h
 real_not_below (fin false m d) t h e = record { held = t; real = refl }
 real_not_below (fin true zero d) t h e = record { held = t; real = refl }
 real_not_below (fin true (suc m) d) t h e =
-    let some : 0 < suc m * up d * 1 = mul-pos (mul-pos (zero-lt-suc m) (up_pos d)) (zero-lt-suc 0) in
-    let yes : ltb 0 (suc m * up d * 1 + 0 * down d) ≡ true = lt-ltb 0 (suc m * up d * 1 + 0 * down d) (omega (arith, some)) in
+    let some = sized m d in
+    let yes : ltb 0 (suc m * up d * 1 + 0 * down d) ≡ true =
+    lt-ltb 0 (suc m * up d * 1 + 0 * down d) (omega (arith, some)) in
     absurd (true≢false (sym yes ∙ e))
 
 -- by zero there is no rest
@@ -325,13 +332,14 @@ rest_zero (fin s m e) nan h k a b = absurd k
 rest_zero (fin s m e) (inf t) h k a b = absurd k
 rest_zero (fin s m e) (fin t zero d) h k a b = refl
 rest_zero (fin s m e) (fin false (suc n) d) h k a b =
-    let some : 0 < suc n * up d * 1 = mul-pos (mul-pos (zero-lt-suc n) (up_pos d)) (zero-lt-suc 0) in
+    let some = sized n d in
     let yes : ltb (0 * down d) (suc n * up d * 1) ≡ true =
     lt-ltb (0 * down d) (suc n * up d * 1) (subst (λ (z : ℕ). z < suc n * up d * 1) (sym (zero-mul (down d))) some) in
     absurd (true≢false (sym yes ∙ b))
 rest_zero (fin s m e) (fin true (suc n) d) h k a b =
-    let some : 0 < suc n * up d * 1 = mul-pos (mul-pos (zero-lt-suc n) (up_pos d)) (zero-lt-suc 0) in
-    let yes : ltb 0 (suc n * up d * 1 + 0 * down d) ≡ true = lt-ltb 0 (suc n * up d * 1 + 0 * down d) (omega (arith, some)) in
+    let some = sized n d in
+    let yes : ltb 0 (suc n * up d * 1 + 0 * down d) ≡ true =
+    lt-ltb 0 (suc n * up d * 1 + 0 * down d) (omega (arith, some)) in
     absurd (true≢false (sym yes ∙ a))
 
 -- ---- below zero

@@ -4,7 +4,8 @@ use mathlib.Core.Path.{◌≡◌, refl, sym, ap, ◌∙◌, subst}
 use mathlib.Core.Bool.{Bool, true, false, not, cond, true≢false}
 use mathlib.Core.Logic.{◌⊎◌, inl, inr}
 use Prim.Native.Nat.{ℕ, zero, suc, ◌+◌, ◌-◌, ◌*◌, ◌/◌, ◌%◌, ◌^◌, ◌<◌, ◌≤◌}
-use native.Mathlib.Nat.{mul_assoc, mul_comm, mul_right_comm, mul-pos, zero-mul, mod-lt, mod-le, mod-eq_of_lt, div-add-mod}
+use native.Mathlib.Nat.{mul_assoc, mul_comm, mul_right_comm, mul-pos, zero-mul, mod-lt, mod-le, mod-eq_of_lt}
+use native.Mathlib.Nat.{div-add-mod}
 use native.Mathlib.Nat.{le_trans, lt_of_le_of_lt, mul-le-mul_right, lt_of_mul-lt-mul_right, mul-sub}
 use native.Mathlib.Omega.{arith}
 use lib.Dec.{T, eqb, eqb→eq, ltb, ltb→lt, nltb→le}
@@ -12,16 +13,19 @@ use lib.Pow.{pow-add, pow_pos}
 use lib.Ieee.{Float, nan, inf, fin, Format, low, up, down, round, add, sub, neg, sum, rem, fits}
 use lib.Ieee.Fits.{down_pos, round-fits}
 use lib.Ieee.Exact.{HasValue, round_exact}
+use lib.Ieee.Positive.{first_pos}
 use lib.Ieee.Scale.{round_same, finite, overflow}
+use Rattle.std.proofs.lemmas.Float.{T_from_true, T_from_false}
 use Rattle.root.specs.Steps.{steps_in, sign_of}
 use Rattle.root.proofs.StepLaws.{Held, steps_of_lem, steps-held, steps_unique}
+use Rattle.root.proofs.RootLaws.{value_finite, value_sign}
 
 either : (a b : ℕ) → (a ≤ b) ⊎ (b < a)
 either a b = go (ltb b a) refl
   where
     go : (t : Bool) → ltb b a ≡ t → (a ≤ b) ⊎ (b < a)
-    go true e = inr (ltb→lt b a (subst T (sym e) tt))
-    go false e = inl (nltb→le b a (subst (λ (t : Bool). T (not t)) (sym e) tt))
+    go true e = inr (ltb→lt b a (T_from_true (ltb b a) e))
+    go false e = inl (nltb→le b a (T_from_false (ltb b a) e))
 
 -- ---- remainders of whole numbers
 
@@ -60,6 +64,13 @@ mod_twice_above a b h g =
 
 -- ---- which of them are values
 
+-- j times a power of two, by a lower one
+lowered : (j a b : ℕ) → a ≤ b → j * 2 ^ b ≡ j * 2 ^ (b - a) * 2 ^ a
+lowered j a b h =
+    let whole : b ≡ b - a + a = omega (arith, h) in
+    ap (λ (z : ℕ). j * 2 ^ z) whole ∙ ap (λ (z : ℕ). j * z) (pow-add 2 (b - a) a)
+    ∙ sym (mul_assoc j (2 ^ (b - a)) (2 ^ a))
+
 -- the remainder of two numbers of steps that are values is one
 pub held_rest : (f : Format) (X Y : ℕ) → Held f X → Held f Y → 0 < Y → Held f (X % Y)
 held_rest f X Y x y h = go (either x.i y.i)
@@ -72,8 +83,7 @@ held_rest f X Y x y h = go (either x.i y.i)
         let k = y.i - x.i in
         let u = 2 ^ x.i in
         let n = y.j * 2 ^ k in
-        let is : Y ≡ n * u = y.is ∙ ap (λ (z : ℕ). y.j * 2 ^ z) (omega arith) ∙ ap (λ (z : ℕ). y.j * z) (pow-add 2 k x.i)
-        ∙ sym (mul_assoc y.j (2 ^ k) u) in
+        let is : Y ≡ n * u = y.is ∙ lowered y.j x.i y.i g in
         let some : 0 < n = first_pos n u (subst (λ (z : ℕ). 0 < z) is h) in
         record {
           j = x.j % n;
@@ -82,16 +92,11 @@ held_rest f X Y x y h = go (either x.i y.i)
           is = ap (λ (z : ℕ). z % Y) x.is ∙ ap (λ (z : ℕ). (x.j * u) % z) is ∙ mod_times x.j n u some (pow_pos x.i);
           under = under;
         }
-      where
-        first_pos : (n u : ℕ) → 0 < n * u → 0 < n
-        first_pos zero u p = absurd (native.Mathlib.Nat.lt_irrefl 0 (subst (λ (z : ℕ). 0 < z) (zero-mul u) p))
-        first_pos (suc n) u p = native.Mathlib.Nat.zero-lt-suc n
     go (inr g) =
         let k = x.i - y.i in
         let u = 2 ^ y.i in
         let m = x.j * 2 ^ k in
-        let is : X ≡ m * u = x.is ∙ ap (λ (z : ℕ). x.j * 2 ^ z) (omega arith) ∙ ap (λ (z : ℕ). x.j * z) (pow-add 2 k y.i)
-        ∙ sym (mul_assoc x.j (2 ^ k) u) in
+        let is : X ≡ m * u = x.is ∙ lowered x.j y.i x.i (omega (arith, g)) in
         let some : 0 < y.j = first_pos y.j u (subst (λ (z : ℕ). 0 < z) y.is h) in
         record {
           j = m % y.j;
@@ -100,10 +105,6 @@ held_rest f X Y x y h = go (either x.i y.i)
           is = ap (λ (z : ℕ). z % Y) is ∙ ap (λ (z : ℕ). (m * u) % z) y.is ∙ mod_times m y.j u some (pow_pos y.i);
           under = under;
         }
-      where
-        first_pos : (n u : ℕ) → 0 < n * u → 0 < n
-        first_pos zero u p = absurd (native.Mathlib.Nat.lt_irrefl 0 (subst (λ (z : ℕ). 0 < z) (zero-mul u) p))
-        first_pos (suc n) u p = native.Mathlib.Nat.zero-lt-suc n
 
 -- a number of steps that is a value is rounded to itself
 pub round_held : (f : Format) (s : Bool) (n : ℕ) → Held f n → HasValue (round f s n (2 ^ low f)) s n (2 ^ low f)
@@ -112,33 +113,17 @@ round_held f s n h =
     (subst (λ (z : ℕ). z < overflow f) h.is h.under) (ap (λ (z : ℕ). z * 2 ^ low f) h.is)
 
 -- a float is what its own steps are rounded to
-pub own_round : (f : Format) (x : Float) → T (fits f x) → T (finite x) → x ≡ round f (sign_of x) (steps_in f x) (2 ^ low f)
-own_round f x t g = go (round f (sign_of x) (steps_in f x) (2 ^ low f)) refl
-    (round_held f (sign_of x) (steps_in f x) (steps-held f x t g))
-  where
-    go : (r : Float) → round f (sign_of x) (steps_in f x) (2 ^ low f) ≡ r
-        → HasValue (round f (sign_of x) (steps_in f x) (2 ^ low f)) (sign_of x) (steps_in f x) (2 ^ low f)
-        → x ≡ round f (sign_of x) (steps_in f x) (2 ^ low f)
-    go r e v =
-        let z = round f (sign_of x) (steps_in f x) (2 ^ low f) in
-        steps_unique f x z t g (round-fits f (sign_of x) (steps_in f x) (2 ^ low f)) (finite_value z _ _ _ v)
-        (sym (sign_value z _ _ _ v)) (sym (steps_of_lem f z (sign_of x) (steps_in f x) v))
-      where
-        finite_value : (z : Float) (s : Bool) (a c : ℕ) → HasValue z s a c → T (finite z)
-        finite_value nan s a c v = v
-        finite_value (inf r) s a c v = v
-        finite_value (fin r m e) s a c v = tt
-
-        sign_value : (z : Float) (s : Bool) (a c : ℕ) → HasValue z s a c → sign_of z ≡ s
-        sign_value nan s a c v = absurd v
-        sign_value (inf r) s a c v = absurd v
-        sign_value (fin r m e) s a c v = v.0
+pub own_round : (f : Format) (x : Float) → T (fits f x) → T (finite x)
+    → x ≡ round f (sign_of x) (steps_in f x) (2 ^ low f)
+own_round f x t g =
+    let s = sign_of x in
+    let n = steps_in f x in
+    let z = round f s n (2 ^ low f) in
+    let v : HasValue z s n (2 ^ low f) = round_held f s n (steps-held f x t g) in
+    steps_unique f x z t g (round-fits f s n (2 ^ low f)) (value_finite z s n (2 ^ low f) v)
+    (sym (value_sign z s n (2 ^ low f) v)) (sym (steps_of_lem f z s n v))
 
 -- ---- what is computed
-
-pos_of : (a b : ℕ) → 0 < a * b → 0 < a
-pos_of zero b p = absurd (native.Mathlib.Nat.lt_irrefl 0 (subst (λ (z : ℕ). 0 < z) (zero-mul b) p))
-pos_of (suc a) b p = native.Mathlib.Nat.zero-lt-suc a
 
 sub_times : (a b k : ℕ) → (a - b) * k ≡ a * k - b * k
 sub_times a b k = mul_comm (a - b) k ∙ mul-sub k a b ∙ ap (λ (z : ℕ). z - k * b) (mul_comm k a)
@@ -147,7 +132,7 @@ sub_times a b k = mul_comm (a - b) k ∙ mul-sub k a b ∙ ap (λ (z : ℕ). z -
 -- A / C is X / L and B / C is Y / L
 module _ (A B C X Y L : ℕ) (c : 0 < C) (l : 0 < L) (first : A * L ≡ X * C) (second : B * L ≡ Y * C) where
   some_of : 0 < Y → 0 < B
-  some_of h = pos_of B L (subst (λ (z : ℕ). 0 < z) (sym second) (mul-pos h c))
+  some_of h = first_pos B L (subst (λ (z : ℕ). 0 < z) (sym second) (mul-pos h c))
 
   rest_of : 0 < Y → A % B * L ≡ X % Y * C
   rest_of h =
@@ -182,17 +167,19 @@ rem_steps f (fin r m e) nan s t X Y v w h = absurd w
 rem_steps f (fin r m e) (inf q) s t X Y v w h = absurd w
 rem_steps f (fin r m e) (fin q n d) s t X Y v w h =
     go (m * up e * down d) (n * up d * down e) (eqb n 0) refl
-    (crossed (m * up e) X (down d) (down e) (2 ^ low f) v.1) (crossed_left (n * up d) Y (down d) (down e) (2 ^ low f) w.1)
+    (crossed (m * up e) X (down d) (down e) (2 ^ low f) v.1)
+    (crossed_left (n * up d) Y (down d) (down e) (2 ^ low f) w.1)
     (no_part n (up d) (down e))
   where
     C_pos : 0 < down e * down d
     C_pos = mul-pos (down_pos e) (down_pos d)
 
-    go : (A B : ℕ) (b : Bool) → eqb n 0 ≡ b → A * 2 ^ low f ≡ X * (down e * down d) → B * 2 ^ low f ≡ Y * (down e * down d)
-        → (n ≡ 0 → B ≡ 0) → cond b nan (round f r (A % B) (down e * down d)) ≡ round f s (X % Y) (2 ^ low f)
+    go : (A B : ℕ) (b : Bool) → eqb n 0 ≡ b → A * 2 ^ low f ≡ X * (down e * down d)
+        → B * 2 ^ low f ≡ Y * (down e * down d) → (n ≡ 0 → B ≡ 0)
+        → cond b nan (round f r (A % B) (down e * down d)) ≡ round f s (X % Y) (2 ^ low f)
     go A B true q i j none =
         let some = some_of A B (down e * down d) X Y (2 ^ low f) C_pos (pow_pos (low f)) i j h in
-        let z : B ≡ 0 = none (eqb→eq n 0 (subst T (sym q) tt)) in
+        let z : B ≡ 0 = none (eqb→eq n 0 (T_from_true (eqb n 0) q)) in
         absurd (native.Mathlib.Nat.lt_irrefl 0 (subst (λ (z : ℕ). 0 < z) z some))
     go A B false q i j none =
         ap (λ (k : Bool). round f k (A % B) (down e * down d)) v.0
@@ -211,16 +198,18 @@ sub_steps f (fin true m e) (fin q n d) X Y v w h = absurd (true≢false v.0)
 sub_steps f (fin false m e) (fin true n d) X Y v w h = absurd (true≢false w.0)
 sub_steps f (fin false m e) (fin false n d) X Y v w h =
     go (m * up e * down d) (n * up d * down e) (ltb (m * up e * down d) (n * up d * down e)) refl
-    (crossed (m * up e) X (down d) (down e) (2 ^ low f) v.1) (crossed_left (n * up d) Y (down d) (down e) (2 ^ low f) w.1)
+    (crossed (m * up e) X (down d) (down e) (2 ^ low f) v.1)
+    (crossed_left (n * up d) Y (down d) (down e) (2 ^ low f) w.1)
   where
     C_pos : 0 < down e * down d
     C_pos = mul-pos (down_pos e) (down_pos d)
 
-    go : (A B : ℕ) (b : Bool) → ltb A B ≡ b → A * 2 ^ low f ≡ X * (down e * down d) → B * 2 ^ low f ≡ Y * (down e * down d)
+    go : (A B : ℕ) (b : Bool) → ltb A B ≡ b → A * 2 ^ low f ≡ X * (down e * down d)
+        → B * 2 ^ low f ≡ Y * (down e * down d)
         → cond b (round f true (B - A) (down e * down d)) (round f false (A - B) (down e * down d))
         ≡ round f false (X - Y) (2 ^ low f)
     go A B true q i j =
-        absurd (native.Mathlib.Nat.not-le_of_lt (ltb→lt A B (subst T (sym q) tt))
+        absurd (native.Mathlib.Nat.not-le_of_lt (ltb→lt A B (T_from_true (ltb A B) q))
         (ordered A B (down e * down d) X Y (2 ^ low f) C_pos (pow_pos (low f)) i j h))
     go A B false q i j =
         round_same f false (A - B) (down e * down d) (X - Y) (2 ^ low f) C_pos (pow_pos (low f))

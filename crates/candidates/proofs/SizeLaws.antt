@@ -1,5 +1,7 @@
 -- The candidates of a contour with good coordinates lie where every distance is finite. Assumes nothing.
-use Rattle.std.proofs.Common.{◌≡◌, ℕ, suc, ◌+◌, ◌-◌, ◌*◌, ◌<◌, ◌≤◌, min, Bool, true, false, cond, List, [], ◌∷◌, length, get_or, pos, sym, refl, le_trans, le_of_eq, mul-le-mul_right, one-mul, mul-one, arith, lit≤}
+use Rattle.std.proofs.Common.{◌≡◌, ℕ, suc, ◌+◌, ◌-◌, ◌*◌, ◌<◌, ◌≤◌, min, Bool, true, false, cond, List, [], ◌∷◌}
+use Rattle.std.proofs.Common.{length, get_or, pos, sym, refl, le_trans, le_of_eq, mul-le-mul_right, one-mul, mul-one}
+use Rattle.std.proofs.Common.{arith, lit≤}
 use lib.Ieee.{Float, nan, inf, fin, binary64, down, add, sub, mul, div, lt, of_int, of_bits}
 use lib.Ieee.Exact.{HasValue}
 use lib.Ieee.Back.{round_whole}

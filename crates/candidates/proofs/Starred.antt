@@ -1,7 +1,8 @@
 -- The starred candidates of the scope document's square, computed from the definition. Assumes nothing.
 use Rattle.std.proofs.Common.{◌≡◌, false, [], ◌∷◌, get_or, refl}
 use lib.Count.{count_trailing_zeros}
-use lib.Ieee.{add, sub, mul, div, rem, neg, lt, eq, le, of_int, of_bits, of_fields, odd, size, span, climb, round, units}
+use lib.Ieee.{add, sub, mul, div, rem, neg, lt, eq, le, of_int, of_bits, of_fields, odd, size, span, climb, round}
+use lib.Ieee.{units}
 use lib.Ieee.{sum}
 use Rattle.answer.specs.declared.CutDirection.{CutDirection}
 use Rattle.root.specs.Whole.{digits, whole_root, halves}

@@ -1,5 +1,6 @@
 -- The candidates of a contour: where on its boundary, or on the grid beside it, the beam may pierce. Assumes nothing.
-use Rattle.std.specs.Prelude.{ℕ, zero, suc, ◌-◌, min, Bool, cond, List, [], ◌∷◌, ◌++◌, length, replicate, pos, ◌==◌, Float}
+use Rattle.std.specs.Prelude.{ℕ, zero, suc, ◌-◌, min, Bool, cond, List, [], ◌∷◌, ◌++◌, length, replicate, pos, ◌==◌}
+use Rattle.std.specs.Prelude.{Float}
 use Rattle.std.specs.Float.{binary64}
 use Rattle.std.specs.Float.Ieee.{mul, div, rem, lt, of_int}
 use Rattle.answer.specs.declared.Point.{Point}

@@ -17,7 +17,8 @@ use Rattle.grid.specs.Move.{per_mm}
 use Rattle.exact.specs.Grid.{reach, on_grid, units_of, apart}
 use Rattle.exact.proofs.GridLaws.{Difference, size_between, on-grid_value, on-grid_small, apart_small, difference_exact}
 use Rattle.grid_laws.specs.Inside.{Inside}
-use Rattle.grid_laws.proofs.OperationLaws.{Rounded, value_times, value_finite, rounded, rounded_steps}
+use Rattle.grid_laws.proofs.OperationLaws.{Rounded, value_times, rounded, rounded_steps}
+use Rattle.root.proofs.RootLaws.{value_finite}
 use Rattle.grid_laws.proofs.OperationLaws.{in_steps, round-none, add_any, mul_at}
 use Rattle.grid_laws.proofs.ProductLaws.{product, product_room, product_steps, stays, below}
 

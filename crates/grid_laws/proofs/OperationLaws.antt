@@ -18,18 +18,13 @@ use lib.Ieee.Scale.{round_same, finite, grid, overflow}
 use Rattle.root.specs.Steps.{steps_in, sign_of, has_root}
 use Rattle.root.proofs.Negation.{neg-neg}
 use Rattle.root.proofs.StepLaws.{steps_of_lem, minus_zero}
-use Rattle.root.proofs.RootLaws.{value_sign}
+use Rattle.root.proofs.RootLaws.{value_finite, value_sign}
 use Rattle.root.proofs.Rounding.{round-steps, half_ulp, ulp, ulp_le, grid-le}
 use Rattle.grid.proofs.UnitLaws.{no_product}
 use Rattle.exact.proofs.AddLaws.{unscale}
 use Rattle.exact.proofs.GridLaws.{size_between, less-back, over, over_right, sub_at}
 
 -- ---- what a value says
-
-pub value_finite : (x : Float) (s : Bool) (a c : ℕ) → HasValue x s a c → T (finite x)
-value_finite nan s a c h = h
-value_finite (inf t) s a c h = h
-value_finite (fin t m e) s a c h = tt
 
 -- the same fraction in smaller parts
 pub value_times : (x : Float) (s : Bool) (a c k : ℕ) → HasValue x s a c → HasValue x s (a * k) (c * k)

@@ -25,7 +25,12 @@ use Rattle.root.proofs.StepLaws.{steps-held, steps_of_lem, minus_zero, real_fini
 use Rattle.root.proofs.Rounding.{round-steps, grid-le}
 use Rattle.root.proofs.RootSteps.{root_steps, root_of_zero, root-part_under}
 
--- ---- what a value says of its sign
+-- ---- what a value says: that it is finite, and its sign
+
+pub value_finite : (x : Float) (s : Bool) (a c : ℕ) → HasValue x s a c → T (finite x)
+value_finite nan s a c h = h
+value_finite (inf t) s a c h = h
+value_finite (fin t m e) s a c h = tt
 
 pub value_sign : (x : Float) (s : Bool) (a c : ℕ) → HasValue x s a c → sign_of x ≡ s
 value_sign nan s a c h = absurd h

@@ -1,6 +1,8 @@
--- `candidates::left_of` meets its contract: each step is exact, and counts off as much of x as it says. Assumes nothing.
+-- `candidates::left_of` meets its contract: each step is exact, and takes off as much of x as it says. Assumes
+-- nothing.
 use native.Mathlib.Omega.{arith}
-use Rattle.candidates.proofs.RestCases.{Real, rest_below, rest_kept, rest_less, rest_once, twice_real, twice_is, twice_above, doubles, doubles_not, above_steps, nlt→steps}
+use Rattle.candidates.proofs.RestCases.{Real, rest_below, rest_kept, rest_less, rest_once, twice_real, twice_is}
+use Rattle.candidates.proofs.RestCases.{twice_above, doubles, doubles_not, above_steps, nlt→steps}
 use Rattle.candidates.proofs.+left_of.Goals as goal
 
 pub returns-then-x-y : goal.returns-then-x-y

@@ -3,7 +3,8 @@ use mathlib.Core.Path.{ap, ◌∙◌}
 use lib.Dec.{T}
 use lib.Ieee.{binary64, fits, neg}
 use Rattle.grid.proofs.MoveLaws.{above_of_below}
-use Rattle.candidates.proofs.RestCases.{Real, none_own, rest_none, self_finite, rest_whole, rest_zero, real_above, real_not_below, real_neg, rest_minus, rest_by_minus}
+use Rattle.candidates.proofs.RestCases.{Real, none_own, rest_none, self_finite, rest_whole, rest_zero, real_above}
+use Rattle.candidates.proofs.RestCases.{real_not_below, real_neg, rest_minus, rest_by_minus}
 use Rattle.candidates.proofs.rest.Goals as goal
 
 pub returns-then-none : goal.returns-then-none
