@@ -1,5 +1,6 @@
 pub mod StageLaws
 pub mod LowestLaws
+pub mod SearchLaws
 pub mod CodeLaws
 pub mod RoomLaws
 pub mod Truth

@@ -1,11 +1,12 @@
 -- When and where `lowest` finds something: exactly the lowest place below n at which the test holds. Assumes nothing.
+use Rattle.std.specs.Prelude.{None, Some, MatchOption, ◌≤◌}
 use mathlib.Core.Path.{◌≡◌, refl, sym, ap, ◌∙◌, subst}
 use mathlib.Core.Logic.{◌⊎◌, inl, inr, ⊎_elim}
 use mathlib.Core.Bool.{Bool, true, false}
 use Prim.Native.Nat.{ℕ, zero, suc, ◌+◌, ◌<◌}
 use native.Mathlib.Nat.{add-zero, zero-add, add-suc, suc-add, zero-lt-suc, not-suc-le-zero, le_of_suc-le-suc}
 use native.Mathlib.Omega.{arith}
-use Rattle.answer.specs.declared.Found.TheVariants.{At, Absent}
+use Rattle.answer.specs.Answer.{Found}
 use Rattle.answer.specs.Lowest.{lowest_from, lowest}
 
 -- k is the lowest place below n at which the test holds
@@ -19,17 +20,17 @@ abbrev pub Nowhere : (ℕ → Bool) → ℕ → Type 0
 Nowhere test n = (j : ℕ) → j < n → test j ≡ false
 
 from_at : (test : ℕ → Bool) (k n j : ℕ) → j < n → test (k + j) ≡ true → ((i : ℕ) → i < j → test (k + i) ≡ false)
-    → lowest_from test k n ≡ At (k + j)
+    → lowest_from test k n ≡ Some (k + j)
 unfolding lowest_from
 from_at test k zero j h t b = absurd (not-suc-le-zero h)
-from_at test k (suc n) zero h t b = rw (ap test (sym (add-zero k)) ∙ t) (ap At (sym (add-zero k)))
+from_at test k (suc n) zero h t b = rw (ap test (sym (add-zero k)) ∙ t) (ap Some (sym (add-zero k)))
 from_at test k (suc n) (suc j) h t b =
     let e : test k ≡ false = ap test (sym (add-zero k)) ∙ b 0 (zero-lt-suc j) in
     rw (e, add-suc k j, ← suc-add k j)
     (from_at test (suc k) n j (le_of_suc-le-suc h) (ap test (suc-add k j ∙ sym (add-suc k j)) ∙ t)
     (λ i g. ap test (suc-add k i ∙ sym (add-suc k i)) ∙ b (suc i) (omega arith)))
 
-from_none : (test : ℕ → Bool) (k n : ℕ) → ((i : ℕ) → i < n → test (k + i) ≡ false) → lowest_from test k n ≡ Absent
+from_none : (test : ℕ → Bool) (k n : ℕ) → ((i : ℕ) → i < n → test (k + i) ≡ false) → lowest_from test k n ≡ None
 unfolding lowest_from
 from_none test k zero b = refl
 from_none test k (suc n) b =
@@ -38,13 +39,13 @@ from_none test k (suc n) b =
 
 -- ---- where the test first holds, it is found; where it holds nowhere, nothing is
 
-pub at_is : (test : ℕ → Bool) (n k : ℕ) → LowestAt test n k → lowest test n ≡ At k
+pub at_is : (test : ℕ → Bool) (n k : ℕ) → LowestAt test n k → lowest test n ≡ Some k
 unfolding lowest
 at_is test n k h =
     from_at test 0 n k h.within (ap test (zero-add k) ∙ h.holds) (λ i g. ap test (zero-add i) ∙ h.before i g)
-    ∙ ap At (zero-add k)
+    ∙ ap Some (zero-add k)
 
-pub absent_is : (test : ℕ → Bool) (n : ℕ) → Nowhere test n → lowest test n ≡ Absent
+pub absent_is : (test : ℕ → Bool) (n : ℕ) → Nowhere test n → lowest test n ≡ None
 unfolding lowest
 absent_is test n h = from_none test 0 n (λ i g. ap test (zero-add i) ∙ h i g)
 
@@ -63,14 +64,14 @@ search_through test (suc n) = go (search_through test n) (test n) refl
         split : (j : ℕ) → j < suc n → (j ≡ n) ⊎ (j < n)
         split j h = native.Mathlib.Nat.eq-or-lt_of_le (le_of_suc-le-suc h)
 
-pub is_at_lem : (test : ℕ → Bool) (n k : ℕ) → lowest test n ≡ At k → LowestAt test n k
+pub is_at_lem : (test : ℕ → Bool) (n k : ℕ) → lowest test n ≡ Some k → LowestAt test n k
 is_at_lem test n k e = go (search_through test n)
   where
     go : ((j : ℕ) × LowestAt test n j) ⊎ Nowhere test n → LowestAt test n k
     go (inl (j, w)) = let q : j ≡ k = cc (at_is test n j w) in subst (λ (z : ℕ). LowestAt test n z) q w
     go (inr none) = let z : ◌≡◌ {A = ℕ} 0 1 = cc (absent_is test n none) in absurd (omega arith)
 
-pub is_absent : (test : ℕ → Bool) (n : ℕ) → lowest test n ≡ Absent → Nowhere test n
+pub is_absent : (test : ℕ → Bool) (n : ℕ) → lowest test n ≡ None → Nowhere test n
 is_absent test n e = go (search_through test n)
   where
     go : ((j : ℕ) × LowestAt test n j) ⊎ Nowhere test n → Nowhere test n
@@ -91,3 +92,12 @@ lowest_same n test other same = go (search_through test n)
       before = λ j h. sym (same j (omega (arith, w.within))) ∙ w.before j h;
     }))
     go (inr none) = absent_is test n none ∙ sym (absent_is other n (λ j h. sym (same j h) ∙ none j h))
+
+-- ---- as `find` says it over the places below n
+
+pub found_is : (test : ℕ → Bool) (n : ℕ) (f : Found)
+    → MatchOption f ((k : ℕ) → 0 ≤ k → k < n → test k ≡ false)
+    (λ i. (0 ≤ i) × (i < n) × (test i ≡ true) × ((k : ℕ) → 0 ≤ k → k < i → test k ≡ false)) → f ≡ lowest test n
+found_is test n (Some i) h =
+    sym (at_is test n i (record { within = h.1; holds = h.2; before = λ k g. h.3 k (omega arith) g }))
+found_is test n None h = sym (absent_is test n (λ k g. h k (omega arith) g))

@@ -1,5 +1,7 @@
+pub mod Answer
 pub mod Code
+pub mod Fault
 pub mod Stage
 pub mod Lowest
-pub mod Count
 pub mod Room
+pub mod Kinds

@@ -1,51 +1,52 @@
 -- What an answer about bridges holds. Assumes nothing.
+use Rattle.std.specs.Prelude.{Err, Ok}
 use mathlib.Core.Path.{◌≡◌, refl, sym, ap, ◌∙◌}
 use mathlib.Core.List.{List}
-use Prim.Native.Nat.{◌≤◌}
+use Prim.Native.Nat.{ℕ, ◌≤◌}
+use native.Mathlib.Omega.{arith}
 use lib.ListN.{length, take}
 use lib.Ieee.{Float}
-use Rattle.answer.specs.declared.Check.{Check}
-use Rattle.answer.specs.declared.Check.TheVariants.{Fine, Refused}
+use Rattle.answer.specs.Answer.{Check, unless}
 use Rattle.answer.proofs.RoomLaws.{padded-length, padded_front}
 use Rattle.points.specs.Points.{points}
 use Rattle.bridge.specs.declared.Bridge.{Bridge}
-use Rattle.bridge.specs.declared.Bridges.{Bridges}
 use Rattle.bridge.specs.Limits.{bridge_limit}
 use Rattle.bridge.specs.Lookup.{marks}
 use Rattle.bridge.specs.Create.{bridges_at, blank}
-use Rattle.bridge.specs.Question.{half_of, bridge_check, filled, without, unless, bridges_of}
+use Rattle.bridge.specs.Question.{half_of, bridge_check, Bridges, filled, bridges_of}
 use Rattle.bridge.proofs.FillLaws.{bridges_length}
 use Rattle.bridge.proofs.QuestionLaws.{fine_few}
-
-check-told : (c : Check) (l : List Bridge) → (unless c l).check ≡ c
-unfolding filled without
-check-told Fine l = refl
-check-told (Refused r) l = refl
 
 module _ (numbers : List Float) (width : Float) (centres : List Float) where
   abbrev all : List Bridge
   all = bridges_at (points numbers) (marks (points numbers)) (half_of width) centres
 
-  -- the check told is the question's
-  pub checked : (bridges_of numbers width centres).check ≡ bridge_check numbers width centres
+  -- the check told is the question's: what that refuses is refused so, and nothing else
+  pub checked : bridges_of numbers width centres ≡ unless (bridge_check numbers width centres) (filled all)
   unfolding bridges_of
-  checked = check-told (bridge_check numbers width centres) all
+  checked = refl
 
-  pub accepted : bridge_check numbers width centres ≡ Fine → bridges_of numbers width centres ≡ filled all
+  pub accepted : bridge_check numbers width centres ≡ Ok tt → bridges_of numbers width centres ≡ Ok (filled all)
   unfolding bridges_of
   accepted e = rw e
 
-  -- where nothing is wrong: as many as there may be at most, in a room of that size, of which they are the front
-  module _ (a : Bridges) (is : a ≡ bridges_of numbers width centres) (fine : a.check ≡ Fine) where
-    fine_check : bridge_check numbers width centres ≡ Fine
-    fine_check = sym checked ∙ sym (ap (λ (b : Bridges). b.check) is) ∙ fine
+  -- there are bridges exactly where nothing is wrong
+  pub told_fine : (a : Bridges) → bridges_of numbers width centres ≡ Ok a → bridge_check numbers width centres ≡ Ok tt
+  unfolding bridges_of
+  told_fine a = go (bridge_check numbers width centres)
+    where
+      go : (c : Check) → unless c (filled all) ≡ Ok a → c ≡ Ok (tt {0})
+      go (Ok _) e = refl
+      go (Err r) e = let z : ◌≡◌ {A = ℕ} 0 1 = cc in absurd (omega arith)
 
+  -- then: as many as there may be at most, in a room of that size, of which they are the front
+  module _ (a : Bridges) (is : bridges_of numbers width centres ≡ Ok a) where
     handed : a ≡ filled all
-    handed = is ∙ accepted fine_check
+    handed = let e = sym (accepted (told_fine a is)) ∙ is in cc
 
     few : length all ≤ bridge_limit
     few = rw (bridges_length (points numbers) (marks (points numbers)) (half_of width) centres centres)
-        (fine_few numbers width centres fine_check)
+        (fine_few numbers width centres (told_fine a is))
 
     pub count_fits : a.count ≤ bridge_limit
     unfolding filled

@@ -9,7 +9,6 @@ use lib.ListN.{length, get_or, take, set, replicate, length-map, get_or-append, 
 use lib.Seq.{take-suc, take_all, length-take-le}
 use lib.Ieee.{Float, nan}
 use Rattle.answer.specs.declared.Point.{Point}
-use Rattle.answer.specs.declared.Check.TheVariants.{Fine}
 use Rattle.answer.specs.Room.{padded}
 use Rattle.answer.proofs.RoomLaws.{any_default, padded-length, padded-one}
 use Rattle.bridge.specs.declared.Bridge.{Bridge}
@@ -52,17 +51,15 @@ module _ (ps : List Point) (ms : List Float) (half : Float) (centres : List Floa
       (sym (take-suc centres k nan h) ∙ ap (λ (n : ℕ). take n centres) (sym (add-one k)))
 
   pub room_full : (k : ℕ) → k ≡ length centres
-      → record { check = Fine; items = room k; count = length centres } ≡ filled (bridges_at ps ms half centres)
+      → record { items = room k; count = length centres } ≡ filled (bridges_at ps ms half centres)
   unfolding filled
   room_full k e =
       let all : take k centres ≡ centres = take_all k centres (omega arith) in
       ap (λ (l : List Float). record {
-        check = Fine;
         items = padded bridge_limit blank (bridges_at ps ms half l);
         count = length centres;
       }) all
       ∙ ap (λ (n : ℕ). record {
-        check = Fine;
         items = padded bridge_limit blank (bridges_at ps ms half centres);
         count = n;
       }) (sym (bridges_length centres))
@@ -83,7 +80,6 @@ places ps half centres =
     let n = length l in
     let long = bridges_length ps (marks ps) half centres centres in
     record {
-      check = refl;
       size = λ few. padded-length bridge_limit blank l (rw long few);
       count = long;
       bridge = λ i h. get_or-append l (replicate (bridge_limit - n) blank) blank i (rw long h)

@@ -11,7 +11,7 @@ use lib.ListN.{length, get_or, take, set, replicate}
 use lib.Seq.{take-suc, take_all, length-take-le}
 use lib.Ieee.{Float, nan, binary64, add, sub, div, lt}
 use Rattle.answer.specs.declared.Point.{Point}
-use Rattle.answer.specs.declared.Found.{Found}
+use Rattle.answer.specs.Answer.{Found}
 use Rattle.answer.specs.Lowest.{lowest}
 use Rattle.answer.specs.Room.{padded}
 use Rattle.answer.proofs.RoomLaws.{padded-length, padded_front, padded-one}
@@ -77,16 +77,6 @@ whole_is ps =
     let e : length (marks_from zero64 (edges ps)) - 1 ≡ length (edges ps) =
     omega (arith, from_length zero64 (edges ps)) in
     ap (λ (k : ℕ). mark_at (marks_from zero64 (edges ps)) k) e ∙ from_last zero64 (edges ps)
-
--- without marks the last one is none
-pub no_marks : (ms : List Float) → length ms ≡ 0 → mark_at ms 0 ≡ whole_of ms
-no_marks [] h = refl
-no_marks (m ∷ ms) h = absurd (omega arith)
-
--- what the code asks of edge k
-pub falls_here : (ms : List Float) (d : Float) (k : ℕ) (b : Bool) → reaches d (mark_at ms k) (mark_at ms (k + 1)) ≡ b
-    → falls_on ms d k ≡ b
-falls_here ms d k b e = rw add-one at e
 
 -- ---- how the marks come to stand in their room
 

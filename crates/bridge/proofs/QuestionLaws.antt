@@ -1,5 +1,6 @@
 -- Which of its cases a question's check is in. Assumes nothing.
-use mathlib.Core.Path.{◌≡◌, refl}
+use Rattle.std.specs.Prelude.{Err, Ok, Some}
+use mathlib.Core.Path.{◌≡◌, refl, sym}
 use mathlib.Core.Bool.{Bool, true, false, not, or-true}
 use mathlib.Core.List.{List}
 use Prim.Native.Nat.{ℕ, ◌+◌, ◌/◌, ◌≤◌, ◌<◌}
@@ -8,9 +9,7 @@ use borrow.Author.Tests.{ltb-false}
 use lib.Dec.{ltb}
 use lib.ListN.{length}
 use lib.Ieee.{Float, nan, inf, fin, div, lt, of_bits}
-use Rattle.answer.specs.declared.Check.{Check}
-use Rattle.answer.specs.declared.Check.TheVariants.{Fine, Refused}
-use Rattle.answer.specs.declared.Found.TheVariants.{At}
+use Rattle.answer.specs.Answer.{Check}
 use Rattle.answer.specs.Lowest.{refuse_at, refuse_if}
 use Rattle.answer.specs.Stage.{or_else, first_refusal}
 use Rattle.answer.proofs.Truth.{or-none}
@@ -47,34 +46,43 @@ pub too_wide : (whole width : Float) → lt (half_of width) whole ≡ false → 
 unfolding bad_width
 too_wide whole width h = rw (h, or-true (not (lt zero64 width)), or-true (not (finite width)))
 
+-- of a width above 0, as the code asks it
+pub wide_or_not : (whole width : Float) → lt zero64 width ≡ true
+    → not (lt (half_of width) whole) ≡ bad_width whole width
+wide_or_not whole width a = go (lt (half_of width) whole) refl
+  where
+    go : (b : Bool) → lt (half_of width) whole ≡ b → not b ≡ bad_width whole width
+    go true h = sym (width_fits whole width a h)
+    go false h = sym (too_wide whole width h)
+
 pub not-above : (whole width : Float) → lt zero64 width ≡ false → bad_width whole width ≡ true
 unfolding bad_width
 not-above whole width h = rw (h, or-true (not (finite width)))
 
 -- ---- centres
 
-pub off_within : (whole : Float) (centres : List Float) (k : ℕ) → first_off whole centres ≡ At k → k < length centres
+pub off_within : (whole : Float) (centres : List Float) (k : ℕ) → first_off whole centres ≡ Some k → k < length centres
 unfolding first_off
 off_within whole centres k e = (is_at_lem _ _ _ e).within
 
 -- ---- a question with nothing wrong
 
 -- neither of two checks in a row refuses
-or_else-first : (a b : Check) → or_else a b ≡ Fine → a ≡ Fine
-or_else-first Fine b e = refl
-or_else-first (Refused r) b e = e
+or_else-first : (a b : Check) → or_else a b ≡ Ok tt → a ≡ Ok tt
+or_else-first (Ok _) b e = refl
+or_else-first (Err r) b e = e
 
-or_else-second : (a b : Check) → or_else a b ≡ Fine → b ≡ Fine
-or_else-second Fine b e = e
-or_else-second (Refused r) b e = let z : ◌≡◌ {A = ℕ} 0 1 = cc in absurd (omega arith)
+or_else-second : (a b : Check) → or_else a b ≡ Ok tt → b ≡ Ok tt
+or_else-second (Ok _) b e = e
+or_else-second (Err r) b e = let z : ◌≡◌ {A = ℕ} 0 1 = cc in absurd (omega arith)
 
 -- a test that is not refused fails
-not-refused : (b : Bool) (number place : ℕ) → refuse_if b number place ≡ Fine → b ≡ false
+not-refused : (b : Bool) (number place : ℕ) → refuse_if b number place ≡ Ok tt → b ≡ false
 not-refused false number place e = refl
 not-refused true number place e = let z : ◌≡◌ {A = ℕ} 0 1 = cc in absurd (omega arith)
 
 module _ (numbers : List Float) (width : Float) (centres : List Float)
-    (fine : bridge_check numbers width centres ≡ Fine) where
+    (fine : bridge_check numbers width centres ≡ Ok tt) where
   pub fine_few : length centres ≤ bridge_limit
   unfolding bridge_check
   fine_few =
@@ -89,6 +97,6 @@ module _ (numbers : List Float) (width : Float) (centres : List Float)
       (or_else-second (refuse_if (ltb bridge_limit (length centres)) 13 bridge_limit)
       (or_else (contour_check numbers) (way_check (perimeter_of (points numbers)) width centres)) fine) in
       let sized = or_else-first (refuse_if (outside vertex_limit v) 6 v)
-      (or_else (refuse_at 8 (first_bad numbers v)) Fine) contour in
+      (or_else (refuse_at 8 (first_bad numbers v)) (Ok tt)) contour in
       let within = (or-none (ltb v 1) (ltb vertex_limit v) (not-refused (outside vertex_limit v) 6 v sized)).1 in
       omega (arith, ltb-false vertex_limit v within)

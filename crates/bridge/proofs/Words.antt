@@ -1,4 +1,5 @@
 -- The refusals of a question about bridges in words, an answer's places, and what the lookups find. Assumes nothing.
+use Rattle.std.specs.Prelude.{Err, None, Ok, Some}
 use mathlib.Core.Path.{◌≡◌, ◌∙◌}
 use mathlib.Core.Bool.{Bool, true, false, not, ◌&&◌}
 use mathlib.Core.Logic.{◌⊎◌, inl, inr}
@@ -10,9 +11,7 @@ use lib.Dec.{ltb}
 use lib.ListN.{length, get_or}
 use lib.Ieee.{Float, nan, binary64, rem, lt, le}
 use Rattle.answer.specs.declared.Point.{Point}
-use Rattle.answer.specs.declared.Check.{Check}
-use Rattle.answer.specs.declared.Check.TheVariants.{Fine, Refused}
-use Rattle.answer.specs.declared.Found.TheVariants.{At, Absent}
+use Rattle.answer.specs.Answer.{Check}
 use Rattle.answer.specs.Lowest.{lowest}
 use Rattle.answer.specs.Stage.{first_refusal}
 use Rattle.answer.proofs.LowestLaws.{LowestAt, Nowhere, at_is, absent_is, search_through}
@@ -25,7 +24,7 @@ use Rattle.candidates.specs.Along.{last_spot}
 use Rattle.candidates.specs.Question.{outside, contour_check}
 use Rattle.bridge.specs.Limits.{bridge_limit}
 use Rattle.bridge.specs.Lookup.{marks, mark_at, whole_of, falls_on, edge_on, spot_by, spot_on}
-use Rattle.bridge.specs.Question.{half_of, bad_width, off_the_way, first_off, way_check, bridge_check, without}
+use Rattle.bridge.specs.Question.{half_of, bad_width, off_the_way, first_off, way_check, bridge_check}
 use Rattle.bridge.specs.Question.{bridges_of}
 use Rattle.bridge.specs.Words as words
 use Rattle.bridge.specs.Words.{vertex_count, way_of, Sized, Good, Long, Fits, On}
@@ -35,7 +34,7 @@ use Rattle.bridge.proofs.AnswerLaws.{accepted}
 use Rattle.bridge.proofs.QuestionLaws.{width_fits, too_wide, not-above, narrow_finite}
 
 abbrev told : ℕ → ℕ → Check
-told number place = Refused (record { number = number; place = place })
+told number place = Err (record { number = number; place = place })
 
 -- ---- the contour
 
@@ -61,7 +60,7 @@ module _ (numbers : List Float) where
     first_bad_lem k h b e =
         rw (in_range, at_is (bad_at numbers) (vertex_count numbers) k (record { within = h; holds = b; before = e }))
 
-    none_bad : Good numbers → contour_check numbers ≡ Fine
+    none_bad : Good numbers → contour_check numbers ≡ Ok tt
     unfolding contour_check first_refusal first_bad
     none_bad g = rw (in_range, absent_is (bad_at numbers) (vertex_count numbers) g)
 
@@ -119,7 +118,7 @@ module _ (numbers : List Float) (width : Float) (centres : List Float) where
         rw (h, fits_so f, found)
 
     way_fine : ((j : ℕ) → j < length centres → On numbers (get_or centres j nan))
-        → way_check (way_of numbers) width centres ≡ Fine
+        → way_check (way_of numbers) width centres ≡ Ok tt
     unfolding way_check first_refusal first_off
     way_fine on =
         let test : ℕ → Bool = λ k. off_the_way (way_of numbers) (get_or centres k nan) in
@@ -138,13 +137,13 @@ module _ (numbers : List Float) (width : Float) (centres : List Float) where
     unfolding bridge_check
     by_contour number place e = rw (le-ltb bridge_limit (length centres) few, e)
 
-    by_way : contour_check numbers ≡ Fine → bridge_check numbers width centres ≡ way_check (way_of numbers) width centres
+    by_way : contour_check numbers ≡ Ok tt → bridge_check numbers width centres ≡ way_check (way_of numbers) width centres
     unfolding bridge_check
     by_way e = rw (le-ltb bridge_limit (length centres) few, e)
 
   refused : (number place : ℕ) → bridge_check numbers width centres ≡ told number place
       → bridges_of numbers width centres ≡ words.back number place
-  unfolding bridges_of without
+  unfolding bridges_of
   refused number place e = rw e
 
   answers : words.Answers numbers width centres
@@ -164,12 +163,12 @@ module _ (ps : List Point) (d : Float) where
   count = omega (arith, marks-length ps)
 
   found_on : (k : ℕ) → k < length ps → falls_on (marks ps) d k ≡ true
-      → ((j : ℕ) → j < k → falls_on (marks ps) d j ≡ false) → edge_on (marks ps) d ≡ At k
+      → ((j : ℕ) → j < k → falls_on (marks ps) d j ≡ false) → edge_on (marks ps) d ≡ Some k
   unfolding edge_on
   found_on k h t b =
       rw count (at_is (falls_on (marks ps) d) (length ps) k (record { within = h; holds = t; before = b }))
 
-  found_off : ((j : ℕ) → j < length ps → falls_on (marks ps) d j ≡ false) → edge_on (marks ps) d ≡ Absent
+  found_off : ((j : ℕ) → j < length ps → falls_on (marks ps) d j ≡ false) → edge_on (marks ps) d ≡ None
   unfolding edge_on
   found_off b = rw count (absent_is (falls_on (marks ps) d) (length ps) b)
 

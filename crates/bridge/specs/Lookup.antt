@@ -1,10 +1,9 @@
 -- The place at a distance along the way around a contour, and the edge that it is on. Assumes nothing.
-use Rattle.std.specs.Prelude.{Bool, cond, List, [], ◌∷◌, ℕ, suc, ◌-◌, length, get_or, Float}
+use Rattle.std.specs.Prelude.{Bool, cond, List, [], ◌∷◌, ℕ, suc, ◌-◌, length, get_or, Float, None, Some}
 use Rattle.std.specs.Float.{nan, binary64}
 use Rattle.std.specs.Float.Ieee.{add, sub, div, rem, lt}
 use Rattle.answer.specs.declared.Point.{Point}
-use Rattle.answer.specs.declared.Found.{Found}
-use Rattle.answer.specs.declared.Found.TheVariants.{At, Absent}
+use Rattle.answer.specs.Answer.{Found}
 use Rattle.answer.specs.Lowest.{lowest}
 use Rattle.points.specs.declared.Ends.{Ends}
 use Rattle.points.specs.Points.{no_ends, edges}
@@ -48,8 +47,8 @@ held_on d k before e =
 
 -- on the edge found, or the last vertex where there is none
 abbrev pub spot_by : List Point → List Float → Float → Found → Spot
-spot_by ps ms d (At k) = held_on d k (mark_at ms k) (get_or (edges ps) k no_ends)
-spot_by ps ms d Absent = last_spot ps
+spot_by ps ms d (Some k) = held_on d k (mark_at ms k) (get_or (edges ps) k no_ends)
+spot_by ps ms d None = last_spot ps
 
 -- the place at a distance, counted on around the way
 unfoldable pub spot_on : List Point → List Float → Float → Spot

@@ -1,20 +1,17 @@
 -- The bridges of a contour, for whoever asks. Assumes nothing.
-use Rattle.std.specs.Prelude.{Bool, true, false, not, ◌&&◌, ◌||◌, List, [], ◌∷◌, ◌+◌, ltb, length, get_or, Float}
+use Rattle.std.specs.Prelude.{Bool, true, false, not, ◌&&◌, ◌||◌, List, [], ◌∷◌, ◌+◌, ltb, length, get_or, Float, None, Some}
 use Rattle.std.specs.Float.{nan, inf, fin, binary64}
 use Rattle.std.specs.Float.Ieee.{div, lt, le, of_bits}
-use Rattle.answer.specs.declared.Check.{Check}
-use Rattle.answer.specs.declared.Check.TheVariants.{Fine, Refused}
-use Rattle.answer.specs.declared.Found.{Found}
-use Rattle.answer.specs.declared.Found.TheVariants.{At, Absent}
+use Rattle.answer.specs.Answer.{Answer, Check, Found, unless}
 use Rattle.answer.specs.Lowest.{lowest, refuse_at, refuse_if}
 use Rattle.answer.specs.Stage.{or_else, first_refusal}
-use Rattle.answer.specs.Room.{padded}
+use Rattle.answer.specs.declared.Listed.{Listed}
+use Rattle.answer.specs.Room.{listed}
 use Rattle.points.specs.Points.{points}
 use Rattle.points.specs.Numbers.{zero64, tiny}
 use Rattle.candidates.specs.Along.{perimeter_of}
 use Rattle.candidates.specs.Question.{contour_check}
 use Rattle.bridge.specs.declared.Bridge.{Bridge}
-use Rattle.bridge.specs.declared.Bridges.{Bridges}
 use Rattle.bridge.specs.Limits.{bridge_limit}
 use Rattle.bridge.specs.Lookup.{marks}
 use Rattle.bridge.specs.Create.{bridges_at, blank}
@@ -45,8 +42,8 @@ first_off whole centres = lowest (λ k. off_the_way whole (get_or centres k nan)
 
 -- a place counted on by two
 abbrev pub after_width : Found → Found
-after_width (At k) = At (2 + k)
-after_width Absent = Absent
+after_width (Some k) = Some (2 + k)
+after_width None = None
 
 -- a way under 1e-12 is 18 at 0; then the width is 18 at 1; then the first centre i off the way is 18 at 2 + i
 unfoldable pub way_check : Float → Float → List Float → Check
@@ -61,19 +58,13 @@ bridge_check numbers width centres =
     (or_else (contour_check numbers) (way_check (perimeter_of (points numbers)) width centres))
 
 -- bridges as they are handed out
+abbrev pub Bridges : Type 0
+Bridges = Listed Bridge bridge_limit
+
 unfoldable pub filled : List Bridge → Bridges
-filled l = record { check = Fine; items = padded bridge_limit blank l; count = length l }
+filled l = listed bridge_limit blank l
 
--- none, and why
-unfoldable pub without : Check → Bridges
-without check = record { check = check; items = padded bridge_limit blank []; count = 0 }
-
--- the bridges, unless the check refuses
-abbrev pub unless : Check → List Bridge → Bridges
-unless Fine l = filled l
-unless (Refused r) l = without (Refused r)
-
-unfoldable pub bridges_of : List Float → Float → List Float → Bridges
+unfoldable pub bridges_of : List Float → Float → List Float → Answer Bridges
 bridges_of numbers width centres =
     let ps = points numbers in
-    unless (bridge_check numbers width centres) (bridges_at ps (marks ps) (half_of width) centres)
+    unless (bridge_check numbers width centres) (filled (bridges_at ps (marks ps) (half_of width) centres))

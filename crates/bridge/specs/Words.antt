@@ -1,21 +1,19 @@
 -- The refusals of a question about bridges in words, each where those before it do not apply, and what the others get;
 -- and what the marks and the edges found are. Assumes nothing.
-use Rattle.std.specs.Prelude.{◌≡◌, true, false, ◌⊎◌, List, ℕ, suc, ◌+◌, ◌/◌, ◌≤◌, ◌<◌, length, get_or, replicate, Float}
+use Rattle.std.specs.Prelude.{◌≡◌, true, false, ◌⊎◌, List, ℕ, suc, ◌+◌, ◌/◌, ◌≤◌, ◌<◌, length, get_or, Float, Err, None, Ok, Some}
 use Rattle.std.specs.Float.{nan, binary64}
 use Rattle.std.specs.Float.Ieee.{add, lt, le}
 use Rattle.answer.specs.declared.Point.{Point}
-use Rattle.answer.specs.declared.Check.TheVariants.{Fine, Refused}
-use Rattle.answer.specs.declared.Found.TheVariants.{At, Absent}
+use Rattle.answer.specs.Answer.{Answer}
 use Rattle.fields.specs.Limits.{vertex_limit}
 use Rattle.points.specs.Points.{no_ends, points, edges}
 use Rattle.points.specs.Numbers.{zero64, tiny}
 use Rattle.points.specs.Bad.{bad_at}
 use Rattle.candidates.specs.Along.{edge_length, perimeter_of, spot_at}
-use Rattle.bridge.specs.declared.Bridges.{Bridges}
 use Rattle.bridge.specs.Limits.{bridge_limit}
 use Rattle.bridge.specs.Lookup.{marks, mark_at, whole_of, falls_on, edge_on, spot_by, spot_on}
 use Rattle.bridge.specs.Create.{bridge_at, bridges_at, blank}
-use Rattle.bridge.specs.Question.{half_of, finite, filled, bridges_of}
+use Rattle.bridge.specs.Question.{half_of, finite, Bridges, filled, bridges_of}
 
 -- ---- what is asked of a question
 
@@ -51,14 +49,9 @@ pub record On (numbers : List Float) (c : Float) : Type 0 where
 
 -- ---- the refusals
 
--- this refusal, and all places blank
-abbrev pub back : ℕ → ℕ → Bridges
-back number place =
-    record {
-      check = Refused (record { number = number; place = place });
-      items = replicate bridge_limit blank;
-      count = 0;
-    }
+-- this refusal
+abbrev pub back : ℕ → ℕ → Answer Bridges
+back number place = Err (record { number = number; place = place })
 
 pub record Answers (numbers : List Float) (width : Float) (centres : List Float) : Type 0 where
   -- more centres than there may be: 13, whatever else
@@ -83,14 +76,13 @@ pub record Answers (numbers : List Float) (width : Float) (centres : List Float)
   pub fine : length centres ≤ bridge_limit → Sized numbers → Good numbers → Long numbers → Fits numbers width
       → ((j : ℕ) → j < length centres → On numbers (get_or centres j nan))
       → bridges_of numbers width centres
-      ≡ filled (bridges_at (points numbers) (marks (points numbers)) (half_of width) centres)
+      ≡ Ok (filled (bridges_at (points numbers) (marks (points numbers)) (half_of width) centres))
 
 -- ---- the places of an answer
 
--- nothing is wrong; there are as many places as there may be bridges; place i has centre i's bridge, and from the count
+-- there are as many places as there may be bridges; place i has centre i's bridge, and from the count
 -- on they are blank
 pub record Places (ps : List Point) (half : Float) (centres : List Float) : Type 0 where
-  pub check : (filled (bridges_at ps (marks ps) half centres)).check ≡ Fine
   pub size : length centres ≤ bridge_limit → length (filled (bridges_at ps (marks ps) half centres)).items ≡ bridge_limit
   pub count : (filled (bridges_at ps (marks ps) half centres)).count ≡ length centres
   pub bridge : (i : ℕ) → i < length centres
@@ -109,8 +101,8 @@ pub record Looked (ps : List Point) : Type 0 where
   pub whole : whole_of (marks ps) ≡ perimeter_of ps
   -- the first edge that a distance falls on, or none
   pub on : (d : Float) (k : ℕ) → k < length ps → falls_on (marks ps) d k ≡ true
-      → ((j : ℕ) → j < k → falls_on (marks ps) d j ≡ false) → edge_on (marks ps) d ≡ At k
-  pub off : (d : Float) → ((j : ℕ) → j < length ps → falls_on (marks ps) d j ≡ false) → edge_on (marks ps) d ≡ Absent
+      → ((j : ℕ) → j < k → falls_on (marks ps) d j ≡ false) → edge_on (marks ps) d ≡ Some k
+  pub off : (d : Float) → ((j : ℕ) → j < length ps → falls_on (marks ps) d j ≡ false) → edge_on (marks ps) d ≡ None
   -- the edge told is one of the contour's, whatever the distance
   pub within : 0 < length ps → (distance : Float) → (spot_on ps (marks ps) distance).vertex < length ps
   -- and it is the vertex that a candidate there would have

@@ -10,9 +10,9 @@ ghost use Rattle.points.specs.Numbers.{zero64};
 ghost use Rattle.bridge.specs.Limits.{bridge_limit, mark_limit};
 ghost use Rattle.bridge.specs.Lookup.{marks, mark_at, whole_of, edge_on, held_on, spot_on};
 ghost use Rattle.bridge.specs.Create.{place_on, bridge_at, bridges_at, blank};
-ghost use Rattle.bridge.specs.Question.{half_of, bad_width, off_the_way, first_off, way_check, bridge_check, filled, without, bridges_of};
+ghost use Rattle.bridge.specs.Question.{half_of, bad_width, off_the_way, first_off, way_check, bridge_check, filled, bridges_of};
 
-use answer::{Check, Found, Point};
+use answer::{Fault, Listed, Point, Refusal};
 use candidates::Spot;
 use fields::VERTICES;
 use points::{Ends, TINY};
@@ -33,13 +33,8 @@ pub struct Bridge {
     pub t: f64,
 }
 
-// A contour's bridges, the first `count` of the items, or why there are none.
-#[derive(Clone, Copy)]
-pub struct Bridges {
-    pub check: Check,
-    pub items: [Bridge; BRIDGES],
-    pub count: usize,
-}
+// A contour's bridges.
+pub type Bridges = Listed<Bridge, BRIDGES>;
 
 // ---- the two lookups
 
@@ -48,14 +43,11 @@ fn marks_of(numbers: &[f64]) -> [f64; MARKS]
     requires { length numbers.now / 2 ≤ vertex_limit }
     ensures { result ≡ padded mark_limit zero64 (marks (points numbers.now)) }
 {
-    let n = numbers.len() / 2;
     let mut marks = [0.0; MARKS];
     let mut sum = 0.0;
-    let mut k = 0;
-    while k < n {
-        sum = sum + candidates::length_of(points::edge_at(numbers, k));
-        k += 1;
-        marks[k] = sum;
+    for k in 0..numbers.len() / 2 {
+        sum += candidates::length_of(points::edge_at(numbers, k));
+        marks[k + 1] = sum;
     }
     marks
 }
@@ -64,34 +56,25 @@ fn marks_of(numbers: &[f64]) -> [f64; MARKS]
 fn mark_at(marks: &[f64], k: usize) -> f64
     ensures { result ≡ mark_at marks.now k }
 {
-    if k < marks.len() {
-        return marks[k];
-    }
-    0.0 / 0.0
+    marks.get(k).copied().unwrap_or(f64::NAN)
 }
 
 // The length of the whole way: the last mark.
 fn whole_of(marks: &[f64]) -> f64
     ensures { result ≡ whole_of marks.now }
 {
-    if marks.len() == 0 {
-        return mark_at(marks, 0);
-    }
-    mark_at(marks, marks.len() - 1)
+    marks.last().copied().unwrap_or(f64::NAN)
 }
 
 // The first edge that the distance d falls on.
-fn edge_on(marks: &[f64], d: f64) -> Found
+fn edge_on(marks: &[f64], d: f64) -> Option<usize>
     ensures { result ≡ edge_on marks.now d }
 {
-    let mut k = 0;
-    while k + 1 < marks.len() {
-        if candidates::on_the_way(d, marks[k], marks[k + 1]) {
-            return Found::At(k);
-        }
-        k += 1;
-    }
-    Found::Absent
+    (0..marks.len().saturating_sub(1)).find(|&k| candidates::on_the_way(
+        d,
+        mark_at(marks, k),
+        mark_at(marks, k + 1),
+    ))
 }
 
 // The place at the distance d on edge k, which begins at `before`: at a share of the edge that is held to 0 to 1.
@@ -99,17 +82,12 @@ fn held_on(d: f64, k: usize, before: f64, e: Ends) -> Spot
     ensures { result ≡ held_on d k before e }
 {
     let length = candidates::length_of(e);
-    if length < TINY {
-        let start = e.start;
-        return Spot {
-            point: start,
-            vertex: k,
-        };
-    }
-    Spot {
-        point: points::along(e, cost::clamp((d - before) / length)),
-        vertex: k,
-    }
+    let point = if length < TINY {
+        e.start
+    } else {
+        points::along(e, cost::clamp((d - before) / length))
+    };
+    Spot { point, vertex: k }
 }
 
 // The place at a distance along the way, counted on around it, with its edge; the last vertex where the distance falls on no edge.
@@ -118,8 +96,8 @@ fn spot_on(numbers: &[f64], marks: &[f64], distance: f64) -> Spot
 {
     let d = distance % whole_of(marks);
     match edge_on(marks, d) {
-        Found::At(k) => held_on(d, k, mark_at(marks, k), points::edge_at(numbers, k)),
-        Found::Absent => candidates::last_spot(numbers),
+        Some(k) => held_on(d, k, mark_at(marks, k), points::edge_at(numbers, k)),
+        None => candidates::last_spot(numbers),
     }
 }
 
@@ -131,9 +109,10 @@ fn place_on(length: f64, before: f64, c: f64) -> f64
     ensures { result ≡ place_on length before c }
 {
     if TINY < length {
-        return (c - before) / length;
+        (c - before) / length
+    } else {
+        0.0
     }
-    0.0
 }
 
 // The bridge with its centre at the distance c.
@@ -146,20 +125,17 @@ fn bridge_at(numbers: &[f64], marks: &[f64], half: f64, c: f64) -> Bridge
     let between = spot_on(numbers, marks, c);
     let edge = between.vertex;
     let length = candidates::length_of(points::edge_at(numbers, edge));
-    let t = place_on(length, mark_at(marks, edge), c);
-    let start = first.point;
-    let end = last.point;
-    let middle = between.point;
     Bridge {
-        start,
-        end,
-        middle,
+        start: first.point,
+        end: last.point,
+        middle: between.point,
         edge,
-        t,
+        t: place_on(length, mark_at(marks, edge), c),
     }
 }
 
-// What stands in the places that are not used.
+// What stands in the places that are not used. A function and no const, since its wrong program is to be refused in the function that
+// it changes (gate/refusals.sh).
 fn blank() -> Bridge
     ensures { result ≡ blank }
 {
@@ -186,81 +162,51 @@ fn half_of(width: f64) -> f64
 fn bad_width(whole: f64, width: f64) -> bool
     ensures { result ≡ bad_width whole width }
 {
-    if 0.0 < width {
-        if half_of(width) < whole {
-            return false;
-        }
-    }
-    true
+    !(0.0 < width && half_of(width) < whole)
 }
 
 // Whether no bridge can have its centre there on a way of this length.
 fn off_the_way(whole: f64, c: f64) -> bool
     ensures { result ≡ off_the_way whole c }
 {
-    if 0.0 <= c {
-        if c < whole {
-            return false;
-        }
-    }
-    true
+    !(0.0 <= c && c < whole)
 }
 
 // The first such centre.
-fn first_off(whole: f64, centres: &[f64]) -> Found
+fn first_off(whole: f64, centres: &[f64]) -> Option<usize>
     ensures { result ≡ first_off whole centres.now }
 {
-    let mut k = 0;
-    while k < centres.len() {
-        if off_the_way(whole, centres[k]) {
-            return Found::At(k);
-        }
-        k += 1;
-    }
-    Found::Absent
+    (0..centres.len()).find(|&k| off_the_way(whole, centres[k]))
 }
 
 // What is wrong with a way of this length, a width and the centres on it.
-fn way_check(whole: f64, width: f64, centres: &[f64]) -> Check
+#[tactic(auto, unfolding(crate::specs::Question::way_check, answer::specs::Stage::first_refusal))]
+fn way_check(whole: f64, width: f64, centres: &[f64]) -> Result<(), Refusal>
     requires { length centres.now ≤ bridge_limit }
     ensures { result ≡ way_check whole width centres.now }
 {
     if whole < TINY {
-        return answer::refused(18, 0);
+        return Err(Fault::Way.at(0));
     }
     if bad_width(whole, width) {
-        return answer::refused(18, 1);
+        return Err(Fault::Way.at(1));
     }
-    match first_off(whole, centres) {
-        Found::At(k) => answer::refused(18, 2 + k),
-        Found::Absent => Check::Fine,
+    if let Some(k) = first_off(whole, centres) {
+        return Err(Fault::Way.at(2 + k));
     }
+    Ok(())
 }
 
 // What is wrong with a question about bridges.
-fn bridge_check(numbers: &[f64], width: f64, centres: &[f64]) -> Check
+#[tactic(auto, unfolding(crate::specs::Question::bridge_check))]
+fn bridge_check(numbers: &[f64], width: f64, centres: &[f64]) -> Result<(), Refusal>
     ensures { result ≡ bridge_check numbers.now width centres.now }
 {
     if centres.len() > BRIDGES {
-        return answer::refused(13, BRIDGES);
+        return Err(Fault::Room.at(BRIDGES));
     }
-    let check = candidates::contour_check(numbers);
-    match check {
-        Check::Refused(_) => check,
-        Check::Fine => way_check(candidates::perimeter(numbers), width, centres),
-    }
-}
-
-// No bridges, and why.
-fn without(check: Check) -> Bridges
-    ensures { result ≡ without check }
-{
-    let items = [blank(); BRIDGES];
-    Bridges {
-        check,
-        items,
-        count: 0,
-    }
+    candidates::contour_check(numbers)?;
+    way_check(candidates::perimeter(numbers), width, centres)
 }
 
 // A bridge for each centre, in their order.
@@ -269,29 +215,21 @@ fn each_centre(numbers: &[f64], marks: &[f64], half: f64, centres: &[f64]) -> Br
     ensures { result ≡ filled (bridges_at (points numbers.now) marks.now half centres.now) }
 {
     let mut items = [blank(); BRIDGES];
-    let mut k = 0;
-    while k < centres.len() {
-        items[k] = bridge_at(numbers, marks, half, centres[k]);
-        k += 1;
+    for (k, &c) in centres.iter().enumerate() {
+        items[k] = bridge_at(numbers, marks, half, c);
     }
-    Bridges {
-        check: Check::Fine,
+    Listed {
         items,
         count: centres.len(),
     }
 }
 
 // The bridges of a contour; what is out of range is refused.
-pub fn bridges_at(numbers: &[f64], width: f64, centres: &[f64]) -> Bridges
+pub fn bridges_at(numbers: &[f64], width: f64, centres: &[f64]) -> Result<Bridges, Refusal>
     ensures { result ≡ bridges_of numbers.now width centres.now }
 {
-    let check = bridge_check(numbers, width, centres);
-    match check {
-        Check::Refused(_) => without(check),
-        Check::Fine => {
-            let marks = marks_of(numbers);
-            let end = numbers.len() / 2 + 1;
-            each_centre(numbers, &marks[..end], half_of(width), centres)
-        }
-    }
+    bridge_check(numbers, width, centres)?;
+    let marks = marks_of(numbers);
+    let end = numbers.len() / 2 + 1;
+    Ok(each_centre(numbers, &marks[..end], half_of(width), centres))
 }

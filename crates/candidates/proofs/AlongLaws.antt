@@ -19,9 +19,6 @@ module _ (n : List Float) where
   unfolding last_spot
   last_of_lem = rw points-length
 
-  pub last_of_none : length n / 2 ≡ 0 → last_spot (points n) ≡ spot (get_or (points n) 0 nowhere) 0
-  last_of_none h = last_of_lem ∙ rw h
-
   -- adding up from edge i with this sum gives the whole perimeter
   abbrev pub Summed : Float → ℕ → Type 0
   Summed sum i = perimeter_of (points n) ≡ around sum (drop i (edges (points n)))

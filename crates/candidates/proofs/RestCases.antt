@@ -1,19 +1,19 @@
 -- The cases of a float's remainder, as the code tests for them: see RestLaws. Assumes nothing.
 use mathlib.Core.Path.{◌≡◌, refl, sym, ap, ◌∙◌, subst}
-use mathlib.Core.Bool.{Bool, true, false, not, ◌&&◌, beq, cond, true≢false}
-use Prim.Native.Nat.{ℕ, zero, suc, ◌+◌, ◌-◌, ◌*◌, ◌/◌, ◌%◌, ◌^◌, ◌<◌, ◌≤◌, compare}
+use mathlib.Core.Bool.{Bool, true, false, not, true≢false}
+use Prim.Native.Nat.{ℕ, zero, suc, ◌+◌, ◌-◌, ◌*◌, ◌/◌, ◌%◌, ◌^◌, ◌<◌, ◌≤◌}
 use native.Mathlib.Nat.{mod-eq_of_lt, mod-eq-sub-mod, mod-lt, zero-mul, not-le_of_lt, mul-pos, zero-lt-suc}
 use native.Mathlib.Nat.{lt_of_not-le}
 use native.Mathlib.Omega.{arith}
 use borrow.Author.Tests.{ltb-true, lt-ltb}
 use lib.IntN.{ℤ}
 use lib.Dec.{T, ltb}
-use lib.Ieee.{Float, nan, inf, fin, binary64, Format, prec, emax, low, up, down, size, nearest, odd, units, round}
-use lib.Ieee.{add, sub, neg, sum, div, rem, fits, lt, ne, is_nan, of_bits}
+use lib.Ieee.{Float, nan, inf, fin, binary64, low, up, down, round}
+use lib.Ieee.{add, sub, neg, rem, fits, lt, is_nan, of_bits}
 use lib.Ieee.Fits.{up_pos, add-fits, neg-fits, round-fits}
-use lib.Ieee.Compare.{differs_from_itself}
 use lib.Ieee.Exact.{HasValue}
 use lib.Ieee.Scale.{finite, overflow}
+use Rattle.std.specs.Float.{float_is_finite, float_is_infinite}
 use Rattle.std.proofs.lemmas.Float.{lt_irrefl, lt_of_lt_of_le, le_of_not-lt, T_from_true, T_from_false}
 use Rattle.root.specs.Steps.{steps_of, sign_of, has_root}
 use Rattle.root.proofs.StepLaws.{Held, steps_value, steps_of_lem, steps-held, real_finite, minus_zero, le→steps}
@@ -216,88 +216,40 @@ doubles_not y q e =
 
 -- ---- numbers that are none, infinite ones, zero, and those below it
 
-pub none_own : (x y : Float) → ne x x ≡ true → x ≡ rem binary64 y x
-unfolding rem
-none_own x y e = rw (differs_from_itself x (T_from_true _ e)) (go y)
-  where
-    go : (y : Float) → nan ≡ rem binary64 y nan
-    go nan = refl
-    go (inf s) = refl
-    go (fin s m e) = refl
+pub finite_is : (x : Float) → true ≡ float_is_finite x → T (finite x)
+unfolding float_is_finite
+finite_is nan e = absurd (true≢false e)
+finite_is (inf s) e = absurd (true≢false e)
+finite_is (fin s m d) e = tt
 
-odd_number : (d : ℕ) (s : Bool) (q k l : ℕ) → is_nan (odd d s q k l) ≡ false
-unfolding odd is_nan
-odd_number d s zero k l = refl
-odd_number d s (suc q) k l = refl
+-- not infinite, and on one side of zero
+pub finite_below : (y : Float) → false ≡ float_is_infinite y → lt y zero64 ≡ true → T (finite y)
+unfolding float_is_infinite lt of_bits
+finite_below nan i e = absurd (true≢false (sym e))
+finite_below (inf s) i e = absurd (true≢false (sym i))
+finite_below (fin s m d) i e = tt
 
-cond_number : (b : Bool) (x y : Float) → is_nan x ≡ false → is_nan y ≡ false → is_nan (cond b x y) ≡ false
-cond_number true x y p q = p
-cond_number false x y p q = q
+pub finite_above : (y : Float) → false ≡ float_is_infinite y → lt zero64 y ≡ true → T (finite y)
+unfolding float_is_infinite lt of_bits
+finite_above nan i e = absurd (true≢false (sym e))
+finite_above (inf s) i e = absurd (true≢false (sym i))
+finite_above (fin s m d) i e = tt
 
-inf_number : (s : Bool) → is_nan (inf s) ≡ false
-unfolding is_nan
-inf_number s = refl
-
-units_number : (f : Format) (s : Bool) (q k : ℕ) → is_nan (units f s q k) ≡ false
-unfolding units
-units_number f s q k =
-    cond_number (ltb (q * 2 ^ k) (2 ^ (low f + suc (emax f)))) (odd (suc (prec f)) s q k (low f)) (inf s)
-    (odd_number (suc (prec f)) s q k (low f)) (inf_number s)
-
-round_number : (f : Format) (s : Bool) (n d : ℕ) → is_nan (round f s n d) ≡ false
-unfolding round
-round_number f s num den =
-    let n = num * 2 ^ low f in
-    let k = size (n / den) - prec f in
-    let u = den * 2 ^ k in
-    units_number f s (nearest (n / u) (compare (n % u * 2) u)) k
-
-sum_number : (f : Format) (s : Bool) (a : ℕ) (t : Bool) (b c : ℕ) → is_nan (sum f s a t b c) ≡ false
-unfolding sum
-sum_number f s a t b c =
-    cond_number (beq s t) (round f s (a + b) c)
-    (cond (ltb a b) (round f t (b - a) c) (round f (s && ltb b a) (a - b) c))
-    (round_number f s (a + b) c)
-    (cond_number (ltb a b) (round f t (b - a) c) (round f (s && ltb b a) (a - b) c)
-    (round_number f t (b - a) c) (round_number f (s && ltb b a) (a - b) c))
-
-nan_is : (z : Float) → z ≡ nan → is_nan z ≡ true
-unfolding is_nan
-nan_is z q = rw q
-
-number_same : (z : Float) → is_nan z ≡ false → ne z z ≡ true → ⊥
-number_same z n e = true≢false (sym (nan_is z (differs_from_itself z (T_from_true _ e))) ∙ n)
-
--- what is no number less itself, or infinite, has no rest
-pub rest_none : (x y : Float) → ne (sub binary64 x x) (sub binary64 x x) ≡ true → sub binary64 x x ≡ rem binary64 x y
-unfolding sub add neg rem
+-- what is no number, or infinite, has no rest
+pub rest_none : (x y : Float) → false ≡ float_is_finite x → nan ≡ rem binary64 x y
+unfolding float_is_finite rem
 rest_none nan y e = refl
-rest_none (inf true) y e = refl
-rest_none (inf false) y e = refl
-rest_none (fin s m d) y e =
-    let a = m * up d * down d in
-    let c = down d * down d in
-    absurd (number_same (sum binary64 s a (not s) a c) (sum_number binary64 s a (not s) a c) e)
-
-pub self_finite : (x : Float) → ne (sub binary64 x x) (sub binary64 x x) ≡ false → T (finite x)
-unfolding sub add neg ne
-self_finite nan e = absurd (true≢false e)
-self_finite (inf true) e = absurd (true≢false e)
-self_finite (inf false) e = absurd (true≢false e)
-self_finite (fin s m d) e = tt
+rest_none (inf s) y e = refl
+rest_none (fin s m d) y e = absurd (true≢false (sym e))
 
 -- by an infinite one all is left
-pub rest_whole : (x y : Float) → T (finite x) → ne y y ≡ false → ne (sub binary64 y y) (sub binary64 y y) ≡ true
-    → x ≡ rem binary64 x y
-unfolding sub add neg rem ne
-rest_whole nan y h n e = absurd h
-rest_whole (inf s) y h n e = absurd h
-rest_whole (fin s m d) nan h n e = absurd (true≢false n)
-rest_whole (fin s m d) (inf t) h n e = refl
-rest_whole (fin s m d) (fin t k z) h n e =
-    let a = k * up z * down z in
-    let c = down z * down z in
-    absurd (number_same (sum binary64 t a (not t) a c) (sum_number binary64 t a (not t) a c) e)
+pub rest_whole : (x y : Float) → true ≡ float_is_finite x → true ≡ float_is_infinite y → x ≡ rem binary64 x y
+unfolding float_is_finite float_is_infinite rem
+rest_whole nan y h i = absurd (true≢false h)
+rest_whole (inf s) y h i = absurd (true≢false h)
+rest_whole (fin s m d) nan h i = absurd (true≢false i)
+rest_whole (fin s m d) (inf t) h i = refl
+rest_whole (fin s m d) (fin t k z) h i = absurd (true≢false i)
 
 -- what has a digit is above zero
 sized : (m : ℕ) (d : ℤ) → 0 < suc m * up d * 1
@@ -322,21 +274,21 @@ real_not_below (fin true (suc m) d) t h e =
     lt-ltb 0 (suc m * up d * 1 + 0 * down d) (omega (arith, some)) in
     absurd (true≢false (sym yes ∙ e))
 
--- by zero there is no rest
-pub rest_zero : (x y : Float) → T (finite x) → T (finite y) → lt y zero64 ≡ false → lt zero64 y ≡ false
-    → div binary64 y y ≡ rem binary64 x y
-unfolding lt of_bits div rem
-rest_zero nan y h k a b = absurd h
-rest_zero (inf s) y h k a b = absurd h
-rest_zero (fin s m e) nan h k a b = absurd k
-rest_zero (fin s m e) (inf t) h k a b = absurd k
-rest_zero (fin s m e) (fin t zero d) h k a b = refl
-rest_zero (fin s m e) (fin false (suc n) d) h k a b =
+-- by zero, and by what is no number, there is no rest
+pub rest_zero : (x y : Float) → true ≡ float_is_finite x → false ≡ float_is_infinite y → lt y zero64 ≡ false
+    → lt zero64 y ≡ false → nan ≡ rem binary64 x y
+unfolding float_is_finite float_is_infinite lt of_bits rem
+rest_zero nan y h i a b = absurd (true≢false h)
+rest_zero (inf s) y h i a b = absurd (true≢false h)
+rest_zero (fin s m e) nan h i a b = refl
+rest_zero (fin s m e) (inf t) h i a b = absurd (true≢false (sym i))
+rest_zero (fin s m e) (fin t zero d) h i a b = refl
+rest_zero (fin s m e) (fin false (suc n) d) h i a b =
     let some = sized n d in
     let yes : ltb (0 * down d) (suc n * up d * 1) ≡ true =
     lt-ltb (0 * down d) (suc n * up d * 1) (subst (λ (z : ℕ). z < suc n * up d * 1) (sym (zero-mul (down d))) some) in
     absurd (true≢false (sym yes ∙ b))
-rest_zero (fin s m e) (fin true (suc n) d) h k a b =
+rest_zero (fin s m e) (fin true (suc n) d) h i a b =
     let some = sized n d in
     let yes : ltb 0 (suc n * up d * 1 + 0 * down d) ≡ true =
     lt-ltb 0 (suc n * up d * 1 + 0 * down d) (omega (arith, some)) in

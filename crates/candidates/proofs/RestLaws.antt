@@ -1,9 +1,9 @@
 -- What is left of a float where another is taken off as often as it goes, counted in steps of binary64: the remainder
 -- of the steps, which is a value again. Assumes nothing.
 use mathlib.Core.Path.{◌≡◌, refl, sym, ap, ◌∙◌, subst}
-use mathlib.Core.Bool.{Bool, true, false, not, cond, true≢false}
+use mathlib.Core.Bool.{Bool, true, false, cond, true≢false}
 use mathlib.Core.Logic.{◌⊎◌, inl, inr}
-use Prim.Native.Nat.{ℕ, zero, suc, ◌+◌, ◌-◌, ◌*◌, ◌/◌, ◌%◌, ◌^◌, ◌<◌, ◌≤◌}
+use Prim.Native.Nat.{ℕ, ◌+◌, ◌-◌, ◌*◌, ◌/◌, ◌%◌, ◌^◌, ◌<◌, ◌≤◌}
 use native.Mathlib.Nat.{mul_assoc, mul_comm, mul_right_comm, mul-pos, zero-mul, mod-lt, mod-le, mod-eq_of_lt}
 use native.Mathlib.Nat.{div-add-mod}
 use native.Mathlib.Nat.{le_trans, lt_of_le_of_lt, mul-le-mul_right, lt_of_mul-lt-mul_right, mul-sub}

@@ -1,18 +1,19 @@
 -- The candidates of a contour: where on its boundary, or on the grid beside it, the beam may pierce. Assumes nothing.
-use Rattle.std.specs.Prelude.{ℕ, zero, suc, ◌-◌, min, Bool, cond, List, [], ◌∷◌, ◌++◌, length, replicate, pos, ◌==◌}
+use Rattle.std.specs.Prelude.{ℕ, zero, suc, min, Bool, cond, List, [], ◌∷◌, pos, ◌==◌}
 use Rattle.std.specs.Prelude.{Float}
 use Rattle.std.specs.Float.{binary64}
 use Rattle.std.specs.Float.Ieee.{mul, div, rem, lt, of_int}
+use Rattle.answer.specs.declared.Listed.{Listed}
 use Rattle.answer.specs.declared.Point.{Point}
 use Rattle.answer.specs.declared.CutDirection.{CutDirection}
 use Rattle.answer.specs.declared.CutDirection.TheVariants.{Ccw}
+use Rattle.answer.specs.Room.{listed}
 use Rattle.fields.specs.Limits.{per_contour_limit}
 use Rattle.points.specs.Points.{point}
 use Rattle.points.specs.Numbers.{zero64, tiny}
 use Rattle.grid.specs.Move.{moved_point}
 use Rattle.candidates.specs.declared.Spot.{Spot}
 use Rattle.candidates.specs.declared.Candidate.{Candidate}
-use Rattle.candidates.specs.declared.Candidates.{Candidates}
 use Rattle.candidates.specs.Along.{perimeter_of, spot, spot_at}
 
 -- pierced at a spot and cut once around: the end point is the point
@@ -59,5 +60,8 @@ abbrev pub blank : Candidate
 blank = candidate_at Ccw (spot (point zero64 zero64) 0)
 
 -- a list of candidates as it is handed out
+abbrev pub Candidates : Type 0
+Candidates = Listed Candidate per_contour_limit
+
 unfoldable pub filled : List Candidate → Candidates
-filled l = record { items = l ++ replicate (per_contour_limit - length l) blank; count = length l }
+filled l = listed per_contour_limit blank l

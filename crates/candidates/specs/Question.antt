@@ -1,7 +1,6 @@
 -- The candidates of one contour, for whoever asks. Assumes nothing.
 use Rattle.std.specs.Prelude.{ℕ, ◌+◌, ◌/◌, Bool, ◌||◌, List, [], ◌∷◌, length, nat_lt, Float}
-use Rattle.answer.specs.declared.Check.{Check}
-use Rattle.answer.specs.declared.Check.TheVariants.{Fine, Refused}
+use Rattle.answer.specs.Answer.{Answer, Check, unless}
 use Rattle.answer.specs.declared.ContourType.{ContourType}
 use Rattle.answer.specs.declared.CutDirectionPreference.{CutDirectionPreference}
 use Rattle.answer.specs.Lowest.{refuse_at, refuse_if}
@@ -9,10 +8,8 @@ use Rattle.answer.specs.Stage.{or_else, first_refusal}
 use Rattle.fields.specs.Limits.{per_contour_limit, vertex_limit}
 use Rattle.points.specs.Points.{points}
 use Rattle.points.specs.Bad.{first_bad}
-use Rattle.candidates.specs.declared.Candidates.{Candidates}
-use Rattle.candidates.specs.declared.Offered.{Offered}
 use Rattle.candidates.specs.Direction.{direction_of}
-use Rattle.candidates.specs.Generate.{candidates_of, filled}
+use Rattle.candidates.specs.Generate.{candidates_of, Candidates, filled}
 
 -- not from 1 to the most
 abbrev pub outside : ℕ → ℕ → Bool
@@ -28,13 +25,8 @@ contour_check numbers =
 unfoldable pub one_contour : List Float → ℕ → Check
 one_contour numbers c = or_else (refuse_if (outside per_contour_limit c) 4 3) (contour_check numbers)
 
--- the candidates, unless the check refuses: then none
-abbrev pub offered : Check → Candidates → Offered
-offered Fine found = record { check = Fine; found = found }
-offered (Refused r) found = record { check = Refused r; found = filled [] }
-
 -- c candidates of a contour, on the grid where that is asked for
 unfoldable pub offered_of : List Float → ℕ → Bool → ContourType → CutDirectionPreference → CutDirectionPreference
-    → Offered
+    → Answer Candidates
 offered_of numbers c grid kind exterior interior =
-    offered (one_contour numbers c) (filled (candidates_of grid (direction_of kind exterior interior) (points numbers) c))
+    unless (one_contour numbers c) (filled (candidates_of grid (direction_of kind exterior interior) (points numbers) c))

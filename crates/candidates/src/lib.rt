@@ -1,8 +1,8 @@
 // Where on a contour's boundary, or on the grid beside it, the beam may pierce, and which way round the contour is cut.
 #![tactic(auto)]
 
-ghost use Rattle.std.specs.Prelude.{◌≡◌, ◌≤◌, min, true, [], ◌∷◌, slice_index_or};
-ghost use Rattle.std.specs.Float.{binary64};
+ghost use Rattle.std.specs.Prelude.{◌≡◌, ◌≤◌, true, [], ◌∷◌, slice_index_or};
+ghost use Rattle.std.specs.Float.{binary64, float_is_finite};
 ghost use Rattle.std.specs.Float.Ieee.{lt, rem};
 ghost use Rattle.root.specs.Steps.{has_root};
 ghost use Rattle.fields.specs.Limits.{per_contour_limit};
@@ -10,10 +10,10 @@ ghost use Rattle.points.specs.Numbers.{zero64};
 ghost use Rattle.points.specs.Points.{points, nowhere};
 ghost use Rattle.candidates.specs.Direction.{direction_of};
 ghost use Rattle.candidates.specs.Along.{edge_length, perimeter_of, reaches, on_edge, spot, spot_at, last_spot};
-ghost use Rattle.candidates.specs.Generate.{candidate_at, blank, target, moved_if, spaced, candidates_of, filled};
+ghost use Rattle.candidates.specs.Generate.{candidate_at, target, moved_if, spaced, candidates_of, filled};
 ghost use Rattle.candidates.specs.Question.{outside, contour_check, one_contour, offered_of};
 
-use answer::{Check, ContourType, CutDirection, CutDirectionPreference, Found, Point};
+use answer::{ContourType, CutDirection, CutDirectionPreference, Fault, Listed, Point, Refusal};
 use fields::{PER_CONTOUR, VERTICES};
 use points::{Ends, TINY};
 
@@ -29,12 +29,8 @@ pub struct Candidate {
     pub direction: CutDirection,
 }
 
-// A contour's candidates: the first `count` of the items.
-#[derive(Clone, Copy)]
-pub struct Candidates {
-    pub items: [Candidate; PER_CONTOUR],
-    pub count: usize,
-}
+// A contour's candidates.
+pub type Candidates = Listed<Candidate, PER_CONTOUR>;
 
 // A place found on a contour's boundary, or moved from there to the grid, and the vertex at which the edge starts that it was
 // found on.
@@ -44,14 +40,8 @@ pub struct Spot {
     pub vertex: usize,
 }
 
-// What is answered to a question: the candidates, or why there are none.
-#[derive(Clone, Copy)]
-pub struct Offered {
-    pub check: Check,
-    pub found: Candidates,
-}
-
-// Which way round a contour is cut.
+// Which way round a contour is cut. What is asked for comes as three and no struct here and below: each caller reads the kind and
+// the two preferences in three places of a card, and only this function looks at them, so that the struct would be made to be taken apart.
 pub fn determine_direction(
     kind: ContourType,
     exterior: CutDirectionPreference,
@@ -59,17 +49,15 @@ pub fn determine_direction(
 ) -> CutDirection
     ensures { result ≡ direction_of kind exterior interior }
 {
-    match kind {
-        ContourType::Exterior => match exterior {
-            CutDirectionPreference::Ccw => CutDirection::Ccw,
-            CutDirectionPreference::Cw => CutDirection::Cw,
-            CutDirectionPreference::Auto => CutDirection::Ccw,
-        },
-        ContourType::Interior => match interior {
-            CutDirectionPreference::Ccw => CutDirection::Ccw,
-            CutDirectionPreference::Cw => CutDirection::Cw,
-            CutDirectionPreference::Auto => CutDirection::Cw,
-        },
+    let asked = match kind {
+        ContourType::Exterior => exterior,
+        ContourType::Interior => interior,
+    };
+    match (asked, kind) {
+        (CutDirectionPreference::Ccw, _) => CutDirection::Ccw,
+        (CutDirectionPreference::Cw, _) => CutDirection::Cw,
+        (CutDirectionPreference::Auto, ContourType::Exterior) => CutDirection::Ccw,
+        (CutDirectionPreference::Auto, ContourType::Interior) => CutDirection::Cw,
     }
 }
 
@@ -77,9 +65,7 @@ pub fn determine_direction(
 pub fn length_of(e: Ends) -> f64
     ensures { result ≡ edge_length e }
 {
-    let a = e.start;
-    let b = e.finish;
-    points::distance(a, b)
+    points::distance(e.start, e.finish)
 }
 
 // The length of the way around a contour.
@@ -88,10 +74,8 @@ pub fn perimeter(numbers: &[f64]) -> f64
 {
     let n = numbers.len() / 2;
     let mut sum = 0.0;
-    let mut i = 0;
-    while i < n {
-        sum = sum + length_of(points::edge_at(numbers, i));
-        i += 1;
+    for i in 0..n {
+        sum += length_of(points::edge_at(numbers, i));
     }
     sum
 }
@@ -100,10 +84,7 @@ pub fn perimeter(numbers: &[f64]) -> f64
 pub fn on_the_way(d: f64, before: f64, after: f64) -> bool
     ensures { result ≡ reaches d before after }
 {
-    if before <= d {
-        return d <= after + TINY;
-    }
-    false
+    before <= d && d <= after + TINY
 }
 
 // The place at the distance d on edge i, which begins at `before`.
@@ -111,33 +92,22 @@ fn on_edge(d: f64, i: usize, before: f64, e: Ends) -> Spot
     ensures { result ≡ on_edge d i before e }
 {
     let length = length_of(e);
-    if length < TINY {
-        let start = e.start;
-        return Spot {
-            point: start,
-            vertex: i,
-        };
-    }
-    Spot {
-        point: points::along(e, (d - before) / length),
-        vertex: i,
-    }
+    let point = if length < TINY {
+        e.start
+    } else {
+        points::along(e, (d - before) / length)
+    };
+    Spot { point, vertex: i }
 }
 
 // The last vertex of a contour.
 pub fn last_spot(numbers: &[f64]) -> Spot
     ensures { result ≡ last_spot (points numbers.now) }
 {
-    let n = numbers.len() / 2;
-    if n == 0 {
-        return Spot {
-            point: points::point_at(numbers, 0),
-            vertex: 0,
-        };
-    }
+    let last = (numbers.len() / 2).saturating_sub(1);
     Spot {
-        point: points::point_at(numbers, n - 1),
-        vertex: n - 1,
+        point: points::point_at(numbers, last),
+        vertex: last,
     }
 }
 
@@ -147,15 +117,13 @@ pub fn spot_at(numbers: &[f64], d: f64) -> Spot
 {
     let n = numbers.len() / 2;
     let mut before = 0.0;
-    let mut i = 0;
-    while i < n {
+    for i in 0..n {
         let e = points::edge_at(numbers, i);
         let after = before + length_of(e);
         if on_the_way(d, before, after) {
             return on_edge(d, i, before, e);
         }
         before = after;
-        i += 1;
     }
     last_spot(numbers)
 }
@@ -164,44 +132,39 @@ pub fn spot_at(numbers: &[f64], d: f64) -> Spot
 fn candidate_at(direction: CutDirection, s: Spot) -> Candidate
     ensures { result ≡ candidate_at direction s }
 {
-    let p = s.point;
     Candidate {
-        x: p.x,
-        y: p.y,
-        end_x: p.x,
-        end_y: p.y,
+        x: s.point.x,
+        y: s.point.y,
+        end_x: s.point.x,
+        end_y: s.point.y,
         vertex: s.vertex,
         direction,
     }
 }
 
 // What stands in the places that are not used.
-fn blank() -> Candidate
-    ensures { result ≡ blank }
-{
-    Candidate {
-        x: 0.0,
-        y: 0.0,
-        end_x: 0.0,
-        end_y: 0.0,
-        vertex: 0,
-        direction: CutDirection::Ccw,
-    }
-}
+pub const BLANK: Candidate = Candidate {
+    x: 0.0,
+    y: 0.0,
+    end_x: 0.0,
+    end_y: 0.0,
+    vertex: 0,
+    direction: CutDirection::Ccw,
+};
 
 // No candidates at all.
 fn none() -> Candidates
     ensures { result ≡ filled [] }
 {
-    let items = [blank(); PER_CONTOUR];
-    Candidates { items, count: 0 }
+    let items = [BLANK; PER_CONTOUR];
+    Listed { items, count: 0 }
 }
 
 // The first vertex as the only candidate.
 fn first_vertex(direction: CutDirection, numbers: &[f64]) -> Candidates
     ensures { result ≡ filled (candidate_at direction (spot (slice_index_or (points numbers.now) 0 nowhere) 0) ∷ []) }
 {
-    let mut items = [blank(); PER_CONTOUR];
+    let mut items = [BLANK; PER_CONTOUR];
     items[0] = candidate_at(
         direction,
         Spot {
@@ -209,7 +172,7 @@ fn first_vertex(direction: CutDirection, numbers: &[f64]) -> Candidates
             vertex: 0,
         },
     );
-    Candidates { items, count: 1 }
+    Listed { items, count: 1 }
 }
 
 // 2^1023: what is below it can be doubled.
@@ -236,43 +199,44 @@ fn left_of(x: f64, y: f64) -> f64
     x - y
 }
 
+// The same of any finite x: what is left has its sign.
+fn signed_left(x: f64, y: f64) -> f64
+    requires finite_x { float_is_finite x ≡ true }
+    requires real_y { has_root y ≡ true }
+    requires above { lt zero64 y ≡ true }
+    ensures { result ≡ rem binary64 x y }
+{
+    if x < 0.0 {
+        -left_of(-x, y)
+    } else {
+        left_of(x, y)
+    }
+}
+
 // The remainder of any two numbers, as `%` has it. Said by steps of its own, since `%` calls the C library's fmod, which not
 // every machine that runs the programs has in the form that they are linked against.
 fn rest(x: f64, y: f64) -> f64
     ensures { result ≡ rem binary64 x y }
 {
-    let none = x - x;
-    if none != none {
-        return none;
+    if !x.is_finite() {
+        f64::NAN
+    } else if y.is_infinite() {
+        x
+    } else if y < 0.0 {
+        signed_left(x, -y)
+    } else if 0.0 < y {
+        signed_left(x, y)
+    } else {
+        f64::NAN
     }
-    if y != y {
-        return y;
-    }
-    let other = y - y;
-    if other != other {
-        return x;
-    }
-    if y < 0.0 {
-        if x < 0.0 {
-            return -left_of(-x, -y);
-        }
-        return left_of(x, -y);
-    }
-    if 0.0 < y {
-        if x < 0.0 {
-            return -left_of(-x, y);
-        }
-        return left_of(x, y);
-    }
-    y / y
 }
 
 // How far along the way candidate k of c is.
 fn target_of(total: f64, c: usize, k: usize) -> f64
     ensures { result ≡ target total c k }
 {
-    let spacing = total / std::num::nearest_u64_to_f64(c as u64);
-    rest(std::num::nearest_u64_to_f64(k as u64) * spacing, total)
+    let spacing = total / std::num::nearest_usize_to_f64(c);
+    rest(std::num::nearest_usize_to_f64(k) * spacing, total)
 }
 
 // A spot found at a distance, on the grid where that is asked for; its vertex is the one found.
@@ -280,12 +244,13 @@ fn moved_if(grid: bool, s: Spot) -> Spot
     ensures { result ≡ moved_if grid s }
 {
     if grid {
-        return Spot {
+        Spot {
             point: grid::moved_point(s.point),
-            vertex: s.vertex,
-        };
+            ..s
+        }
+    } else {
+        s
     }
-    s
 }
 
 // c candidates, spaced evenly along the way, on the grid where that is asked for.
@@ -293,24 +258,12 @@ fn spaced(grid: bool, direction: CutDirection, numbers: &[f64], total: f64, c: u
     requires { c ≤ per_contour_limit }
     ensures { result ≡ filled (spaced grid direction (points numbers.now) total c 0 c) }
 {
-    let mut items = [blank(); PER_CONTOUR];
-    let mut k = 0;
-    while k < c {
+    let mut items = [BLANK; PER_CONTOUR];
+    for k in 0..c {
         let s = spot_at(numbers, target_of(total, c, k));
         items[k] = candidate_at(direction, moved_if(grid, s));
-        k += 1;
     }
-    Candidates { items, count: c }
-}
-
-// As many as are wanted, or as can be held.
-fn held(c: usize) -> usize
-    ensures { result ≡ min c per_contour_limit }
-{
-    if c < PER_CONTOUR {
-        return c;
-    }
-    PER_CONTOUR
+    Listed { items, count: c }
 }
 
 // The candidates of a contour whose coordinates are known to be good; at most as many as can be held. Where the grid is
@@ -329,7 +282,7 @@ pub fn candidates_of(
     if numbers.len() / 2 == 0 {
         return none();
     }
-    let wanted = held(c);
+    let wanted = c.min(PER_CONTOUR);
     if wanted == 1 {
         return first_vertex(direction, numbers);
     }
@@ -344,37 +297,37 @@ pub fn candidates_of(
 fn outside(most: usize, n: usize) -> bool
     ensures { result ≡ outside most n }
 {
-    if n < 1 {
-        return true;
-    }
-    n > most
+    !(1..=most).contains(&n)
 }
 
 // What is wrong with a contour.
-pub fn contour_check(numbers: &[f64]) -> Check
+#[tactic(auto, unfolding(crate::specs::Question::contour_check, answer::specs::Stage::first_refusal))]
+pub fn contour_check(numbers: &[f64]) -> Result<(), Refusal>
     ensures { result ≡ contour_check numbers.now }
 {
     let v = (numbers.len() + 1) / 2;
     if outside(VERTICES, v) {
-        return answer::refused(6, v);
+        return Err(Fault::Contour.at(v));
     }
-    match points::first_bad(numbers, v) {
-        Found::At(k) => answer::refused(8, k),
-        Found::Absent => Check::Fine,
+    if let Some(k) = points::first_bad(numbers, v) {
+        return Err(Fault::Coordinate.at(k));
     }
+    Ok(())
 }
 
 // What is wrong with a question about one contour.
-fn one_contour(numbers: &[f64], c: usize) -> Check
+#[tactic(auto, unfolding(crate::specs::Question::one_contour))]
+fn one_contour(numbers: &[f64], c: usize) -> Result<(), Refusal>
     ensures { result ≡ one_contour numbers.now c }
 {
     if outside(PER_CONTOUR, c) {
-        return answer::refused(4, 3);
+        return Err(Fault::Field.at(3));
     }
     contour_check(numbers)
 }
 
 // The candidates of one contour, for whoever asks; what is out of range is refused.
+#[tactic(auto, unfolding(crate::specs::Question::offered_of))]
 pub fn contour_candidates(
     numbers: &[f64],
     c: usize,
@@ -382,18 +335,9 @@ pub fn contour_candidates(
     kind: ContourType,
     exterior: CutDirectionPreference,
     interior: CutDirectionPreference,
-) -> Offered
+) -> Result<Candidates, Refusal>
     ensures { result ≡ offered_of numbers.now c grid kind exterior interior }
 {
-    let check = one_contour(numbers, c);
-    match check {
-        Check::Fine => {
-            let found = candidates_of(numbers, c, grid, kind, exterior, interior);
-            Offered { check, found }
-        }
-        Check::Refused(_) => {
-            let found = none();
-            Offered { check, found }
-        }
-    }
+    one_contour(numbers, c)?;
+    Ok(candidates_of(numbers, c, grid, kind, exterior, interior))
 }

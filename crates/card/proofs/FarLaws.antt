@@ -1,5 +1,6 @@
 -- Places of coordinates: home, then each contour one place further on; a vertex read at a place cut off at the card's
 -- end. Assumes nothing.
+use Rattle.std.specs.Prelude.{is_some}
 use mathlib.Core.Path.{◌≡◌, refl, sym, ap, ◌∙◌}
 use mathlib.Core.Bool.{Bool}
 use mathlib.Core.List.{List}
@@ -7,21 +8,17 @@ use Prim.Native.Nat.{ℕ, zero, suc, ◌+◌, ◌-◌, min}
 use native.Mathlib.Nat.{add_assoc}
 use native.Mathlib.Omega.{arith}
 use lib.ListN.{length}
-use Rattle.answer.specs.declared.Found.{Found}
+use Rattle.answer.specs.Answer.{Found}
 use Rattle.block.specs.Field.{u64_at}
 use Rattle.block.proofs.Readings.{cut_u64}
-use Rattle.fields.specs.Layout.{home_offset}
-use Rattle.card.specs.Stages.{is_at, far_point, far_vertex, far_place}
-
-pub at_home : (s : List ℕ) (place : ℕ) (r : Bool) → place ≡ 0 → r ≡ far_point s home_offset → r ≡ far_place s place
-at_home s place r z e = e ∙ ap (far_place s) (sym z)
+use Rattle.card.specs.Stages.{far_point, far_vertex, far_place}
 
 pub at_contour : (s : List ℕ) (place : ℕ) (f : Found) → (place ≡ 0 → ⊥) → f ≡ far_vertex s (place - 1)
-    → is_at f ≡ far_place s place
+    → is_some f ≡ far_place s place
 at_contour s zero f later e = absurd (later refl)
 at_contour s (suc k) f later e =
     let n : suc k - 1 ≡ k = omega arith in
-    ap is_at (e ∙ ap (far_vertex s) n)
+    ap is_some (e ∙ ap (far_vertex s) n)
 
 -- the point that was looked at is the vertex
 pub vertex_looked_at : (s : List ℕ) (a at i : ℕ) (r : Bool) → at ≡ min a (length s) → r ≡ far_point s (at + i)

@@ -1,23 +1,20 @@
 -- Stages one after the other, as the code takes them: stopped by one that refuses, or past one that does not. Assumes
 -- nothing.
-use mathlib.Core.Path.{◌≡◌, refl, sym, ap, ◌∙◌}
+use Rattle.std.specs.Prelude.{Err, None, Ok, Some}
+use mathlib.Core.Path.{◌≡◌, refl, ap, ◌∙◌}
 use mathlib.Core.Bool.{false}
 use mathlib.Core.List.{List, [], ◌∷◌, ◌++◌}
-use Prim.Native.Nat.{ℕ, zero, suc, ◌+◌, ◌≤◌, ◌<◌}
+use Prim.Native.Nat.{ℕ, ◌≤◌}
 use native.Mathlib.Omega.{arith}
 use lib.Dec.{lit<}
-use lib.ListN.{length, get_or, get_or-eq_default}
-use borrow.Author.Count.{below_none, below_more}
+use lib.ListN.{get_or}
 use borrow.Author.Tests.{ltb-false}
 use Rattle.answer.specs.declared.Refusal.{Refusal}
-use Rattle.answer.specs.declared.Found.{Found}
-use Rattle.answer.specs.declared.Found.TheVariants.{At, Absent}
-use Rattle.answer.specs.declared.Check.{Check}
-use Rattle.answer.specs.declared.Check.TheVariants.{Fine, Refused}
+use Rattle.answer.specs.Answer.{Check, Found}
 use Rattle.answer.specs.Stage.{or_else, first_refusal}
 use Rattle.answer.specs.Lowest.{refuse_at}
 use Rattle.answer.proofs.LowestLaws.{is_absent}
-use Rattle.answer.proofs.StageLaws.{refused_is, fine_is, is_fine}
+use Rattle.answer.proofs.StageLaws.{is_fine}
 use Rattle.closure.specs.Limits.{contour_limit, pair_limit}
 use Rattle.closure.specs.Cycle.{first_on_cycle}
 use Rattle.fields.specs.Layout.{contours_of, pairs_of}
@@ -26,18 +23,18 @@ use Rattle.card.specs.Names.{pairs_on}
 use Rattle.card.specs.Verdict.{cycle_fault, cycle_fault_within, card_stages, pair_stages, check_of, check_within}
 
 module _ (x a : Check) (more : List Check) (is : a ≡ x) where
-  stopped : (r : Refusal) → a ≡ Refused r → a ≡ first_refusal (x ∷ more)
+  stopped : (r : Refusal) → a ≡ Err r → a ≡ first_refusal (x ∷ more)
   unfolding first_refusal
   stopped r e = rw (← is, e)
 
-  passed : (b : Check) → a ≡ Fine → b ≡ first_refusal more → b ≡ first_refusal (x ∷ more)
+  passed : (b : Check) → a ≡ Ok tt → b ≡ first_refusal more → b ≡ first_refusal (x ∷ more)
   unfolding first_refusal
   passed b e f = rw (← is, e) f
 
 pub last_stage : (x a : Check) → a ≡ x → a ≡ first_refusal (x ∷ [])
 unfolding first_refusal
-last_stage Fine a e = e
-last_stage (Refused r) a e = e
+last_stage (Ok _) a e = e
+last_stage (Err r) a e = e
 
 -- a stage as the code takes it, with the number it refuses with and what its search found: it stops there, lets the
 -- next ones go on, or is the last
@@ -45,10 +42,10 @@ module _ (number : ℕ) {f g : Found} {a : Check} (made : a ≡ refuse_at number
   pub stage_is : a ≡ refuse_at number g
   stage_is = made ∙ ap (refuse_at number) found
 
-  pub stops_at : (more : List Check) {r : Refusal} → a ≡ Refused r → a ≡ first_refusal (refuse_at number g ∷ more)
+  pub stops_at : (more : List Check) {r : Refusal} → a ≡ Err r → a ≡ first_refusal (refuse_at number g ∷ more)
   stops_at more e = stopped _ a more stage_is _ e
 
-  pub goes_past : (more : List Check) {b : Check} → a ≡ Fine → b ≡ first_refusal more →
+  pub goes_past : (more : List Check) {b : Check} → a ≡ Ok tt → b ≡ first_refusal more →
       b ≡ first_refusal (refuse_at number g ∷ more)
   goes_past more e rest = passed _ a more stage_is _ e rest
 
@@ -60,32 +57,32 @@ module _ (number : ℕ) {f g : Found} {a : Check} (made : a ≡ refuse_at number
 in_turn : (xs more : List Check) → first_refusal (xs ++ more) ≡ or_else (first_refusal xs) (first_refusal more)
 unfolding first_refusal
 in_turn [] more = refl
-in_turn (Fine ∷ xs) more = in_turn xs more
-in_turn (Refused r ∷ xs) more = refl
+in_turn (Ok _ ∷ xs) more = in_turn xs more
+in_turn (Err r ∷ xs) more = refl
 
 module _ (xs more : List Check) (a : Check) (is : a ≡ first_refusal xs) where
-  group_stopped : (r : Refusal) → a ≡ Refused r → a ≡ first_refusal (xs ++ more)
+  group_stopped : (r : Refusal) → a ≡ Err r → a ≡ first_refusal (xs ++ more)
   group_stopped r e = rw (in_turn xs more, ← is, e)
 
-  group_passed : (b : Check) → a ≡ Fine → b ≡ first_refusal more → b ≡ first_refusal (xs ++ more)
+  group_passed : (b : Check) → a ≡ Ok tt → b ≡ first_refusal more → b ≡ first_refusal (xs ++ more)
   group_passed b e f = rw (in_turn xs more, ← is, e) f
 
 -- a stage that is fine found nothing
-pub fine_absent : (number : ℕ) (f : Found) → refuse_at number f ≡ Fine → f ≡ Absent
-fine_absent number (At k) e = let z : ◌≡◌ {A = ℕ} 0 1 = cc in absurd (omega arith)
-fine_absent number Absent e = refl
+pub fine_absent : (number : ℕ) (f : Found) → refuse_at number f ≡ Ok tt → f ≡ None
+fine_absent number (Some k) e = let z : ◌≡◌ {A = ℕ} 0 1 = cc in absurd (omega arith)
+fine_absent number None e = refl
 
 -- ---- the counts that the first stages let pass
 
 -- no fault of the head: no more contours and pairs than the limits
-pub no_more : (contours pairs : ℕ) (s : List ℕ) → head_fault_within contours pairs s ≡ Absent
+pub no_more : (contours pairs : ℕ) (s : List ℕ) → head_fault_within contours pairs s ≡ None
     → (contours_of s ≤ contours) × (pairs_of s ≤ pairs)
 unfolding head_fault_within
 no_more contours pairs s e =
     let none = is_absent (λ f. get_or (head_faults_within contours pairs s) f false) 9 e in
     (ltb-false _ _ (none 1 (lit< tt)), ltb-false _ _ (none 2 (lit< tt)))
 
-pub few_of_both : (s : List ℕ) → first_refusal (card_stages s) ≡ Fine
+pub few_of_both : (s : List ℕ) → first_refusal (card_stages s) ≡ Ok tt
     → (contours_of s ≤ contour_limit) × (pairs_of s ≤ pair_limit)
 few_of_both s e =
     no_more contour_limit pair_limit s (fine_absent 4 (head_fault s) (is_fine (card_stages s) e 3 (lit< tt)))
@@ -96,52 +93,13 @@ pub cycle_is : (s p : List ℕ) (n : ℕ) (f : Found) → n ≡ contours_of s �
 unfolding cycle_fault_within
 cycle_is s p n f e h g = g ∙ ap (λ (x : ℕ). first_on_cycle x p) e ∙ ap (first_on_cycle (contours_of s)) h
 
--- ---- the stages before the pairs', one rank after the other
-
--- the stage of a rank
-pub at_rank : (s : List ℕ) (k : ℕ) {rank : ℕ} {a : Check} → rank ≡ k → a ≡ get_or (card_stages s) k Fine
-    → a ≡ get_or (card_stages s) rank Fine
-at_rank s k e is = is ∙ ap (λ (j : ℕ). get_or (card_stages s) j Fine) (sym e)
-
--- x is none of the numbers below k
-abbrev NoneBelow : ℕ → ℕ → Type 0
-NoneBelow zero x = Unit
-NoneBelow (suc k) x = NoneBelow k x × (x ≡ k → ⊥)
-
-not_below : (k x : ℕ) → NoneBelow k x → k ≤ x
-not_below zero x none = omega arith
-not_below (suc k) x (none, other) = let h = not_below k x none in omega arith
-
--- there are ten ranks
-pub past_stages : (s : List ℕ) (k : ℕ) → NoneBelow 10 k → Fine ≡ get_or (card_stages s) k Fine
-past_stages s k none = sym (get_or-eq_default (card_stages s) Fine (not_below 10 k none))
-
--- no stage below rank k refuses
-abbrev pub Passed : List Check → ℕ → Type 0
-Passed stages k = (j : ℕ) → j < k → get_or stages j Fine ≡ Fine
-
-module _ (stages : List Check) where
-  pub none_passed : Passed stages 0
-  none_passed = below_none (λ j. get_or stages j Fine ≡ Fine)
-
-  pub one-passed : (k : ℕ) {a : Check} → Passed stages k → a ≡ get_or stages k Fine → a ≡ Fine → Passed stages (k + 1)
-  one-passed k past is e = below_more (λ j. get_or stages j Fine ≡ Fine) k past (sym is ∙ e)
-
-  pub stopped-at : (k : ℕ) {a : Check} {r : Refusal} → Passed stages k → k < length stages → a ≡ get_or stages k Fine
-      → a ≡ Refused r → a ≡ first_refusal stages
-  stopped-at k past h is e =
-      e ∙ sym (refused_is stages k _ (record { within = h; refuses = sym is ∙ e; before = past }))
-
-  pub all_passed : (k : ℕ) → Passed stages k → length stages ≤ k → Fine ≡ first_refusal stages
-  all_passed k past h = sym (fine_is stages (λ j g. past j (omega arith)))
-
 -- ---- the verdict: what comes before the pairs, then the pairs
 
 module _ (s : List ℕ) (a : Check) (first : a ≡ first_refusal (card_stages s)) where
-  pub stages_stop : (r : Refusal) → a ≡ Refused r → a ≡ check_of s
+  pub stages_stop : (r : Refusal) → a ≡ Err r → a ≡ check_of s
   unfolding check_within
   stages_stop r f = group_stopped (card_stages s) (pair_stages s) a first r f
 
-  pub pairs_say : (b : Check) → a ≡ Fine → b ≡ first_refusal (pair_stages s) → b ≡ check_of s
+  pub pairs_say : (b : Check) → a ≡ Ok tt → b ≡ first_refusal (pair_stages s) → b ≡ check_of s
   unfolding check_within
   pairs_say b e f = group_passed (card_stages s) (pair_stages s) a first b e f

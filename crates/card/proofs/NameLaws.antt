@@ -1,4 +1,5 @@
 -- What a lookup of an id tells of pairs, and the pairs' positions one pair at a time. Assumes nothing.
+use Rattle.std.specs.Prelude.{None, Some, is_some}
 use mathlib.Core.Path.{◌≡◌, refl, sym, ap, ◌∙◌}
 use mathlib.Core.Logic.{⊎_elim}
 use mathlib.Core.Bool.{true, false, not, ◌||◌, or-true}
@@ -8,39 +9,37 @@ use native.Mathlib.Nat.{eq-or-lt_of_le, not-suc-le-zero, le_of_suc-le-suc}
 use native.Mathlib.Numerals.{add-one}
 use native.Mathlib.Omega.{arith}
 use lib.Dec.{eqb, ltb}
-use borrow.Author.Tests.{ltb-false}
+use borrow.Author.Tests.{lt-ltb, le-ltb}
 use lib.ListN.{length, take, get_or, set, replicate, length-append, length-take, get_or-append}
 use lib.Seq.{get_or_at, get_or-append-add}
-use Rattle.answer.specs.declared.Found.{Found}
-use Rattle.answer.specs.declared.Found.TheVariants.{At, Absent}
+use Rattle.answer.specs.Answer.{Found}
 use Rattle.answer.specs.Room.{padded}
 use Rattle.answer.proofs.LowestLaws.{Nowhere, is_at_lem}
 use Rattle.answer.proofs.RoomLaws.{padded-two, padded_front}
-use Rattle.answer.proofs.Truth.{or-none}
 use Rattle.card.specs.declared.Named.{Named}
 use Rattle.closure.specs.Limits.{contour_limit, pair_limit}
 use Rattle.fields.specs.Layout.{tag_of, contours_of, pairs_of, before_id_of, before_tag_of, after_id_of, after_tag_of}
-use Rattle.card.specs.Stages.{is_at, seek_of, position_of, unnamed, name_fault, before_of, after_of, other_tag}
+use Rattle.card.specs.Stages.{seek_of, position_of, unnamed, name_fault, before_of, after_of, other_tag}
 use Rattle.card.specs.Names.{seats_of, pairs_on, seat_limit, named_as, named_pairs, AllNamed, named_of, named_within}
 use Rattle.card.proofs.LoopLaws.{found_here, none_found}
 
 -- ---- the two contours of a pair
 
 -- a position that was found is a contour's
-pub position_below : (s : List ℕ) (id k : ℕ) (f : Found) → f ≡ position_of s id → f ≡ At k → k < contours_of s
+pub position_below : (s : List ℕ) (id k : ℕ) (f : Found) → f ≡ position_of s id → f ≡ Some k → k < contours_of s
 unfolding seek_of
 position_below s id k f e h = (is_at_lem _ (contours_of s) k (sym e ∙ h)).within
 
 module _ (s : List ℕ) (q : ℕ) where
-  pub first_unknown : (id : ℕ) (f : Found) → id ≡ before_id_of s q → f ≡ position_of s id → f ≡ Absent → unnamed s q ≡ true
+  pub first_unknown : (id : ℕ) (f : Found) → id ≡ before_id_of s q → f ≡ position_of s id → f ≡ None → unnamed s q ≡ true
   first_unknown id f own sought e = rw (← own, ← sought, e)
 
-  pub second_unknown : (id : ℕ) (f : Found) → id ≡ after_id_of s q → f ≡ position_of s id → f ≡ Absent → unnamed s q ≡ true
-  second_unknown id f own sought e = rw (← own, ← sought, e, or-true (not (is_at (position_of s (before_id_of s q)))))
+  pub second_unknown : (id : ℕ) (f : Found) → id ≡ after_id_of s q → f ≡ position_of s id → f ≡ None → unnamed s q ≡ true
+  second_unknown id f own sought e = rw (← own, ← sought, e, or-true (not (is_some (position_of s (before_id_of s q)))))
 
   module _ (b a : ℕ) (f g : Found) (x y : ℕ)
-      (own : x ≡ before_id_of s q) (found : f ≡ position_of s x) (is : f ≡ At b)
-      (own' : y ≡ after_id_of s q) (found' : g ≡ position_of s y) (is' : g ≡ At a) where
+      (own : x ≡ before_id_of s q) (found : f ≡ position_of s x) (is : f ≡ Some b)
+      (own' : y ≡ after_id_of s q) (found' : g ≡ position_of s y) (is' : g ≡ Some a) where
     pub both_known : unnamed s q ≡ false
     both_known = rw (← own, ← found, is, ← own', ← found', is')
 
@@ -86,16 +85,16 @@ module _ (s p : List ℕ) (q : ℕ) (before : Nowhere (unnamed s) q)
   counted stop = rw (filled, seats_length s q)
 
   pub named_until : q < pairs_of s → unnamed s q ≡ true
-      → ◌≡◌ {A = Named} (record { stopped = At q; positions = p; count = 2 * q }) (named_pairs s)
+      → ◌≡◌ {A = Named} (record { stopped = Some q; positions = p; count = 2 * q }) (named_pairs s)
   unfolding named_pairs name_fault
-  named_until h e = counted (At q) ∙ rw (← found_here (unnamed s) (pairs_of s) q h before e)
+  named_until h e = counted (Some q) ∙ rw (← found_here (unnamed s) (pairs_of s) q h before e)
 
   pub named_all : pairs_of s ≤ q → q ≤ pairs_of s
-      → ◌≡◌ {A = Named} (record { stopped = Absent; positions = p; count = 2 * q }) (named_pairs s)
+      → ◌≡◌ {A = Named} (record { stopped = None; positions = p; count = 2 * q }) (named_pairs s)
   unfolding named_pairs name_fault
   named_all h g =
       let e : pairs_of s ≡ q = omega arith in
-      counted Absent ∙ rw (← none_found (unnamed s) (pairs_of s) q h before, e)
+      counted None ∙ rw (← none_found (unnamed s) (pairs_of s) q h before, e)
 
 -- ---- a pair's two places
 
@@ -148,11 +147,11 @@ named_stopped s r is = rw is
 
 -- every written pair, where every id is known
 pub all_named : (s : List ℕ) (r : Named) → contours_of s ≤ contour_limit → pairs_of s ≤ pair_limit → r ≡ named_pairs s
-    → r.stopped ≡ Absent
+    → r.stopped ≡ None
     → AllNamed s r
 unfolding named_pairs
 all_named s r n m is stop =
-    let known : name_fault s ≡ Absent = sym (named_stopped s r is) ∙ stop in
+    let known : name_fault s ≡ None = sym (named_stopped s r is) ∙ stop in
     record { few_contours = n; few_pairs = m; are = is ∙ rw known }
 
 -- the positions that are used are the pairs'
@@ -168,31 +167,30 @@ module _ (stop : Found) (known : List ℕ) {r : Named} (is : r ≡ named_as stop
 
 -- ---- more contours or pairs than a card takes
 
-module _ (s : List ℕ) (n m : ℕ) (count : n ≡ contours_of s) (pairs : m ≡ pairs_of s) where
-  asked : (ltb contour_limit (contours_of s) || ltb pair_limit (pairs_of s)) ≡ (ltb contour_limit n || ltb pair_limit m)
-  asked = rw (count, pairs)
+module _ (s : List ℕ) where
+  -- the record of a card whose pairs are not looked at
+  abbrev unread : Named
+  unread = record { stopped = Some 0; positions = replicate seat_limit 0; count = 0 }
 
-  pub too_many : (ltb contour_limit n || ltb pair_limit m) ≡ true
-      → ◌≡◌ {A = Named} (record { stopped = At 0; positions = replicate seat_limit 0; count = 0 }) (named_of s)
+  pub too_many_contours : contour_limit < contours_of s → unread ≡ named_of s
   unfolding named_within seats_of
-  too_many h = rw (asked, h)
+  too_many_contours h = rw (lt-ltb contour_limit (contours_of s) h)
 
-  module _ (few : (ltb contour_limit n || ltb pair_limit m) ≡ false) where
-    pub few_enough : (contours_of s ≤ contour_limit) × (pairs_of s ≤ pair_limit)
-    few_enough =
-        let both = or-none (ltb contour_limit (contours_of s)) (ltb pair_limit (pairs_of s)) (asked ∙ few) in
-        (ltb-false _ _ both.0, ltb-false _ _ both.1)
+  pub too_many_pairs : pair_limit < pairs_of s → unread ≡ named_of s
+  unfolding named_within seats_of
+  too_many_pairs h = rw (lt-ltb pair_limit (pairs_of s) h, or-true (ltb contour_limit (contours_of s)))
 
+  module _ (few : contours_of s ≤ contour_limit) (fewer : pairs_of s ≤ pair_limit) (r : Named)
+      (e : r ≡ named_pairs s) where
     -- with an id unknown, the pairs before its pair; else those by rule join the written ones
-    pub stopped_named : (r : Named) (q : ℕ) → r ≡ named_pairs s → r.stopped ≡ At q → r ≡ named_of s
+    pub stopped_named : (q : ℕ) → r.stopped ≡ Some q → r ≡ named_of s
     unfolding named_within named_pairs
-    stopped_named r q e stop =
-        let known : name_fault s ≡ At q = sym (named_stopped s r e) ∙ stop in
-        e ∙ rw (asked, few, known)
+    stopped_named q stop =
+        let known : name_fault s ≡ Some q = sym (named_stopped s r e) ∙ stop in
+        e ∙ rw (le-ltb contour_limit (contours_of s) few, le-ltb pair_limit (pairs_of s) fewer, known)
 
-    pub joined_named : (r joined : Named) → r ≡ named_pairs s → r.stopped ≡ Absent → joined ≡ named_as Absent (pairs_on s)
-        → joined ≡ named_of s
+    pub joined_named : (joined : Named) → r.stopped ≡ None → joined ≡ named_as None (pairs_on s) → joined ≡ named_of s
     unfolding named_within
-    joined_named r joined e stop is =
-        let known : name_fault s ≡ Absent = sym (named_stopped s r e) ∙ stop in
-        is ∙ rw (asked, few, known)
+    joined_named joined stop is =
+        let known : name_fault s ≡ None = sym (named_stopped s r e) ∙ stop in
+        is ∙ rw (le-ltb contour_limit (contours_of s) few, le-ltb pair_limit (pairs_of s) fewer, known)

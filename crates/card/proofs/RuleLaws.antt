@@ -1,4 +1,5 @@
 -- The pairs by rule one contour at a time, behind the written ones. Assumes nothing.
+use Rattle.std.specs.Prelude.{None, Some}
 use mathlib.Core.Path.{◌≡◌, refl, sym, ap, ◌∙◌}
 use mathlib.Core.Bool.{Bool, true, false}
 use mathlib.Core.List.{List, [], ◌∷◌, ◌++◌, append_assoc, append-nil}
@@ -6,8 +7,7 @@ use Prim.Native.Nat.{ℕ, zero, suc, ◌+◌, ◌*◌, ◌≤◌, ◌<◌}
 use native.Mathlib.Numerals.{add-one}
 use native.Mathlib.Omega.{arith}
 use lib.ListN.{length, set, length-append}
-use Rattle.answer.specs.declared.Found.{Found}
-use Rattle.answer.specs.declared.Found.TheVariants.{At, Absent}
+use Rattle.answer.specs.Answer.{Found}
 use Rattle.answer.specs.Lowest.{lowest}
 use Rattle.answer.specs.Room.{padded}
 use Rattle.answer.proofs.LowestLaws.{LowestAt, is_at_lem}
@@ -20,7 +20,7 @@ use Rattle.card.proofs.NameLaws.{seats_length}
 
 -- ---- what one contour goes before
 
-pub no_hole : (s : List ℕ) (k : ℕ) → is_hole s k ≡ false → Absent ≡ enclosing_of s k
+pub no_hole : (s : List ℕ) (k : ℕ) → is_hole s k ≡ false → None ≡ enclosing_of s k
 unfolding enclosing_of
 no_hole s k e = rw e
 
@@ -30,7 +30,7 @@ unfolding enclosing_of
 hole_before s k f e is = rw e is
 
 -- one that goes before another is a hole, and the other is the first that encloses it
-pub found_enclosing : (s : List ℕ) (k j : ℕ) → enclosing_of s k ≡ At j
+pub found_enclosing : (s : List ℕ) (k j : ℕ) → enclosing_of s k ≡ Some j
     → (is_hole s k ≡ true) × LowestAt (encloses s k) (contours_of s) j
 unfolding enclosing_of
 found_enclosing s k j e = go (is_hole s k) refl
@@ -38,7 +38,7 @@ found_enclosing s k j e = go (is_hole s k) refl
     go : (b : Bool) → is_hole s k ≡ b → (is_hole s k ≡ true) × LowestAt (encloses s k) (contours_of s) j
     go true hole = (hole, is_at_lem (encloses s k) (contours_of s) j (rw hole at e))
     go false hole =
-        let none : ◌≡◌ {A = Found} Absent (At j) = rw hole at e in
+        let none : ◌≡◌ {A = Found} None (Some j) = rw hole at e in
         let z : ◌≡◌ {A = ℕ} 0 1 = cc in
         absurd (omega arith)
 
@@ -50,16 +50,16 @@ rules_more s k = rw (add-one k)
 
 -- one pair or none
 abbrev pub rule_count : Found → ℕ
-rule_count (At j) = 1
-rule_count Absent = 0
+rule_count (Some j) = 1
+rule_count None = 0
 
 pair_length : (k : ℕ) (f : Found) → length (rule_pair k f) ≡ 2 * rule_count f
-pair_length k (At j) = refl
-pair_length k Absent = refl
+pair_length k (Some j) = refl
+pair_length k None = refl
 
 at_most_one : (f : Found) → rule_count f ≤ 1
-at_most_one (At j) = omega arith
-at_most_one Absent = omega arith
+at_most_one (Some j) = omega arith
+at_most_one None = omega arith
 
 -- how many of the first k contours go before another
 unfoldable pub rules_in : List ℕ → ℕ → ℕ
@@ -110,18 +110,18 @@ module _ (s : List ℕ) (k : ℕ) where
       ∙ sym (append_assoc (written_on s) (rules_of s k) (rule_pair k (enclosing_of s k)))
 
   -- a contour that goes before none adds none
-  pub joined_same : (f : Found) → f ≡ enclosing_of s k → f ≡ Absent → joined_to s k ≡ joined_to s (k + 1)
+  pub joined_same : (f : Found) → f ≡ enclosing_of s k → f ≡ None → joined_to s k ≡ joined_to s (k + 1)
   joined_same f is e =
       sym (joined_more ∙ ap (λ (g : Found). joined_to s k ++ rule_pair k g) (sym is ∙ e) ∙ append-nil (joined_to s k))
 
   -- one that does adds its pair
-  pub joined_pair : (f : Found) (j : ℕ) → f ≡ enclosing_of s k → f ≡ At j
+  pub joined_pair : (f : Found) (j : ℕ) → f ≡ enclosing_of s k → f ≡ Some j
       → joined_to s k ++ (k ∷ j ∷ []) ≡ joined_to s (k + 1)
   joined_pair f j is e = sym (joined_more ∙ ap (λ (g : Found). joined_to s k ++ rule_pair k g) (sym is ∙ e))
 
 -- ---- one more pair written to the places
 
-module _ (s p : List ℕ) (k j count : ℕ) (f : Found) (is : f ≡ enclosing_of s k) (e : f ≡ At j)
+module _ (s p : List ℕ) (k j count : ℕ) (f : Found) (is : f ≡ enclosing_of s k) (e : f ≡ Some j)
     (filled : p ≡ padded seat_limit 0 (joined_to s k)) (counted : count ≡ length (joined_to s k)) where
   pub joined_places : count + 1 < seat_limit
       → set (set p count k) (count + 1) j ≡ padded seat_limit 0 (joined_to s (k + 1))

@@ -1,8 +1,7 @@
 -- A card's pairs as positions of contours: those written, as far as their ids are known, and those by rule. Assumes
 -- nothing.
-use Rattle.std.specs.Prelude.{◌≡◌, cond, ◌||◌, List, [], ◌∷◌, ◌++◌, ℕ, zero, suc, ◌+◌, ◌*◌, ◌≤◌, ltb, length}
-use Rattle.answer.specs.declared.Found.{Found}
-use Rattle.answer.specs.declared.Found.TheVariants.{At, Absent}
+use Rattle.std.specs.Prelude.{◌≡◌, cond, ◌||◌, List, [], ◌∷◌, ◌++◌, ℕ, zero, suc, ◌+◌, ◌*◌, ◌≤◌, ltb, length, None, Some}
+use Rattle.answer.specs.Answer.{Found}
 use Rattle.answer.specs.Room.{padded}
 use Rattle.card.specs.declared.Named.{Named}
 use Rattle.closure.specs.Limits.{contour_limit, pair_limit}
@@ -41,8 +40,8 @@ named_as stop known = named_as_within today stop known
 
 -- the place found, or the count if none was
 abbrev pub up_to : ℕ → Found → ℕ
-up_to count (At q) = q
-up_to count Absent = count
+up_to count (Some q) = q
+up_to count None = count
 
 -- the written pairs: the work stops at the first that names an unknown id
 unfoldable pub named_pairs : List ℕ → Named
@@ -53,18 +52,18 @@ named_pairs s = named_as (name_fault s) (seats_of s (up_to (pairs_of s) (name_fa
 pub record AllNamed (s : List ℕ) (named : Named) : Type 0 where
   pub few_contours : contours_of s ≤ contour_limit
   pub few_pairs : pairs_of s ≤ pair_limit
-  pub are : named ≡ named_as Absent (written_on s)
+  pub are : named ≡ named_as None (written_on s)
 
 -- all pairs, those by rule only where no written one is at fault
 abbrev pub known_before : List ℕ → Found → List ℕ
-known_before s (At q) = seats_of s q
-known_before s Absent = pairs_on s
+known_before s (Some q) = seats_of s q
+known_before s None = pairs_on s
 
 -- where there are more contours or pairs than a card takes, the work stops before the first
 unfoldable pub named_within : Limits → List ℕ → Named
 unfolding seats_of rules_of name_fault
 named_within l s =
-    let stop = cond (ltb l.contours (contours_of s) || ltb l.pairs (pairs_of s)) (At 0) (name_fault s) in
+    let stop = cond (ltb l.contours (contours_of s) || ltb l.pairs (pairs_of s)) (Some 0) (name_fault s) in
     named_as_within l stop (known_before s stop)
 
 abbrev pub named_of : List ℕ → Named

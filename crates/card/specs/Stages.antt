@@ -1,16 +1,15 @@
 -- When a card goes back: a stage for each row of the table, in the order in which they are looked at. A stage finds the
 -- lowest place at which its test holds. Assumes nothing.
-use Rattle.std.specs.Prelude.{Bool, true, false, not, cond, ◌||◌, ◌&&◌, List, [], ◌∷◌, ℕ, zero, suc, ◌+◌, ◌*◌, ◌-◌, ◌/◌, ◌%◌, min, length, get_or, eqb, ltb, leb}
-use Rattle.answer.specs.declared.Found.{Found}
-use Rattle.answer.specs.declared.Found.TheVariants.{At, Absent}
+use Rattle.std.specs.Prelude.{Bool, false, not, cond, ◌||◌, ◌&&◌, List, [], ◌∷◌, ℕ, zero, suc, ◌+◌, ◌*◌, ◌-◌, ◌/◌, ◌%◌, min, length, get_or, eqb, ltb, leb, None, Some, is_some}
+use Rattle.answer.specs.Answer.{Found}
 use Rattle.answer.specs.Lowest.{or_further, lowest}
 use Rattle.block.specs.Field.{u64_at}
 use Rattle.block.specs.Block.{block_bytes, payload_bytes, checked, starts, zeros_at}
 use Rattle.closure.specs.Limits.{contour_limit, pair_limit}
 use Rattle.fields.specs.Limits.{card_bytes, per_contour_limit, candidate_limit, pass_limit, vertex_limit, pairs_a_block}
 use Rattle.fields.specs.Limits.{farthest}
-use Rattle.card.specs.declared.Asked.{Asked}
-use Rattle.card.specs.declared.Asked.TheVariants.{Checks, Starts, Spares, Contours, Ids, Points}
+use Rattle.card.specs.declared.BlockKind.{BlockKind}
+use Rattle.card.specs.declared.BlockKind.TheVariants as kind
 use Rattle.fields.specs.Layout.{blocks_of, payload, version_of, is_two, contours_of, pairs_of, per_contour_of, passes_of}
 use Rattle.fields.specs.Layout.{home_offset, exterior_of, interior_of, grid_of, id_of, tag_of, vertex_count_of, type_of}
 use Rattle.fields.specs.Layout.{filler_of, vertex_offset, before_id_of, before_tag_of, after_id_of, after_tag_of}
@@ -18,12 +17,7 @@ use Rattle.fields.specs.Layout.{head_size, grid_offset, contour_size, vertex_siz
 
 -- this place, if the test holds
 abbrev pub found_if : Bool → ℕ → Found
-found_if b k = or_further b k Absent
-
--- whether a place was found
-abbrev pub is_at : Found → Bool
-is_at (At k) = true
-is_at Absent = false
+found_if b k = or_further b k None
 
 -- below the least or above the most
 abbrev pub outside : ℕ → ℕ → ℕ → Bool
@@ -50,6 +44,12 @@ unfolding lowest
 check_fault s = lowest (bad_check s) (blocks_of s)
 
 -- ---- 3: the starts, of the first count blocks
+
+-- the number that a block's start says of what it is for
+abbrev pub kind_number : BlockKind → ℕ
+kind_number kind.Head = 1
+kind_number kind.Contour = 2
+kind_number kind.Pairs = 3
 
 -- the head is of kind 1, a contour of kind 2, pairs of kind 3
 abbrev pub kind_due : List ℕ → ℕ → ℕ
@@ -151,7 +151,7 @@ far_vertex s k = lowest (λ j. far_point s (vertex_offset k j)) (vertex_count_of
 
 abbrev pub far_place : List ℕ → ℕ → Bool
 far_place s zero = far_point s home_offset
-far_place s (suc k) = is_at (far_vertex s k)
+far_place s (suc k) = is_some (far_vertex s k)
 
 unfoldable pub far_fault : List ℕ → Found
 unfolding lowest
@@ -165,7 +165,7 @@ unfolding lowest
 seek_of s count id = lowest (λ k. eqb (id_of s k) id) count
 
 abbrev pub repeats : List ℕ → ℕ → Bool
-repeats s k = is_at (seek_of s k (id_of s k))
+repeats s k = is_some (seek_of s k (id_of s k))
 
 unfoldable pub repeat_fault : List ℕ → Found
 unfolding lowest
@@ -178,7 +178,7 @@ abbrev pub position_of : List ℕ → ℕ → Found
 position_of s id = seek_of s (contours_of s) id
 
 abbrev pub unnamed : List ℕ → ℕ → Bool
-unnamed s q = not (is_at (position_of s (before_id_of s q))) || not (is_at (position_of s (after_id_of s q)))
+unnamed s q = not (is_some (position_of s (before_id_of s q))) || not (is_some (position_of s (after_id_of s q)))
 
 unfoldable pub name_fault : List ℕ → Found
 unfolding lowest
@@ -188,8 +188,8 @@ name_fault s = lowest (unnamed s) (pairs_of s)
 
 -- the position found; 0 where there is none
 abbrev pub seat : Found → ℕ
-seat (At k) = k
-seat Absent = 0
+seat (Some k) = k
+seat None = 0
 
 abbrev pub before_of : List ℕ → ℕ → ℕ
 before_of s q = seat (position_of s (before_id_of s q))
@@ -204,13 +204,3 @@ other_tag s q =
 unfoldable pub tag_fault : List ℕ → Found
 unfolding lowest
 tag_fault s = lowest (other_tag s) (pairs_of s)
-
--- ---- 2, 3, 6, 7, 8 and 9 by what they look at
-
-abbrev pub fault_at : Asked → List ℕ → ℕ → Bool
-fault_at Checks = bad_check
-fault_at Starts = bad_start
-fault_at Spares = bad_spare
-fault_at Contours = bad_contour
-fault_at Ids = repeats
-fault_at Points = far_place

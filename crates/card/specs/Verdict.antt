@@ -1,8 +1,7 @@
 -- The verdict on any bytes: the first stage that refuses, in the order in which the numbers are looked at. Assumes
 -- nothing.
 use Rattle.std.specs.Prelude.{List, [], ◌∷◌, ◌++◌, ℕ}
-use Rattle.answer.specs.declared.Found.{Found}
-use Rattle.answer.specs.declared.Check.{Check}
+use Rattle.answer.specs.Answer.{Check, Found}
 use Rattle.answer.specs.Lowest.{refuse_at}
 use Rattle.answer.specs.Stage.{first_refusal}
 use Rattle.closure.specs.Limits.{contour_limit}

@@ -1,5 +1,6 @@
 -- Every fine card has each fact that later parts stand on; and the record of a card's fields reads what the field
 -- questions read. Assumes nothing.
+use Rattle.std.specs.Prelude.{Ok}
 use mathlib.Mathlib.Data.Bool.Basic.{eq-false_of_not-eq-true}
 use mathlib.Core.Path.{◌≡◌, refl, sym, ap, ◌∙◌}
 use mathlib.Core.Logic.{◌⊎◌, inl, inr}
@@ -13,7 +14,6 @@ use lib.ListN.{length, get_or, length-append, get_or-append}
 use lib.Seq.{get_or_at}
 use borrow.Author.Tests.{ltb-true, ltb-false, eqb-true, eqb-false}
 use Rattle.answer.specs.declared.Point.{Point}
-use Rattle.answer.specs.declared.Check.TheVariants.{Fine}
 use Rattle.block.specs.Field.{byte_at}
 use Rattle.block.specs.Block.{block_bytes}
 use Rattle.points.specs.Bad.{bad_point}
@@ -157,7 +157,7 @@ module _ (s : List ℕ) (sound : Sound s) where
         acyclic = no_cycle s row9 row10 row12;
       }
 
-pub accepted : (s : List ℕ) → check_of s ≡ Fine → Accepted s
+pub accepted : (s : List ℕ) → check_of s ≡ Ok tt → Accepted s
 accepted s e = facts s ((exactly s).fine_only e)
 
 -- ---- the record of a card

@@ -1,4 +1,5 @@
 -- The list of all pairs, place by place. Assumes nothing.
+use Rattle.std.specs.Prelude.{None, Ok, Some}
 use mathlib.Core.Path.{◌≡◌, refl, sym, ap, ◌∙◌, subst}
 use mathlib.Core.Logic.{◌⊎◌, inl, inr}
 use mathlib.Core.Bool.{Bool, false, not, ◌&&◌, and-false}
@@ -10,9 +11,7 @@ use lib.Dec.{eqb}
 use borrow.Author.Tests.{eq-eqb}
 use lib.ListN.{length, get_or, length-append, get_or-append}
 use lib.Seq.{get_or-append-add}
-use Rattle.answer.specs.declared.Found.{Found}
-use Rattle.answer.specs.declared.Found.TheVariants.{At, Absent}
-use Rattle.answer.specs.declared.Check.TheVariants.{Fine}
+use Rattle.answer.specs.Answer.{Found}
 use Rattle.fields.specs.Layout.{version_of, contours_of, pairs_of, type_of, part_of, before_id_of, after_id_of}
 use Rattle.card.specs.Rules.{is_hole, enclosing_of, rule_pair, rules_of}
 use Rattle.card.specs.Names.{written_on, pairs_on}
@@ -28,13 +27,13 @@ use Rattle.card_laws.proofs.Facts.{accepted}
 
 record RuledTo (s l : List ℕ) (c k : ℕ) : Type 0 where
   whole : length l ≡ 2 * c
-  own : (r : ℕ) → r < c → (first_at l r < k) × (enclosing_of s (first_at l r) ≡ At (second_at l r))
+  own : (r : ℕ) → r < c → (first_at l r < k) × (enclosing_of s (first_at l r) ≡ Some (second_at l r))
   rising : (r : ℕ) → suc r < c → first_at l r < first_at l (suc r)
-  each : (i j : ℕ) → i < k → enclosing_of s i ≡ At j → (r : ℕ) × (r < c) × (first_at l r ≡ i)
+  each : (i j : ℕ) → i < k → enclosing_of s i ≡ Some j → (r : ℕ) × (r < c) × (first_at l r ≡ i)
 
 module _ (s l : List ℕ) (c k : ℕ) (to : RuledTo s l c k) where
   -- a contour that goes before none
-  ruled_same : enclosing_of s k ≡ Absent → RuledTo s l c (suc k)
+  ruled_same : enclosing_of s k ≡ None → RuledTo s l c (suc k)
   ruled_same none = record {
     whole = to.whole;
     own = λ r h. (omega (arith, (to.own r h).0), (to.own r h).1);
@@ -42,15 +41,15 @@ module _ (s l : List ℕ) (c k : ℕ) (to : RuledTo s l c k) where
     each = λ i j h e. find i j e (eq-or-lt_of_le (le_of_suc-le-suc h));
   }
     where
-      find : (i j : ℕ) → enclosing_of s i ≡ At j → (i ≡ k) ⊎ (i < k) → (r : ℕ) × (r < c) × (first_at l r ≡ i)
+      find : (i j : ℕ) → enclosing_of s i ≡ Some j → (i ≡ k) ⊎ (i < k) → (r : ℕ) × (r < c) × (first_at l r ≡ i)
       find i j e (inl f) =
-          let z : Absent ≡ At j = sym none ∙ ap (enclosing_of s) (sym f) ∙ e in
+          let z : None ≡ Some j = sym none ∙ ap (enclosing_of s) (sym f) ∙ e in
           let y : ◌≡◌ {A = ℕ} 0 1 = cc in
           absurd (omega arith)
       find i j e (inr g) = to.each i j g e
 
   -- one that does
-  module _ (j : ℕ) (one : enclosing_of s k ≡ At j) where
+  module _ (j : ℕ) (one : enclosing_of s k ≡ Some j) where
     abbrev more : List ℕ
     more = l ++ (k ∷ j ∷ [])
 
@@ -75,9 +74,9 @@ module _ (s l : List ℕ) (c k : ℕ) (to : RuledTo s l c k) where
         plus r h = omega arith
 
         own : (r : ℕ) → (r ≡ c) ⊎ (r < c)
-            → (first_at more r < suc k) × (enclosing_of s (first_at more r) ≡ At (second_at more r))
+            → (first_at more r < suc k) × (enclosing_of s (first_at more r) ≡ Some (second_at more r))
         own r (inl e) = subst
-            (λ (x : ℕ). (first_at more x < suc k) × (enclosing_of s (first_at more x) ≡ At (second_at more x))) (sym e)
+            (λ (x : ℕ). (first_at more x < suc k) × (enclosing_of s (first_at more x) ≡ Some (second_at more x))) (sym e)
             (rw (last_first, last_second) (omega arith, one))
         own r (inr h) =
             rw (earlier (2 * r) (omega arith), earlier (2 * r + 1) (omega arith))
@@ -89,7 +88,7 @@ module _ (s l : List ℕ) (c k : ℕ) (to : RuledTo s l c k) where
         rising r (inr h) =
             rw (earlier (2 * r) (omega arith), earlier (2 * suc r) (omega arith)) (to.rising r h)
 
-        find : (i m : ℕ) → enclosing_of s i ≡ At m → (i ≡ k) ⊎ (i < k) → (r : ℕ) × (r < c + 1) × (first_at more r ≡ i)
+        find : (i m : ℕ) → enclosing_of s i ≡ Some m → (i ≡ k) ⊎ (i < k) → (r : ℕ) × (r < c + 1) × (first_at more r ≡ i)
         find i m e (inl f) = (c, omega arith, last_first ∙ sym f)
         find i m e (inr g) =
             let at = to.each i m g e in
@@ -107,8 +106,8 @@ ruled s (suc k) = go (enclosing_of s k) refl (ruled s k)
   where
     go : (f : Found) → enclosing_of s k ≡ f → RuledTo s (rules_of s k) (rules_in s k) k
         → RuledTo s (rules_of s k ++ rule_pair k (enclosing_of s k)) (rules_in s k + rule_count (enclosing_of s k)) (suc k)
-    go (At j) e to = rw e (ruled_more s (rules_of s k) (rules_in s k) k to j e)
-    go Absent e to =
+    go (Some j) e to = rw e (ruled_more s (rules_of s k) (rules_in s k) k to j e)
+    go None e to =
         rw (e, append-nil (rules_of s k), add-zero (rules_in s k)) (ruled_same s (rules_of s k) (rules_in s k) k to e)
 
 -- ---- behind the written ones
@@ -136,7 +135,7 @@ module _ (s : List ℕ) where
   ahead : (a : ℕ) → a < 2 * pairs_of s → get_or (pairs_on s) a 0 ≡ get_or (written_on s) a 0
   ahead a h = get_or-append (written_on s) (rules_of s (contours_of s)) 0 a (omega (arith, seats_length s (pairs_of s)))
 
-pub joined : (s : List ℕ) → check_of s ≡ Fine → Joined s (rules_in s (contours_of s))
+pub joined : (s : List ℕ) → check_of s ≡ Ok tt → Joined s (rules_in s (contours_of s))
 joined s fine =
     let to = ruled s (contours_of s) in
     record {

@@ -1,5 +1,6 @@
 -- Two contours are linked in a card's list of positions exactly where one of its pairs, written or by rule, stands for
 -- them. Assumes nothing.
+use Rattle.std.specs.Prelude.{None, Some}
 use mathlib.Mathlib.Data.Bool.Basic.{or_inl, or_inr, and_elim_left, and_elim_right, and_intro}
 use mathlib.Core.Path.{◌≡◌, refl, sym, ap, ◌∙◌, subst}
 use mathlib.Core.Logic.{◌⊎◌, inl, inr}
@@ -11,8 +12,7 @@ use native.Mathlib.Omega.{arith}
 use lib.Dec.{eqb}
 use lib.ListN.{length}
 use borrow.Author.Tests.{eq-eqb, eqb-true, lt-ltb}
-use Rattle.answer.specs.declared.Found.{Found}
-use Rattle.answer.specs.declared.Found.TheVariants.{At, Absent}
+use Rattle.answer.specs.Answer.{Found}
 use Rattle.answer.proofs.Truth.{or_cases, true_false}
 use Rattle.closure.specs.Cycle.{linked}
 use Rattle.closure.specs.Pairs.{Pair, paired, every, some_of, is_pair, both}
@@ -117,31 +117,31 @@ module _ (s : List ℕ) (i j : ℕ) where
       go (inr h) earlier =
           inl (earlier (record { pair = b.pair; is_pair_lem = h; first = b.first; second = b.second }))
 
-  found_rule : (m : ℕ) → Lists i j (rules_of s m) → (i < m) × (enclosing_of s i ≡ At j)
+  found_rule : (m : ℕ) → Lists i j (rules_of s m) → (i < m) × (enclosing_of s i ≡ Some j)
   unfolding some_of paired rules_of
   found_rule zero e = absurd (true_false {b = false} e refl)
   found_rule (suc m) e =
       go (in_either i j (rules_of s m) (rule_pair m (enclosing_of s m)) _ (rules_whole s m) e) (found_rule m)
     where
-      own : (f : Found) → enclosing_of s m ≡ f → Lists i j (rule_pair m f) → (i < suc m) × (enclosing_of s i ≡ At j)
-      own (At k) f t =
+      own : (f : Found) → enclosing_of s m ≡ f → Lists i j (rule_pair m f) → (i < suc m) × (enclosing_of s i ≡ Some j)
+      own (Some k) f t =
           let last = only_pair i j m k t in
-          (omega (arith, last.0), ap (enclosing_of s) (sym last.0) ∙ f ∙ ap At last.1)
-      own Absent f t = absurd (true_false {b = false} t refl)
+          (omega (arith, last.0), ap (enclosing_of s) (sym last.0) ∙ f ∙ ap Some last.1)
+      own None f t = absurd (true_false {b = false} t refl)
 
       go : Lists i j (rules_of s m) ⊎ Lists i j (rule_pair m (enclosing_of s m))
-          → (Lists i j (rules_of s m) → (i < m) × (enclosing_of s i ≡ At j)) → (i < suc m) × (enclosing_of s i ≡ At j)
+          → (Lists i j (rules_of s m) → (i < m) × (enclosing_of s i ≡ Some j)) → (i < suc m) × (enclosing_of s i ≡ Some j)
       go (inl t) later = let b = later t in (omega (arith, b.0), b.1)
       go (inr t) later = own (enclosing_of s m) refl t
 
-  rule_found : (m : ℕ) → i < m → enclosing_of s i ≡ At j → Lists i j (rules_of s m)
+  rule_found : (m : ℕ) → i < m → enclosing_of s i ≡ Some j → Lists i j (rules_of s m)
   unfolding rules_of
   rule_found zero h e = absurd (not-suc-le-zero h)
   rule_found (suc m) h e =
       from_either i j (rules_of s m) (rule_pair m (enclosing_of s m)) _ (rules_whole s m)
       (go (eq-or-lt_of_le (le_of_suc-le-suc h)) (rule_found m))
     where
-      go : (i ≡ m) ⊎ (i < m) → (i < m → enclosing_of s i ≡ At j → Lists i j (rules_of s m))
+      go : (i ≡ m) ⊎ (i < m) → (i < m → enclosing_of s i ≡ Some j → Lists i j (rules_of s m))
           → Lists i j (rules_of s m) ⊎ Lists i j (rule_pair m (enclosing_of s m))
       go (inl f) earlier =
           inr (subst (λ (g : Found). Lists i j (rule_pair m g)) (sym (ap (enclosing_of s) (sym f) ∙ e))

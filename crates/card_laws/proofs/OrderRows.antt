@@ -1,11 +1,10 @@
 -- 12 is given exactly when no legal order exists; and a fine card's links, pair by pair. Assumes nothing.
+use Rattle.std.specs.Prelude.{None, Ok, Some}
 use mathlib.Core.Path.{◌≡◌, refl}
 use mathlib.Core.List.{List}
 use Prim.Native.Nat.{ℕ}
 use native.Mathlib.Omega.{arith}
-use Rattle.answer.specs.declared.Found.{Found}
-use Rattle.answer.specs.declared.Found.TheVariants.{At, Absent}
-use Rattle.answer.specs.declared.Check.TheVariants.{Fine}
+use Rattle.answer.specs.Answer.{Found}
 use Rattle.answer.specs.Lowest.{lowest}
 use Rattle.closure.specs.Cycle.{on_cycle, Acyclic}
 use Rattle.closure.proofs.PathLaws.{absent_exactly}
@@ -30,7 +29,7 @@ module _ (s : List ℕ) where
       let free : Acyclic (contours_of s) (pairs_on s) =
       (legal_exactly (contours_of s) (few_by_11 s past) (pairs_on s)).0
       (order, by_positions s past.0.0.1 past.0.1 order legal) in
-      let fine : check_of s ≡ Fine =
+      let fine : check_of s ≡ Ok tt =
       (exactly s).fine_if (
         past,
         (λ p row. free p row.within
@@ -49,16 +48,16 @@ module _ (s : List ℕ) where
       seats = pairs_on s
 
       go : (f : Found) → lowest (on_cycle n seats) n ≡ f → RefusedWith 12 s
-      go (At k) e =
+      go (Some k) e =
           let row : Row12 s k =
           (lowest_exact (on_cycle n seats) n (OnCycle s) (cycle_row s past.0.0.1 past.0.1)
           (row_cycle s past.0.0.1 past.0.1)).found k e in
           (k, (exactly s).refused-if (record { number = 12; place = k }) (twelve past row))
-      go Absent e =
+      go None e =
           let some = (legal_exactly n (few_by_11 s past) seats).1 ((absent_exactly n seats).0 e) in
           absurd (none (some.0, by_ids s past.0.0.1 past.0.1 some.0 some.1))
 
-  order_exists : check_of s ≡ Fine → SomeOrder s
+  order_exists : check_of s ≡ Ok tt → SomeOrder s
   order_exists e =
       let facts = accepted s e in
       let past : Past10 s = ((exactly s).fine_only e).0.0 in
@@ -70,7 +69,7 @@ twelve_exactly s = record { no_order = no_order_exists s; sent_back = goes_back 
 
 -- ---- links
 
-pub links : (s : List ℕ) → check_of s ≡ Fine → Links s
+pub links : (s : List ℕ) → check_of s ≡ Ok tt → Links s
 links s e =
     let past : Past10 s = ((exactly s).fine_only e).0.0 in
     record {

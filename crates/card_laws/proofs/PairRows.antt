@@ -1,4 +1,5 @@
 -- Rows 7, 10 and 11 of the table. Assumes nothing.
+use Rattle.std.specs.Prelude.{None, Some, is_some}
 use mathlib.Mathlib.Data.Bool.Basic.{or_inl, or_inr, not_iff_not}
 use mathlib.Core.Path.{◌≡◌, refl, sym, ap, ◌∙◌, subst}
 use mathlib.Core.Logic.{◌⊎◌, inl, inr}
@@ -9,8 +10,7 @@ use native.Mathlib.Nat.{add_assoc}
 use native.Mathlib.Omega.{arith}
 use lib.Dec.{eqb, ltb}
 use borrow.Author.Tests.{eqb-true, eqb-false, eq-eqb, not-false, ltb-true, ltb-false}
-use Rattle.answer.specs.declared.Found.{Found}
-use Rattle.answer.specs.declared.Found.TheVariants.{At, Absent}
+use Rattle.answer.specs.Answer.{Found}
 use Rattle.answer.specs.Lowest.{lowest}
 use Rattle.answer.proofs.LowestLaws.{is_at_lem, is_absent}
 use Rattle.block.specs.Field.{byte_at}
@@ -21,7 +21,7 @@ use Rattle.fields.specs.Limits.{pairs_a_block}
 use Rattle.fields.specs.Layout.{blocks_of, payload, version_of, is_two, contours_of, pairs_of, id_of, tag_of}
 use Rattle.fields.specs.Layout.{vertex_count_of, before_id_of, before_tag_of, after_id_of, after_tag_of}
 use Rattle.fields.specs.Layout.{head_size, grid_offset, contour_size, vertex_size, pair_size, part_offset}
-use Rattle.card.specs.Stages.{is_at, pairs_in, head_used, used_in, spare_end, bad_spare, spare_fault, seek_of, position_of}
+use Rattle.card.specs.Stages.{pairs_in, head_used, used_in, spare_end, bad_spare, spare_fault, seek_of, position_of}
 use Rattle.card.specs.Stages.{unnamed, name_fault, seat, before_of, after_of, other_tag, tag_fault}
 use Rattle.card.proofs.SpareLaws.{used_head, used_contour, used-pairs, end_head, end_contour, end_pairs, end_within_lem}
 use Rattle.card_laws.specs.Table.{Spare, in_head, in_contour, past_last_pair, past_full_block, SpareByte, Row7}
@@ -133,7 +133,7 @@ module _ (s : List ℕ) where
       some = λ i. not (eqb (byte_at s (payload b + used_in s b + i)) 0)
 
       go : (f : Found) → lowest some count ≡ f → SpareByte s b
-      go (At i) h =
+      go (Some i) h =
           let w = is_at_lem some count i h in
           let l : used_in s b + i < spare_end s b = omega (arith, w.within) in
           record {
@@ -143,7 +143,7 @@ module _ (s : List ℕ) where
             some = λ z. (not_iff_not {b = eqb (byte_at s (payload b + used_in s b + i)) 0}).0 w.holds
                 (eq-eqb _ _ (ap (byte_at s) (add_assoc (payload b) (used_in s b) i) ∙ z));
           }
-      go Absent h =
+      go None h =
           absurd
           ((not_iff_not {b = zeros_at s (payload b + used_in s b) count}).0 e
           (each_zeros s (payload b + used_in s b) count
@@ -167,46 +167,46 @@ module _ (s : List ℕ) where
   -- ---- 10
 
   -- a lookup finds a contour with the id, or there is none
-  looked_up : (id k : ℕ) → position_of s id ≡ At k → Has s id k
+  looked_up : (id k : ℕ) → position_of s id ≡ Some k → Has s id k
   unfolding seek_of
   looked_up id k e =
       let w = is_at_lem (λ j. eqb (id_of s j) id) (contours_of s) k e in
       record { is_contour = w.within; same = eqb-true _ _ w.holds }
 
-  not_there : (id k : ℕ) → position_of s id ≡ Absent → Has s id k → ⊥
+  not_there : (id k : ℕ) → position_of s id ≡ None → Has s id k → ⊥
   unfolding seek_of
   not_there id k e h =
       true_false {b = eqb (id_of s k) id} (eq-eqb _ _ h.same)
       (is_absent (λ j. eqb (id_of s j) id) (contours_of s) e k h.is_contour)
 
-  unknown_id : (id : ℕ) → not (is_at (position_of s id)) ≡ true → (k : ℕ) → Has s id k → ⊥
+  unknown_id : (id : ℕ) → not (is_some (position_of s id)) ≡ true → (k : ℕ) → Has s id k → ⊥
   unknown_id id e k h = go (position_of s id) refl
     where
       go : (f : Found) → position_of s id ≡ f → ⊥
-      go (At j) g = (not_iff_not {b = is_at (position_of s id)}).0 e (ap is_at g)
-      go Absent g = not_there id k g h
+      go (Some j) g = (not_iff_not {b = is_some (position_of s id)}).0 e (ap is_some g)
+      go None g = not_there id k g h
 
-  id_unknown : (id : ℕ) → ((k : ℕ) → Has s id k → ⊥) → not (is_at (position_of s id)) ≡ true
+  id_unknown : (id : ℕ) → ((k : ℕ) → Has s id k → ⊥) → not (is_some (position_of s id)) ≡ true
   id_unknown id none = go (position_of s id) refl
     where
-      go : (f : Found) → position_of s id ≡ f → not (is_at (position_of s id)) ≡ true
-      go (At j) g = absurd (none j (looked_up id j g))
-      go Absent g = ap (λ (f : Found). not (is_at f)) g
+      go : (f : Found) → position_of s id ≡ f → not (is_some (position_of s id)) ≡ true
+      go (Some j) g = absurd (none j (looked_up id j g))
+      go None g = ap (λ (f : Found). not (is_some f)) g
 
   is_unnamed : (q : ℕ) → unnamed s q ≡ true → Unnamed s q
   is_unnamed q e =
-      go (or_cases (not (is_at (position_of s (before_id_of s q)))) (not (is_at (position_of s (after_id_of s q)))) e)
+      go (or_cases (not (is_some (position_of s (before_id_of s q)))) (not (is_some (position_of s (after_id_of s q)))) e)
     where
-      go : (not (is_at (position_of s (before_id_of s q))) ≡ true) ⊎ (not (is_at (position_of s (after_id_of s q))) ≡ true)
+      go : (not (is_some (position_of s (before_id_of s q))) ≡ true) ⊎ (not (is_some (position_of s (after_id_of s q))) ≡ true)
           → Unnamed s q
       go (inl t) = Unnamed.first (unknown_id (before_id_of s q) t)
       go (inr t) = Unnamed.second (unknown_id (after_id_of s q) t)
 
   unnamed_is : (q : ℕ) → Unnamed s q → unnamed s q ≡ true
   unnamed_is q (Unnamed.first h) =
-      or_inl (not (is_at (position_of s (before_id_of s q)))) _ (id_unknown (before_id_of s q) h)
+      or_inl (not (is_some (position_of s (before_id_of s q)))) _ (id_unknown (before_id_of s q) h)
   unnamed_is q (Unnamed.second h) =
-      or_inr (not (is_at (position_of s (before_id_of s q)))) _ (id_unknown (after_id_of s q) h)
+      or_inr (not (is_some (position_of s (before_id_of s q)))) _ (id_unknown (after_id_of s q) h)
 
   pub exact10 : Exact (name_fault s) (Row10 s)
   unfolding name_fault
@@ -232,8 +232,8 @@ module _ (s : List ℕ) where
   known id some = go (position_of s id) refl
     where
       go : (f : Found) → position_of s id ≡ f → Has s id (seat (position_of s id))
-      go (At j) e = subst (λ (f : Found). Has s id (seat f)) (sym e) (looked_up id j e)
-      go Absent e = absurd (some (λ k h. not_there id k e h))
+      go (Some j) e = subst (λ (f : Found). Has s id (seat f)) (sym e) (looked_up id j e)
+      go None e = absurd (some (λ k h. not_there id k e h))
 
   module _ (unique : No (Row9 s)) (named : No (Row10 s)) where
     no_unnamed : (q : ℕ) → q < pairs_of s → Unnamed s q → ⊥

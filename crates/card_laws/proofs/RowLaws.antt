@@ -1,4 +1,5 @@
 -- Each stage's search tells exactly what its row of the table says. Assumes nothing.
+use Rattle.std.specs.Prelude.{None, Some, is_some}
 use mathlib.Mathlib.Data.Bool.Basic.{or_inl, or_inr, not_iff_not, and_intro, and_elim_left, and_elim_right}
 use mathlib.Core.Path.{◌≡◌, refl, sym, ap, ◌∙◌, subst}
 use mathlib.Core.Logic.{◌⊎◌, inl, inr}
@@ -9,8 +10,7 @@ use native.Mathlib.Omega.{arith}
 use lib.Dec.{eqb, ltb}
 use lib.ListN.{length, get_or}
 use borrow.Author.Tests.{ltb-true, lt-ltb, eqb-true, eq-eqb}
-use Rattle.answer.specs.declared.Found.{Found}
-use Rattle.answer.specs.declared.Found.TheVariants.{At, Absent}
+use Rattle.answer.specs.Answer.{Found}
 use Rattle.answer.specs.Lowest.{lowest}
 use Rattle.answer.proofs.LowestLaws.{is_at_lem, is_absent}
 use Rattle.block.specs.Field.{byte_at, u32_at}
@@ -24,7 +24,6 @@ use Rattle.card.specs.Stages.{outside, bad_length_within, length_fault, length_f
 use Rattle.card.specs.Stages.{start_fault, head_faults}
 use Rattle.card.specs.Stages.{head_fault, head_fault_within, blocks_due, count_fault, bad_contour, contour_fault, seek_of}
 use Rattle.card.specs.Stages.{repeats, repeat_fault}
-use Rattle.card.specs.Stages.{is_at}
 use Rattle.card.proofs.FaultLaws.{kind_head, kind_contour, kind_pairs}
 use Rattle.card_laws.specs.Table.{Row1, CheckDiffers, Row2, Kind, of_head, of_contour, of_pairs, Version}
 use Rattle.card_laws.specs.Table.{is_one, is_two_lem, StartsOtherwise}
@@ -260,10 +259,10 @@ module _ (s : List ℕ) where
       same = λ j. eqb (id_of s j) (id_of s k)
 
       go : (f : Found) → lowest same k ≡ f → Repeated s k
-      go (At j) h =
+      go (Some j) h =
           let w = is_at_lem same k j h in
           record { earlier = j; is_earlier = w.within; same = eqb-true _ _ w.holds }
-      go Absent h = absurd (true_false {b = false} (ap is_at (sym h) ∙ e) refl)
+      go None h = absurd (true_false {b = false} (ap is_some (sym h) ∙ e) refl)
 
   is_repeated : (k : ℕ) → Repeated s k → repeats s k ≡ true
   unfolding seek_of
@@ -272,9 +271,9 @@ module _ (s : List ℕ) where
       same : ℕ → Bool
       same = λ j. eqb (id_of s j) (id_of s k)
 
-      go : (f : Found) → lowest same k ≡ f → is_at (lowest same k) ≡ true
-      go (At j) h = ap is_at h
-      go Absent h =
+      go : (f : Found) → lowest same k ≡ f → is_some (lowest same k) ≡ true
+      go (Some j) h = ap is_some h
+      go None h =
           absurd (true_false {b = same r.earlier} (eq-eqb _ _ r.same)
           (is_absent same k h r.earlier r.is_earlier))
 

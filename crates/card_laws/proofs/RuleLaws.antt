@@ -1,4 +1,5 @@
 -- What is found to enclose a contour is what the table's rule says. Assumes nothing.
+use Rattle.std.specs.Prelude.{Some}
 use mathlib.Mathlib.Data.Bool.Basic.{and_elim_left, and_elim_right, and_intro, not_iff_not, eq-false_of_not-eq-true}
 use mathlib.Core.Path.{◌≡◌}
 use mathlib.Core.Bool.{true, ◌&&◌}
@@ -6,7 +7,6 @@ use mathlib.Core.List.{List}
 use Prim.Native.Nat.{ℕ, ◌<◌}
 use lib.Dec.{eqb}
 use borrow.Author.Tests.{eq-eqb, eqb-true}
-use Rattle.answer.specs.declared.Found.TheVariants.{At}
 use Rattle.answer.proofs.LowestLaws.{at_is}
 use Rattle.answer.proofs.Truth.{true_false}
 use Rattle.fields.specs.Layout.{contours_of, type_of, part_of, copy_of}
@@ -30,7 +30,7 @@ module _ (s : List ℕ) (i : ℕ) where
       and_intro (eq-eqb _ _ o.exterior) (and_intro (eq-eqb _ _ o.same_part) (eq-eqb _ _ o.same_copy))
 
   -- a contour that is found is the rule's
-  pub enclosing_rule : (j : ℕ) → i < contours_of s → enclosing_of s i ≡ At j → ByRule s i j
+  pub enclosing_rule : (j : ℕ) → i < contours_of s → enclosing_of s i ≡ Some j → ByRule s i j
   enclosing_rule j h e =
       let found = found_enclosing s i j e in
       let w = found.1 in
@@ -47,7 +47,7 @@ module _ (s : List ℕ) (i : ℕ) where
       }
 
   -- and the rule's is found
-  pub rule_enclosing : (j : ℕ) → ByRule s i j → enclosing_of s i ≡ At j
+  pub rule_enclosing : (j : ℕ) → ByRule s i j → enclosing_of s i ≡ Some j
   unfolding enclosing_of
   rule_enclosing j r =
       let hole : is_hole s i ≡ true =

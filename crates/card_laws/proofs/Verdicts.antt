@@ -1,5 +1,6 @@
 -- The verdict is the table's: refused with a number and a place exactly when they are given, fine exactly when no row
 -- holds. Assumes nothing.
+use Rattle.std.specs.Prelude.{Err, Ok}
 use mathlib.Mathlib.Data.Bool.Basic.{eq-false_of_not-eq-true}
 use mathlib.Core.Path.{◌≡◌, sym, ◌∙◌}
 use mathlib.Core.List.{List, [], ◌∷◌}
@@ -8,8 +9,7 @@ use lib.Dec.{lit<}
 use borrow.Author.Tests.{ltb-true, ltb-false}
 use native.Mathlib.Omega.{arith}
 use Rattle.answer.specs.declared.Refusal.{Refusal}
-use Rattle.answer.specs.declared.Check.{Check}
-use Rattle.answer.specs.declared.Check.TheVariants.{Fine, Refused}
+use Rattle.answer.specs.Answer.{Check}
 use Rattle.answer.specs.Lowest.{refuse_at}
 use Rattle.answer.specs.Stage.{first_refusal}
 use Rattle.closure.specs.Limits.{contour_limit}
@@ -121,13 +121,13 @@ module _ (s : List ℕ) where
   past11 : Past11 s → check_of s ≡ first_refusal from12
   past11 past = past10 past.0 ∙ on 11 (tag_fault s) (Row11 s) (tags past.0) from12 past.1
 
-  sound_is_fine : Sound s → check_of s ≡ Fine
+  sound_is_fine : Sound s → check_of s ≡ Ok tt
   unfolding first_refusal
   sound_is_fine sound = past11 sound.0 ∙ on 12 (cycle_fault s) (Row12 s) (cycles sound.0) [] sound.1
 
   -- ---- what is given is what the verdict tells
 
-  given_is : (number place : ℕ) → Given s number place → check_of s ≡ Refused (record { number = number; place = place })
+  given_is : (number place : ℕ) → Given s number place → check_of s ≡ Err (record { number = number; place = place })
   unfolding check_within
   given_is number place (one row) = stop 1 (length_fault s) (Row1 s) (exact1 s) from2 place row
   given_is number place (two past row) = past1 past ∙ stop 2 (check_fault s) (Row2 s) (exact2 s) from3 place row
@@ -146,116 +146,116 @@ module _ (s : List ℕ) where
 
   -- ---- what the verdict tells is given
 
-  told_12 : Past11 s → (r : Refusal) → first_refusal from12 ≡ Refused r → Given s r.number r.place
+  told_12 : Past11 s → (r : Refusal) → first_refusal from12 ≡ Err r → Given s r.number r.place
   unfolding first_refusal
   told_12 past =
       in_turn 12 (cycle_fault s) (Row12 s) (cycles past) [] (Given s) (λ p row. twelve past row)
       (λ none r e. let z : ◌≡◌ {A = ℕ} 0 1 = cc in absurd (omega arith))
 
-  told_11 : Past10 s → (r : Refusal) → first_refusal from11 ≡ Refused r → Given s r.number r.place
+  told_11 : Past10 s → (r : Refusal) → first_refusal from11 ≡ Err r → Given s r.number r.place
   told_11 past =
       in_turn 11 (tag_fault s) (Row11 s) (tags past) from12 (Given s) (λ p row. eleven past row)
       (λ none. told_12 (past, none))
 
-  told_10 : Past9 s → (r : Refusal) → first_refusal from10 ≡ Refused r → Given s r.number r.place
+  told_10 : Past9 s → (r : Refusal) → first_refusal from10 ≡ Err r → Given s r.number r.place
   told_10 past =
       in_turn 10 (name_fault s) (Row10 s) (exact10 s) from11 (Given s) (λ p row. ten past row)
       (λ none. told_11 (past, none))
 
-  told_9 : Past8 s → (r : Refusal) → first_refusal from9 ≡ Refused r → Given s r.number r.place
+  told_9 : Past8 s → (r : Refusal) → first_refusal from9 ≡ Err r → Given s r.number r.place
   told_9 past =
       in_turn 9 (repeat_fault s) (Row9 s) (exact9 s) from10 (Given s) (λ p row. nine past row)
       (λ none. told_10 (past, none))
 
-  told_8 : Past7 s → (r : Refusal) → first_refusal from8 ≡ Refused r → Given s r.number r.place
+  told_8 : Past7 s → (r : Refusal) → first_refusal from8 ≡ Err r → Given s r.number r.place
   told_8 past =
       in_turn 8 (far_fault s) (Row8 s) (exact8 s) from9 (Given s) (λ p row. eight past row) (λ none. told_9 (past, none))
 
-  told_7 : Past6 s → (r : Refusal) → first_refusal from7 ≡ Refused r → Given s r.number r.place
+  told_7 : Past6 s → (r : Refusal) → first_refusal from7 ≡ Err r → Given s r.number r.place
   told_7 past =
       in_turn 7 (spare_fault s) (Row7 s) (exact7 s) from8 (Given s) (λ p row. seven past row)
       (λ none. told_8 (past, none))
 
-  told_6 : PastStarts s → (r : Refusal) → first_refusal from6 ≡ Refused r → Given s r.number r.place
+  told_6 : PastStarts s → (r : Refusal) → first_refusal from6 ≡ Err r → Given s r.number r.place
   told_6 past =
       in_turn 6 (contour_fault s) (Row6 s) (exact6 s) from7 (Given s) (λ p row. six past row)
       (λ none. told_7 (past, none))
 
-  told-starts : Past5 s → (r : Refusal) → first_refusal from_starts ≡ Refused r → Given s r.number r.place
+  told-starts : Past5 s → (r : Refusal) → first_refusal from_starts ≡ Err r → Given s r.number r.place
   told-starts past =
       in_turn 3 (start_fault s (blocks_of s)) (Row3 s (blocks_of s)) (exact3 s (blocks_of s)) from6 (Given s)
       (λ p row. three_later past row) (λ none. told_6 (past, none))
 
-  told_5 : Past4 s → (r : Refusal) → first_refusal from5 ≡ Refused r → Given s r.number r.place
+  told_5 : Past4 s → (r : Refusal) → first_refusal from5 ≡ Err r → Given s r.number r.place
   told_5 past =
       in_turn 5 (count_fault s) (Row5 s) (exact5 s) from_starts (Given s) (λ p row. five past row)
       (λ none. told-starts (past, none))
 
-  told_4 : PastStart s → (r : Refusal) → first_refusal from4 ≡ Refused r → Given s r.number r.place
+  told_4 : PastStart s → (r : Refusal) → first_refusal from4 ≡ Err r → Given s r.number r.place
   told_4 past =
       in_turn 4 (head_fault s) (Row4 s) (exact4 s) from5 (Given s) (λ p row. four past row) (λ none. told_5 (past, none))
 
-  told_3 : Past2 s → (r : Refusal) → first_refusal from3 ≡ Refused r → Given s r.number r.place
+  told_3 : Past2 s → (r : Refusal) → first_refusal from3 ≡ Err r → Given s r.number r.place
   told_3 past =
       in_turn 3 (start_fault s 1) (Row3 s 1) (exact3 s 1) from4 (Given s) (λ p row. three past row)
       (λ none. told_4 (past, none))
 
-  told_2 : Past1 s → (r : Refusal) → first_refusal from2 ≡ Refused r → Given s r.number r.place
+  told_2 : Past1 s → (r : Refusal) → first_refusal from2 ≡ Err r → Given s r.number r.place
   told_2 past =
       in_turn 2 (check_fault s) (Row2 s) (exact2 s) from3 (Given s) (λ p row. two past row) (λ none. told_3 (past, none))
 
-  told_1 : (r : Refusal) → check_of s ≡ Refused r → Given s r.number r.place
+  told_1 : (r : Refusal) → check_of s ≡ Err r → Given s r.number r.place
   unfolding check_within
   told_1 = in_turn 1 (length_fault s) (Row1 s) (exact1 s) from2 (Given s) (λ p row. one row) told_2
 
   -- ---- a fine card is past every row
 
-  fine1 : check_of s ≡ Fine → Past1 s
+  fine1 : check_of s ≡ Ok tt → Past1 s
   unfolding check_within
   fine1 e = none_here 1 (length_fault s) (Row1 s) (exact1 s) from2 e
 
-  fine2 : check_of s ≡ Fine → Past2 s
+  fine2 : check_of s ≡ Ok tt → Past2 s
   fine2 e = (fine1 e, none_here 2 (check_fault s) (Row2 s) (exact2 s) from3 (sym (past1 (fine1 e)) ∙ e))
 
-  fine_start : check_of s ≡ Fine → PastStart s
+  fine_start : check_of s ≡ Ok tt → PastStart s
   fine_start e = (fine2 e, none_here 3 (start_fault s 1) (Row3 s 1) (exact3 s 1) from4 (sym (past2 (fine2 e)) ∙ e))
 
-  fine4 : check_of s ≡ Fine → Past4 s
+  fine4 : check_of s ≡ Ok tt → Past4 s
   fine4 e = (fine_start e, none_here 4 (head_fault s) (Row4 s) (exact4 s) from5 (sym (past_start (fine_start e)) ∙ e))
 
-  fine5 : check_of s ≡ Fine → Past5 s
+  fine5 : check_of s ≡ Ok tt → Past5 s
   fine5 e = (fine4 e, none_here 5 (count_fault s) (Row5 s) (exact5 s) from_starts (sym (past4 (fine4 e)) ∙ e))
 
-  fine_starts : check_of s ≡ Fine → PastStarts s
+  fine_starts : check_of s ≡ Ok tt → PastStarts s
   fine_starts e = (
     fine5 e,
     none_here 3 (start_fault s (blocks_of s)) (Row3 s (blocks_of s)) (exact3 s (blocks_of s)) from6
         (sym (past5 (fine5 e)) ∙ e),
   )
 
-  fine6 : check_of s ≡ Fine → Past6 s
+  fine6 : check_of s ≡ Ok tt → Past6 s
   fine6 e = (
     fine_starts e,
     none_here 6 (contour_fault s) (Row6 s) (exact6 s) from7
         (sym (past-starts (fine_starts e)) ∙ e),
   )
 
-  fine7 : check_of s ≡ Fine → Past7 s
+  fine7 : check_of s ≡ Ok tt → Past7 s
   fine7 e = (fine6 e, none_here 7 (spare_fault s) (Row7 s) (exact7 s) from8 (sym (past6 (fine6 e)) ∙ e))
 
-  fine8 : check_of s ≡ Fine → Past8 s
+  fine8 : check_of s ≡ Ok tt → Past8 s
   fine8 e = (fine7 e, none_here 8 (far_fault s) (Row8 s) (exact8 s) from9 (sym (past7 (fine7 e)) ∙ e))
 
-  fine9 : check_of s ≡ Fine → Past9 s
+  fine9 : check_of s ≡ Ok tt → Past9 s
   fine9 e = (fine8 e, none_here 9 (repeat_fault s) (Row9 s) (exact9 s) from10 (sym (past8 (fine8 e)) ∙ e))
 
-  fine10 : check_of s ≡ Fine → Past10 s
+  fine10 : check_of s ≡ Ok tt → Past10 s
   fine10 e = (fine9 e, none_here 10 (name_fault s) (Row10 s) (exact10 s) from11 (sym (past9 (fine9 e)) ∙ e))
 
-  fine11 : check_of s ≡ Fine → Past11 s
+  fine11 : check_of s ≡ Ok tt → Past11 s
   fine11 e = (fine10 e, none_here 11 (tag_fault s) (Row11 s) (tags (fine10 e)) from12 (sym (past10 (fine10 e)) ∙ e))
 
-  fine_sound : check_of s ≡ Fine → Sound s
+  fine_sound : check_of s ≡ Ok tt → Sound s
   fine_sound e = (fine11 e, none_here 12 (cycle_fault s) (Row12 s) (cycles (fine11 e)) [] (sym (past11 (fine11 e)) ∙ e))
 
 pub exactly : (s : List ℕ) → Exactly s

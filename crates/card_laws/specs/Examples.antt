@@ -1,13 +1,12 @@
 -- The scope document's examples of cards, and what is to be said of them. Assumes nothing.
-use Rattle.std.specs.Prelude.{◌≡◌, false, List, [], ◌∷◌, ℕ, ◌*◌}
+use Rattle.std.specs.Prelude.{◌≡◌, false, List, [], ◌∷◌, ℕ, ◌*◌, Err, Ok}
 use Rattle.std.specs.Float.{binary64}
 use Rattle.std.specs.Float.Ieee.{of_bits}
 use Rattle.answer.specs.declared.Point.{Point}
 use Rattle.answer.specs.declared.ContourType.{ContourType}
 use Rattle.answer.specs.declared.ContourType.TheVariants.{Exterior, Interior}
 use Rattle.answer.specs.declared.CutDirectionPreference.TheVariants.{Auto}
-use Rattle.answer.specs.declared.Check.{Check}
-use Rattle.answer.specs.declared.Check.TheVariants.{Fine, Refused}
+use Rattle.answer.specs.Answer.{Check}
 use Rattle.card.specs.Verdict.{check_of}
 use Rattle.card_laws.specs.Card.{Card, Contour, Pair}
 use Rattle.card_laws.specs.Write.{written}
@@ -75,8 +74,8 @@ abbrev pub verdict_on : Card → Check
 verdict_on c = check_of (written c)
 
 pub record Examples : Type 0 where
-  pub empty : verdict_on (as_job41 [] []) ≡ Fine
-  pub pair_of_nobody : verdict_on (as_job41 [] (waits 1 2 ∷ [])) ≡ Refused (record { number = 10; place = 0 })
-  pub job41_fine : verdict_on job41 ≡ Fine
-  pub on_itself : verdict_on self_pair ≡ Refused (record { number = 12; place = 3 })
-  pub on_a_cycle : verdict_on waiting ≡ Refused (record { number = 12; place = 1 })
+  pub empty : verdict_on (as_job41 [] []) ≡ Ok tt
+  pub pair_of_nobody : verdict_on (as_job41 [] (waits 1 2 ∷ [])) ≡ Err (record { number = 10; place = 0 })
+  pub job41_fine : verdict_on job41 ≡ Ok tt
+  pub on_itself : verdict_on self_pair ≡ Err (record { number = 12; place = 3 })
+  pub on_a_cycle : verdict_on waiting ≡ Err (record { number = 12; place = 1 })

@@ -1,7 +1,6 @@
 -- 12 and legal orders: a card with no earlier fault is sent back with 12 exactly when its contours can be cut in no
 -- order that its pairs allow. Assumes nothing.
-use Rattle.std.specs.Prelude.{◌≡◌, true, List, ℕ, ◌<◌, get_or}
-use Rattle.answer.specs.declared.Check.TheVariants.{Fine, Refused}
+use Rattle.std.specs.Prelude.{◌≡◌, true, List, ℕ, ◌<◌, get_or, Err, Ok}
 use Rattle.closure.specs.Cycle.{linked}
 use Rattle.closure.specs.Pairs.{paired, every, both}
 use Rattle.keep.specs.Legal.{EachOnce}
@@ -23,12 +22,12 @@ SomeOrder s = (order : List ℕ) × LegalOrder s order
 
 -- the card is sent back with this number, wherever the fault is
 abbrev pub RefusedWith : ℕ → List ℕ → Type 0
-RefusedWith number s = (place : ℕ) × (check_of s ≡ Refused (record { number = number; place = place }))
+RefusedWith number s = (place : ℕ) × (check_of s ≡ Err (record { number = number; place = place }))
 
 pub record Twelve (s : List ℕ) : Type 0 where
   pub no_order : Past11 s → RefusedWith 12 s → SomeOrder s → ⊥
   pub sent_back : Past11 s → (SomeOrder s → ⊥) → RefusedWith 12 s
-  pub fine_order : check_of s ≡ Fine → SomeOrder s
+  pub fine_order : check_of s ≡ Ok tt → SomeOrder s
 
 -- of a fine card: positions are linked exactly where a written pair or the rule puts the one before the other, and
 -- every pair's positions are contours

@@ -1,9 +1,8 @@
 -- When a card goes back, in the words of the table: a row holds at a place, and of several rows the first is given. The
 -- rows name fields and numbers and, but for a block's sum and the test of a coordinate, compute nothing; the verdict
 -- that does is said to be this one in `Exactly`. Assumes nothing.
-use Rattle.std.specs.Prelude.{◌≡◌, ◌⊎◌, true, List, ℕ, suc, ◌+◌, ◌*◌, ◌%◌, ◌≤◌, ◌<◌, min, length}
+use Rattle.std.specs.Prelude.{◌≡◌, ◌⊎◌, true, List, ℕ, suc, ◌+◌, ◌*◌, ◌%◌, ◌≤◌, ◌<◌, min, length, Err, Ok}
 use Rattle.answer.specs.declared.Refusal.{Refusal}
-use Rattle.answer.specs.declared.Check.TheVariants.{Fine, Refused}
 use Rattle.block.specs.Field.{byte_at, u32_at}
 use Rattle.block.specs.Block.{block_bytes, payload_bytes, check_offset, check_at, Due}
 use Rattle.points.specs.Bad.{bad_point}
@@ -254,7 +253,7 @@ pub data Given (s : List ℕ) : ℕ → ℕ → Type 0 where
 -- the verdict is the table's: a card is refused with a number and a place exactly when they are given, and is fine
 -- exactly when no row holds
 pub record Exactly (s : List ℕ) : Type 0 where
-  pub refused-if : (r : Refusal) → Given s r.number r.place → check_of s ≡ Refused r
-  pub refused_only : (r : Refusal) → check_of s ≡ Refused r → Given s r.number r.place
-  pub fine_if : Sound s → check_of s ≡ Fine
-  pub fine_only : check_of s ≡ Fine → Sound s
+  pub refused-if : (r : Refusal) → Given s r.number r.place → check_of s ≡ Err r
+  pub refused_only : (r : Refusal) → check_of s ≡ Err r → Given s r.number r.place
+  pub fine_if : Sound s → check_of s ≡ Ok tt
+  pub fine_only : check_of s ≡ Ok tt → Sound s

@@ -6,14 +6,14 @@ use mathlib.Core.List.{List, [], ◌∷◌}
 use Prim.Native.Nat.{ℕ, zero, suc, ◌+◌, ◌≤◌, ◌<◌, min}
 use native.Mathlib.Numerals.{add-one}
 use native.Mathlib.Omega.{arith}
-use lib.ListN.{length, get_or, set, drop, replicate, length-set, length-replicate, get_or-replicate}
+use lib.ListN.{length, get_or, set, drop, replicate, length-set, length-replicate, get_or-replicate, drop_of_length-le}
 use lib.Seq.{get_or-set_same, get_or-set_other}
 use Rattle.answer.specs.Lowest.{lowest}
 use Rattle.answer.proofs.LowestLaws.{lowest_same}
 use borrow.Author.Tests.{lt-ltb}
-use Rattle.closure.proofs.PairLaws.{same_or, both-or, lt-or, pair_at, paired_more, paired_end, is_pair_lem, no_pair}
+use Rattle.closure.proofs.PairLaws.{same_or, both-or, lt-or, is_pair_lem, no_pair}
 use Rattle.closure.specs.Limits.{contour_limit}
-use Rattle.closure.specs.Pairs.{paired, some_of, is_pair}
+use Rattle.closure.specs.Pairs.{Pair, paired, some_of, is_pair}
 use Rattle.closure.specs.Cycle.{linked, leads, on_cycle, first_on_cycle}
 use Rattle.closure.specs.Flags.{flag, Whole, RowJoined, RowsJoined, Noted, Says}
 
@@ -195,37 +195,33 @@ module _ (n b a : ℕ) (f : List (List Bool)) (w : Whole f) where
   }
 
 -- what the flags say, with the pairs from this place on, is what they said at first with all pairs
-pub record NotedPart (n : ℕ) (pairs : List ℕ) (at : ℕ) (f g : List (List Bool)) : Type 0 where
+pub record NotedPart (n : ℕ) (ps : List Pair) (i : ℕ) (f g : List (List Bool)) : Type 0 where
   pub whole : Whole g
-  pub within : at ≤ length pairs
   pub told : (r c : ℕ) → r < n → c < n →
-      (flag g r c || some_of (is_pair r c) (paired (drop at pairs))) ≡ (flag f r c || some_of (is_pair r c) (paired pairs))
+      (flag g r c || some_of (is_pair r c) (drop i ps)) ≡ (flag f r c || some_of (is_pair r c) ps)
 
-pub noted_none : (n : ℕ) (pairs : List ℕ) (f : List (List Bool)) → Whole f → NotedPart n pairs 0 f f
-noted_none n pairs f w = record { whole = w; within = omega arith; told = λ r c h l. refl }
+pub noted_none : (n : ℕ) (ps : List Pair) (f : List (List Bool)) → Whole f → NotedPart n ps 0 f f
+noted_none n ps f w = record { whole = w; told = λ r c h l. refl }
 
 -- what is added to a flag is added with what else there is
 or-one : (a b c : Bool) → (a || (b || false) || c) ≡ (a || (b || c))
 or-one a b c = or_assoc a (b || false) c ∙ ap (λ (z : Bool). a || (z || c)) (or-false b)
 
-pub noted_more : (n : ℕ) (pairs : List ℕ) (at : ℕ) (f g h : List (List Bool)) (b a : ℕ) → b ≡ get_or pairs at 0
-    → a ≡ get_or pairs (at + 1) 0 → at + 1 < length pairs → NotedPart n pairs at f g
-    → Noted n (record { before = b; after = a } ∷ []) g h → NotedPart n pairs (at + 2) f h
+pub noted_more : (n : ℕ) (ps : List Pair) (i : ℕ) (f g h : List (List Bool)) (p : Pair)
+    → drop i ps ≡ p ∷ drop (i + 1) ps → NotedPart n ps i f g → Noted n (p ∷ []) g h → NotedPart n ps (i + 1) f h
 unfolding some_of
-noted_more n pairs at f g h b a p q more part one = record {
+noted_more n ps i f g h p more part one = record {
   whole = one.whole;
-  within = omega arith;
-  told = λ r c l m. rw (one.told r c l m, p, q)
-      (or-one (flag g r c) (is_pair r c (pair_at pairs at)) (some_of (is_pair r c) (paired (drop (at + 2) pairs)))
-      ∙ (rw (paired_more pairs at more) at (part.told r c l m)));
+  told = λ r c l m. rw (one.told r c l m)
+      (or-one (flag g r c) (is_pair r c p) (some_of (is_pair r c) (drop (i + 1) ps)) ∙ (rw more at (part.told r c l m)));
 }
 
-pub noted_all : (n : ℕ) (pairs : List ℕ) (at : ℕ) (f g : List (List Bool)) → length pairs ≤ at + 1
-    → NotedPart n pairs at f g → Noted n (paired pairs) f g
+pub noted_all : (n : ℕ) (ps : List Pair) (i : ℕ) (f g : List (List Bool)) → length ps ≤ i
+    → NotedPart n ps i f g → Noted n ps f g
 unfolding some_of
-noted_all n pairs at f g all part = record {
+noted_all n ps i f g all part = record {
   whole = part.whole;
-  told = λ r c h l. sym (or-false (flag g r c)) ∙ (rw (paired_end pairs at all) at (part.told r c h l));
+  told = λ r c h l. sym (or-false (flag g r c)) ∙ (rw (drop_of_length-le ps all) at (part.told r c h l));
 }
 
 -- ---- the diagonal of the closed table

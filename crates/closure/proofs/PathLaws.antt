@@ -1,5 +1,6 @@
 -- `leads` says yes exactly where a path is: links that lead from one position to another; below n, links are the pairs
 -- of the list. Assumes nothing.
+use Rattle.std.specs.Prelude.{None}
 use mathlib.Core.Bool.{Bool, true, false, ◌&&◌, true≢false}
 use mathlib.Mathlib.Data.Bool.Basic.{or_inl, or_inr, and_elim_left, and_elim_right, and_intro}
 use mathlib.Core.Path.{◌≡◌, refl, sym, ap, ◌∙◌}
@@ -9,7 +10,6 @@ use Prim.Native.Nat.{ℕ, zero, suc, ◌≤◌, ◌<◌}
 use native.Mathlib.Nat.{eq-or-lt_of_le, le_of_suc-le-suc, not-suc-le-zero}
 use lib.Dec.{eqb, ltb}
 use borrow.Author.Tests.{eqb-true, ltb-true}
-use Rattle.answer.specs.declared.Found.{Found}
 use Rattle.answer.specs.Lowest.{lowest}
 use Rattle.answer.proofs.LowestLaws.{absent_is, is_absent}
 use Rattle.answer.proofs.Truth.{or_cases, yes_or_no, true_false}
@@ -133,7 +133,7 @@ cycle_exactly n pairs i =
     (leads_reaches (linked n pairs) n i i, reaches-leads n (linked n pairs) (linked_within n pairs))
 
 -- none is found exactly where no position reaches itself
-pub absent_exactly : (n : ℕ) (pairs : List ℕ) → (lowest (on_cycle n pairs) n ≡ Found.Absent) ↔ Acyclic n pairs
+pub absent_exactly : (n : ℕ) (pairs : List ℕ) → (lowest (on_cycle n pairs) n ≡ None) ↔ Acyclic n pairs
 absent_exactly n pairs = (
   (λ e i h r. true_false (reaches-leads n (linked n pairs) (linked_within n pairs) r)
       (is_absent (on_cycle n pairs) n e i h)),

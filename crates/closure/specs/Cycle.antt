@@ -1,6 +1,6 @@
 -- Where pairs of positions lead, and the lowest position on a cycle. Assumes nothing.
 use Rattle.std.specs.Prelude.{Bool, true, ◌&&◌, ◌||◌, ◌≡◌, List, ℕ, zero, suc, ◌<◌, min, ltb}
-use Rattle.answer.specs.declared.Found.{Found}
+use Rattle.answer.specs.Answer.{Found}
 use Rattle.answer.specs.Lowest.{lowest}
 use Rattle.closure.specs.Limits.{contour_limit}
 use Rattle.closure.specs.Pairs.{paired, some_of, is_pair}

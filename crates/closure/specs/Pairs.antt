@@ -1,10 +1,14 @@
 -- A flat list of numbers read as pairs, two numbers a pair. Assumes nothing.
-use Rattle.std.specs.Prelude.{Bool, true, false, ◌&&◌, ◌||◌, List, [], ◌∷◌, ℕ, eqb, ltb}
+use Rattle.std.specs.Prelude.{Bool, true, false, ◌&&◌, ◌||◌, List, [], ◌∷◌, ℕ, eqb, ltb, get_or}
 
 -- the first is cut before the second
 pub record Pair : Type 0 where
   pub before : ℕ
   pub after : ℕ
+
+-- the pair that two numbers are
+abbrev pub pair_of : List ℕ → Pair
+pair_of two = record { before = get_or two 0 0; after = get_or two 1 0 }
 
 -- the whole pairs of a flat list, in its order; half a pair at its end is no pair
 unfoldable pub paired : List ℕ → List Pair

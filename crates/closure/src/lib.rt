@@ -2,14 +2,12 @@
 // reachability, and the lowest position on a cycle read off the diagonal.
 #![tactic(auto)]
 
-ghost use Rattle.std.specs.Prelude.{true, [], ◌∷◌, ◌≡◌, ◌<◌, ◌≤◌, min};
+ghost use Rattle.std.specs.Prelude.{[], ◌∷◌, ◌≡◌, List, ℕ, ◌<◌, ◌≤◌, map};
 ghost use Rattle.answer.specs.Lowest.{lowest};
 ghost use Rattle.closure.specs.Limits.{contour_limit};
-ghost use Rattle.closure.specs.Pairs.{paired};
+ghost use Rattle.closure.specs.Pairs.{paired, pair_of};
 ghost use Rattle.closure.specs.Cycle.{leads, first_on_cycle};
 ghost use Rattle.closure.specs.Flags.{flag, Whole, RowJoined, RowsJoined, Noted, Says};
-
-use answer::Found;
 
 // The most contours that a question on pairs takes.
 pub const CONTOURS: usize = 80;
@@ -25,10 +23,8 @@ fn join_row(flags: &mut [[bool; CONTOURS]; CONTOURS], n: usize, k: usize, i: usi
 {
     if flags[i][k] {
         let row = flags[k];
-        let mut j = 0;
-        while j < n {
-            flags[i][j] = flags[i][j] | row[j];
-            j += 1;
+        for j in 0..n {
+            flags[i][j] |= row[j];
         }
     }
 }
@@ -38,10 +34,8 @@ fn join_rows(flags: &mut [[bool; CONTOURS]; CONTOURS], n: usize, k: usize)
     requires { (n ≤ contour_limit) × (k < n) × Whole flags.old }
     ensures { RowsJoined n k flags.old flags.new }
 {
-    let mut i = 0;
-    while i < n {
+    for i in 0..n {
         join_row(flags, n, k, i);
-        i += 1;
     }
 }
 
@@ -50,106 +44,79 @@ fn close(flags: &mut [[bool; CONTOURS]; CONTOURS], n: usize)
     requires { (n ≤ contour_limit) × Whole flags.old }
     ensures { Says n (leads (flag flags.old) n) flags.new }
 {
-    let mut k = 0;
-    while k < n {
+    for k in 0..n {
         join_rows(flags, n, k);
-        k += 1;
     }
 }
 
 // The lowest position whose flag for itself is set.
-fn on_diagonal(flags: &[[bool; CONTOURS]; CONTOURS], n: usize) -> Found
+fn on_diagonal(flags: &[[bool; CONTOURS]; CONTOURS], n: usize) -> Option<usize>
     requires { n ≤ contour_limit }
     ensures { result ≡ lowest (λ i. flag flags.now i i) n }
 {
-    let mut k = 0;
-    while k < n {
-        if flags[k][k] {
-            return Found::At(k);
-        }
-        k += 1;
+    (0..n).find(|&k| flags[k][k])
+}
+
+// A number that says a position: the lists of pairs hold bytes or numbers of 32 bits.
+trait Position: Copy {
+    ghost place: { Self → ℕ };
+
+    fn place(self) -> usize
+        ensures { result ≡ place self };
+}
+
+impl Position for u8 {
+    ghost place = { λ x. x };
+
+    fn place(self) -> usize {
+        self as usize
     }
-    Found::Absent
 }
 
-// A byte as an index.
-fn wide(x: u8) -> usize
-    ensures { result ≡ x }
-{
-    x as usize
-}
+impl Position for u32 {
+    ghost place = { λ x. x };
 
-// A number of 32 bits as an index.
-fn wide32(x: u32) -> usize
-    ensures { result ≡ x }
-{
-    x as usize
+    fn place(self) -> usize {
+        self as usize
+    }
 }
 
 // The flag of one pair, where its two positions are below n.
-fn note(b: usize, a: usize, n: usize, flags: &mut [[bool; CONTOURS]; CONTOURS])
+fn note<P: Position>(pair: &[P; 2], n: usize, flags: &mut [[bool; CONTOURS]; CONTOURS])
     requires { (n ≤ contour_limit) × Whole flags.old }
-    ensures { Noted n (record { before = b; after = a } ∷ []) flags.old flags.new }
+    ensures { Noted n (pair_of (map P.place pair.now) ∷ []) flags.old flags.new }
 {
-    if b < n {
-        if a < n {
-            flags[b][a] = true;
-        }
+    let b = pair[0].place();
+    let a = pair[1].place();
+    if b < n && a < n {
+        flags[b][a] = true;
     }
 }
 
-// The flag of each pair whose two positions are below n.
-fn note_pairs(pairs: &[u8], n: usize, flags: &mut [[bool; CONTOURS]; CONTOURS])
-    requires { (n ≤ contour_limit) × Whole flags.old }
-    ensures { Noted n (paired pairs.now) flags.old flags.new }
+// The lowest position that pairs of positions lead back to, of as many contours as there are flags for.
+fn lowest_on_cycle<P: Position>(contours: usize, pairs: &[[P; 2]]) -> Option<usize>
+    ensures { (flat : List ℕ) → paired flat ≡ map (λ p. pair_of (map P.place p)) pairs.now → result ≡ first_on_cycle contours flat }
 {
-    let mut at = 0;
-    while at + 1 < pairs.len() {
-        note(wide(pairs[at]), wide(pairs[at + 1]), n, flags);
-        at += 2;
-    }
-}
-
-// As note_pairs, for numbers of 32 bits.
-fn note_wide(pairs: &[u32], n: usize, flags: &mut [[bool; CONTOURS]; CONTOURS])
-    requires { (n ≤ contour_limit) × Whole flags.old }
-    ensures { Noted n (paired pairs.now) flags.old flags.new }
-{
-    let mut at = 0;
-    while at + 1 < pairs.len() {
-        note(wide32(pairs[at]), wide32(pairs[at + 1]), n, flags);
-        at += 2;
-    }
-}
-
-// At most so many contours as there are flags for.
-fn capped(contours: usize) -> usize
-    ensures { result ≡ min contours contour_limit }
-{
-    if contours < CONTOURS {
-        return contours;
-    }
-    CONTOURS
-}
-
-// The lowest position that pairs of positions lead back to.
-pub fn first_on_cycle(contours: usize, pairs: &[u8]) -> Found
-    ensures { result ≡ first_on_cycle contours pairs.now }
-{
-    let n = capped(contours);
+    let n = contours.min(CONTOURS);
     let mut flags = [[false; CONTOURS]; CONTOURS];
-    note_pairs(pairs, n, &mut flags);
+    for pair in pairs {
+        note(pair, n, &mut flags);
+    }
     close(&mut flags, n);
     on_diagonal(&flags, n)
+}
+
+// The lowest position that pairs of positions lead back to. (Two public functions over the generic one: `as_chunks` asks for a
+// bound on the size of a number, and none is known of P; and crates/contracts cites contracts of plain numbers.)
+pub fn first_on_cycle(contours: usize, pairs: &[u8]) -> Option<usize>
+    ensures { result ≡ first_on_cycle contours pairs.now }
+{
+    lowest_on_cycle(contours, pairs.as_chunks::<2>().0)
 }
 
 // The same question on numbers of 32 bits.
-pub fn first_on_cycle_wide(contours: usize, pairs: &[u32]) -> Found
+pub fn first_on_cycle_wide(contours: usize, pairs: &[u32]) -> Option<usize>
     ensures { result ≡ first_on_cycle contours pairs.now }
 {
-    let n = capped(contours);
-    let mut flags = [[false; CONTOURS]; CONTOURS];
-    note_wide(pairs, n, &mut flags);
-    close(&mut flags, n);
-    on_diagonal(&flags, n)
+    lowest_on_cycle(contours, pairs.as_chunks::<2>().0)
 }

@@ -1,6 +1,6 @@
 -- Each contract of `fields`, `card` and `reader` comes to its definition. Assumes nothing.
 use mathlib.Core.Path.{refl}
-use Rattle.contracts.proofs.Laws.{told, by_hand, alike}
+use Rattle.contracts.proofs.Laws.{same, ◌&◌, told, lent, by_hand, lent_by_hand, alike}
 use Rattle.contracts.specs.Cards.{OfFields, OfCard, OfReader, OfReaderByHand, Claim}
 
 of_fields_lem : OfFields
@@ -53,7 +53,7 @@ of_reader = record {
   read_pair_lem = told _ (λ κs a u v. refl) (λ κs a x. alike);
   new = told _ (λ κs a u v. refl) (λ κs a x. alike);
   moved = told _ (λ κs a u v. refl) (λ κs a x. alike);
-  next = told _ (λ κs a u v. refl) (λ κs a x. alike);
+  next = lent (λ κs a x y p q. same p.0 q.0 & same p.1 q.1 & refl) (λ κs a x. alike);
   left = told _ (λ κs a u v. refl) (λ κs a x. alike);
 }
 
@@ -61,7 +61,7 @@ of_reader_by_hand : OfReaderByHand
 of_reader_by_hand = record {
   new = by_hand _ (λ κs a u v. refl) (λ κs a x. alike);
   moved = by_hand _ (λ κs a u v. refl) (λ κs a x. alike);
-  next = by_hand _ (λ κs a u v. refl) (λ κs a x. alike);
+  next = lent_by_hand _ (λ κs a x y p q. same p.0 q.0 & same p.1 q.1 & refl) (λ κs a x. alike);
   left = by_hand _ (λ κs a u v. refl) (λ κs a x. alike);
 }
 

@@ -27,11 +27,10 @@ of_feed : OfFeed
 of_feed = record {
   begin = told _ (λ κs a u v. refl) (λ κs a x. alike);
   add = lent
-      (λ κs a x y p q. (λ i. record { feed = (same p q i).feed; answer = (same p q i).answer }) & refl &
-      ap (λ z. z.held) (same p q) & refl)
+      (λ κs a x y p q. ap (λ z. z.answer) (same p q) & ap (λ z. z.feed) (same p q) & ap (λ z. z.held) (same p q) & refl)
       (λ κs a x. alike);
   ask = lent
-      (λ κs a x y p q. (λ i. record { feed = (same p q i).feed; answer = (same p q i).left.answer }) & refl & refl &
+      (λ κs a x y p q. ap (λ z. z.left.answer) (same p q) & ap (λ z. z.feed) (same p q) & refl &
       ap (λ z. z.left.room) (same p q) & ap (λ z. z.left.table) (same p q) & refl)
       (λ κs a x. alike);
 }

@@ -58,3 +58,22 @@ module _ {T : Ended} {D : Definition T} where
     says = λ w κs a g x. fact_mono w.𝓤 (x.0 ≡ f κs a) (Holds T D κs a x) (says κs a x).0;
     says_all = λ w κs a g x. fact_mono w.𝓤 (Holds T D κs a x) (x.0 ≡ f κs a) (says κs a x).1;
   }
+
+  -- as `lent`, of the clauses themselves
+  pub lent_by_hand : (L : Tells T)
+      → ((κs : Lives T) (a : Handed T κs) (x y : Back T κs a) → Meets T L κs a x → Meets T L κs a y → x ≡ y)
+      → ((κs : Lives T) (a : Handed T κs) (x : Back T κs a) → Meets T L κs a x ↔ Holds T D κs a x)
+      → SaysByHand T (λ M 𝓤 𝓛 mem run κs a. record {
+        ghost = Unit {0};
+        requires = λ g. emp 𝓤;
+        ensures = λ g r e. fact 𝓤 (L κs a r e);
+      }) D
+  lent_by_hand L one says = record {
+    asks_nothing = λ w κs a g. id⊢ w.𝓤 (emp w.𝓤);
+    one_answer = λ w κs a g x y. let 𝓤 = w.𝓤 in let P = Meets T L κs a x in let Q = Meets T L κs a y in
+        fact_use 𝓤 P (fst∗ 𝓤 (fact 𝓤 P) (fact 𝓤 Q)) (λ p.
+        fact_use 𝓤 Q (snd∗ 𝓤 (fact 𝓤 P) (fact 𝓤 Q)) (λ q.
+        fact_i 𝓤 (x ≡ y) (sep 𝓤 (fact 𝓤 P) (fact 𝓤 Q)) (one κs a x y p q)));
+    says = λ w κs a g x. fact_mono w.𝓤 (Meets T L κs a x) (Holds T D κs a x) (says κs a x).0;
+    says_all = λ w κs a g x. fact_mono w.𝓤 (Holds T D κs a x) (Meets T L κs a x) (says κs a x).1;
+  }

@@ -45,18 +45,17 @@ left_once p q = same p.held q.held
 of_start : OfStart
 of_start = record {
   nn_constrained_lem = lent
-      (λ κs a x y p q. told_once p q & refl & refl & refl & refl & refl & left_once p q & refl)
+      (λ κs a x y p q. told_once p q & refl & refl & refl & left_once p q & refl)
       (λ κs a x. alike);
   solve_nn_lem = lent
-      (λ κs a x y p q. told_once p q & refl & refl & refl & refl & left_once p q & refl)
+      (λ κs a x y p q. told_once p q & refl & refl & left_once p q & refl)
       (λ κs a x. alike);
 }
 
 of_improve : OfImprove
 of_improve = record {
   improve = lent
-      (λ κs a x y p q. same p.counted q.counted & refl & refl & refl & refl & refl & refl &
-      same p.held q.held & refl)
+      (λ κs a x y p q. same p.counted q.counted & refl & same p.held q.held & refl)
       (λ κs a x. alike);
 }
 
@@ -69,8 +68,7 @@ of_instance = record {
 of_solve : OfSolve
 of_solve = record {
   solve_constrained_lem = lent
-      (λ κs a x y p q. same p.told q.told & refl & refl & refl & refl & refl & refl & same p.held q.held &
-      refl)
+      (λ κs a x y p q. same p.told q.told & refl & same p.held q.held & refl)
       (λ κs a x. alike);
 }
 

@@ -1,10 +1,12 @@
 -- Each contract of `answer`, `block` and `text` comes to its definition. Assumes nothing.
-use mathlib.Core.Path.{ap, refl}
+use mathlib.Core.Path.{refl}
 use Rattle.contracts.proofs.Laws.{same, ◌&◌, told, lent, alike}
 use Rattle.contracts.specs.Words.{OfAnswer, OfBlock, OfText, Claim}
 
 of_answer : OfAnswer
 of_answer = record {
+  number = told _ (λ κs a u v. refl) (λ κs a x. alike);
+  at = told _ (λ κs a u v. refl) (λ κs a x. alike);
   refused = told _ (λ κs a u v. refl) (λ κs a x. alike);
   code = told _ (λ κs a u v. refl) (λ κs a x. alike);
 }
@@ -24,15 +26,12 @@ of_block = record {
 
 of_text : OfText
 of_text = record {
-  put_byte_lem = lent (λ κs a x y p q. ap (λ z. z.at) (same p q) & ap (λ z. z.held) (same p q) & refl)
-      (λ κs a x. alike);
-  put = lent (λ κs a x y p q. ap (λ z. z.at) (same p q) & ap (λ z. z.held) (same p q) & refl) (λ κs a x. alike);
-  put_decimal_lem = lent (λ κs a x y p q. ap (λ z. z.at) (same p q) & ap (λ z. z.held) (same p q) & refl)
-      (λ κs a x. alike);
-  put_hex_lem = lent (λ κs a x y p q. ap (λ z. z.at) (same p q) & ap (λ z. z.held) (same p q) & refl)
-      (λ κs a x. alike);
-  put_number = lent (λ κs a x y p q. ap (λ z. z.at) (same p q) & ap (λ z. z.held) (same p q) & refl)
-      (λ κs a x. alike);
+  new = told _ (λ κs a u v. refl) (λ κs a x. alike);
+  put_byte_lem = lent (λ κs a x y p q. refl & same p q & refl) (λ κs a x. alike);
+  put = lent (λ κs a x y p q. refl & same p q & refl) (λ κs a x. alike);
+  put_decimal_lem = lent (λ κs a x y p q. refl & same p q & refl) (λ κs a x. alike);
+  put_hex_lem = lent (λ κs a x y p q. refl & same p q & refl) (λ κs a x. alike);
+  put_number = lent (λ κs a x y p q. refl & same p q & refl) (λ κs a x. alike);
 }
 
 pub claim : Claim

@@ -119,23 +119,28 @@ pub record OfReader : Type 0 where
   pub read_pair_lem : Says Reader.read_pair.ended ReaderProofs.read_pair.Reads.Asked
       ReaderProofs.read_pair.Reads.Learnt
       (λ _ card q r. r ≡ pair_read card.now q)
-  pub new : Says Reader.new.ended ReaderProofs.new.Reads.Asked ReaderProofs.new.Reads.Learnt
+  pub new : Says Reader.Reader.new.ended ReaderProofs.Reader.new.Reads.Asked ReaderProofs.Reader.new.Reads.Learnt
       (λ _ src r. r ≡ record { src = src; at = 0 })
-  pub moved : Says Reader.moved.ended ReaderProofs.moved.Reads.Asked ReaderProofs.moved.Reads.Learnt
+  pub moved : Says Reader.Reader.moved.ended ReaderProofs.Reader.moved.Reads.Asked
+      ReaderProofs.Reader.moved.Reads.Learnt
       (λ _ r at q. q ≡ record { src = r.src; at = at })
-  pub next : Says Reader.next.ended ReaderProofs.next.Reads.Asked ReaderProofs.next.Reads.Learnt
-      (λ _ reader width f. f ≡ field_at reader.src.now reader.at width)
-  pub left : Says Reader.left.ended ReaderProofs.left.Reads.Asked ReaderProofs.left.Reads.Learnt
-      (λ _ r n. n ≡ length r.src.now - r.at)
+  pub next : Says Reader.Reader.next.ended ReaderProofs.Reader.next.Reads.Asked ReaderProofs.Reader.next.Reads.Learnt
+      (λ _ reader width v reader'. (v ≡ (field_at reader.now.src.now reader.now.at width).value)
+      × (reader' ≡ record { src = reader.now.src; at = (field_at reader.now.src.now reader.now.at width).after }))
+  pub left : Says Reader.Reader.left.ended ReaderProofs.Reader.left.Reads.Asked ReaderProofs.Reader.left.Reads.Learnt
+      (λ _ r n. n ≡ length r.now.src.now - r.now.at)
 
 -- reader, its struct, by the clauses themselves
 pub record OfReaderByHand : Type 2 where
-  pub new : SaysByHand Reader.new.ended (λ M 𝓤. Reader.new.clauses) (λ _ src r. r ≡ record { src = src; at = 0 })
-  pub moved : SaysByHand Reader.moved.ended (λ M 𝓤. Reader.moved.clauses)
+  pub new : SaysByHand Reader.Reader.new.ended (λ M 𝓤. Reader.Reader.new.clauses)
+      (λ _ src r. r ≡ record { src = src; at = 0 })
+  pub moved : SaysByHand Reader.Reader.moved.ended (λ M 𝓤. Reader.Reader.moved.clauses)
       (λ _ r at q. q ≡ record { src = r.src; at = at })
-  pub next : SaysByHand Reader.next.ended (λ M 𝓤. Reader.next.clauses)
-      (λ _ r width f. f ≡ field_at r.src.now r.at width)
-  pub left : SaysByHand Reader.left.ended (λ M 𝓤. Reader.left.clauses) (λ _ r n. n ≡ length r.src.now - r.at)
+  pub next : SaysByHand Reader.Reader.next.ended (λ M 𝓤. Reader.Reader.next.clauses)
+      (λ _ r width v q. (v ≡ (field_at r.now.src.now r.now.at width).value)
+      × (q ≡ record { src = r.now.src; at = (field_at r.now.src.now r.now.at width).after }))
+  pub left : SaysByHand Reader.Reader.left.ended (λ M 𝓤. Reader.Reader.left.clauses)
+      (λ _ r n. n ≡ length r.now.src.now - r.now.at)
 
 abbrev pub Claim : Type 2
 Claim = OfFields × OfCard × OfReader × OfReaderByHand

@@ -58,11 +58,13 @@ pub record OfTour : Type 0 where
 
 -- feed
 pub record OfFeed : Type 0 where
-  pub begin : Says Feed.begin.ended FeedProofs.begin.Reads.Asked FeedProofs.begin.Reads.Learnt (λ _ r. r ≡ begun)
-  pub add : Says Feed.add.ended FeedProofs.add.Reads.Asked FeedProofs.add.Reads.Learnt
-      (λ _ f held piece r held'. stored r held' ≡ add_of f held.now piece.now)
-  pub ask : Says Feed.ask.ended FeedProofs.ask.Reads.Asked FeedProofs.ask.Reads.Learnt
-      (λ _ f held room table r room' table'. reply r room' table' ≡ ask_of f held.now room.now table.now)
+  pub begin : Says Feed.Feed.begin.ended FeedProofs.Feed.begin.Reads.Asked FeedProofs.Feed.begin.Reads.Learnt
+      (λ _ r. r ≡ begun)
+  pub add : Says Feed.Feed.add.ended FeedProofs.Feed.add.Reads.Asked FeedProofs.Feed.add.Reads.Learnt
+      (λ _ f held piece r f' held'. stored f' r held' ≡ add_of f.now held.now piece.now)
+  pub ask : Says Feed.Feed.ask.ended FeedProofs.Feed.ask.Reads.Asked FeedProofs.Feed.ask.Reads.Learnt
+      (λ _ f held room table r f' room' table'.
+      reply f' r room' table' ≡ ask_of f.now held.now room.now table.now)
 
 -- list
 pub record OfList : Type 0 where

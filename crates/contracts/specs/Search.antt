@@ -10,9 +10,9 @@ use Rattle.std.specs.Float.{nan}
 use Rattle.table.specs.Evaluate.{home_at, distance_at, length_of}
 use Rattle.table.specs.Distances.{homed, tabled}
 use Rattle.start.specs.Nearest.{nearest}
-use Rattle.start.specs.Code.{ground_of, Written}
+use Rattle.start.specs.Code.{ground_on, Written}
 use Rattle.improve.specs.Search.{searched}
-use Rattle.improve.specs.Code.{Reached, chart_of}
+use Rattle.improve.specs.Code.{Reached, charted}
 use Rattle.instance.specs.Room.{instance_of}
 use Rattle.instance.specs.Prepared.{prepared_of}
 use Rattle.solve.specs.Solve.{end_in, Solved}
@@ -75,14 +75,15 @@ pub record OfTable : Type 0 where
       (λ _ s i r. r ≡ get_or s.now i nan)
   pub byte_at_lem : Says Table.byte_at.ended TableProofs.byte_at.Reads.Asked TableProofs.byte_at.Reads.Learnt
       (λ _ s i r. r ≡ get_or s.now i 0)
-  pub home_at_lem : Says Table.home_at.ended TableProofs.home_at.Reads.Asked TableProofs.home_at.Reads.Learnt
-      (λ _ home a r. r ≡ home_at home.now a)
-  pub distance_at_lem : Says Table.distance_at.ended TableProofs.distance_at.Reads.Asked
-      TableProofs.distance_at.Reads.Learnt
-      (λ _ table t a b r. r ≡ distance_at table.now t a b)
-  pub evaluate_solution_lem : Says Table.evaluate_solution.ended TableProofs.evaluate_solution.Reads.Asked
-      TableProofs.evaluate_solution.Reads.Learnt
-      (λ _ home table t tour r. r ≡ length_of home.now table.now t tour.now)
+  pub home_at_lem : Says Table.Distances.home_at.ended TableProofs.Distances.home_at.Reads.Asked
+      TableProofs.Distances.home_at.Reads.Learnt
+      (λ _ all a r. r ≡ home_at all.now.home.now a)
+  pub distance_at_lem : Says Table.Distances.distance_at.ended TableProofs.Distances.distance_at.Reads.Asked
+      TableProofs.Distances.distance_at.Reads.Learnt
+      (λ _ all a b r. r ≡ distance_at all.now.table.now all.now.count a b)
+  pub evaluate_solution_lem : Says Table.Distances.evaluate_solution.ended
+      TableProofs.Distances.evaluate_solution.Reads.Asked TableProofs.Distances.evaluate_solution.Reads.Learnt
+      (λ _ all tour r. r ≡ length_of all.now.home.now all.now.table.now all.now.count tour.now)
   pub fill_table_lem : Says Table.fill_table.ended TableProofs.fill_table.Reads.Asked
       TableProofs.fill_table.Reads.Learnt
       (λ _ room items t owner _ room'. room' ≡ tabled items t owner.now room.now)
@@ -93,19 +94,16 @@ pub record OfTable : Type 0 where
 pub record OfStart : Type 0 where
   pub nn_constrained_lem : Says Start.nn_constrained.ended StartProofs.nn_constrained.Reads.Asked
       StartProofs.nn_constrained.Reads.Learnt
-      (λ _ home table t first pairs tour r tour'.
-      let land = ground_of home.now table.now t first.now pairs.now in
+      (λ _ distances first pairs tour r tour'. let land = ground_on distances.now first.now pairs.now in
       Written (nearest land (length tour.now)) tour.now r tour')
   pub solve_nn_lem : Says Start.solve_nn.ended StartProofs.solve_nn.Reads.Asked StartProofs.solve_nn.Reads.Learnt
-      (λ _ home table t first tour r tour'. let land = ground_of home.now table.now t first.now [] in
+      (λ _ distances first tour r tour'. let land = ground_on distances.now first.now [] in
       Written (nearest land (length tour.now)) tour.now r tour')
 
 -- improve
 pub record OfImprove : Type 0 where
   pub improve : Says Improve.improve.ended ImproveProofs.improve.Reads.Asked ImproveProofs.improve.Reads.Learnt
-      (λ _ home table t owner first pairs tour passes limit r tour'.
-      let chart = chart_of home.now table.now t owner.now first.now pairs.now in
-      Reached r tour' (searched chart passes limit tour.now))
+      (λ _ chart tour passes limit r tour'. Reached r tour' (searched (charted chart.now) passes limit tour.now))
 
 -- instance
 pub record OfInstance : Type 0 where
@@ -118,9 +116,8 @@ pub record OfInstance : Type 0 where
 pub record OfSolve : Type 0 where
   pub solve_constrained_lem : Says Solve.solve_constrained.ended SolveProofs.solve_constrained.Reads.Asked
       SolveProofs.solve_constrained.Reads.Learnt
-      (λ _ home table t owner first pairs tour passes limit r tour'.
-      let chart = chart_of home.now table.now t owner.now first.now pairs.now in
-      Solved chart (end_in chart (length tour.now) passes limit) tour.now r tour')
+      (λ _ chart tour passes limit r tour'. let read = charted chart.now in
+      Solved read (end_in read (length tour.now) passes limit) tour.now r tour')
 
 abbrev pub Claim : Type 0
 Claim = OfCandidates × OfBridge × OfTable × OfStart × OfImprove × OfInstance × OfSolve

@@ -1,7 +1,7 @@
 -- What the contracts of `probe` come to: see Contract. Assumes nothing.
 use Rattle.std.specs.Prelude.{◌≡◌, [], length}
-use Rattle.probe.specs.Told.{root_code, root_or, length_code, length_or, closest_code, nearest_or, count_code, count_or}
-use Rattle.probe.specs.Told.{verdict_code, way_of, asked_of, nth_of, place_of, fine_or}
+use Rattle.probe.specs.Told.{answer_code, value_or, closest_code, nearest_or}
+use Rattle.probe.specs.Told.{verdict_code, way_of, asked_of, nth_of, place_of, told_or}
 use Rattle.root.specs.Root.{sqrt_of, root_of}
 use Rattle.points.specs.Points.{point}
 use Rattle.points.specs.Distance.{distance_of}
@@ -31,7 +31,7 @@ use Rattle.contracts.specs.Contract.{Says}
 pub record OfProbe : Type 0 where
   pub probe_root_lem : Says Probe.probe_root.ended ProbeProofs.probe_root.Reads.Asked
       ProbeProofs.probe_root.Reads.Learnt
-      (λ _ x out r out'. (r ≡ root_code (root_of x)) × (out' ≡ root_or (root_of x) out.now))
+      (λ _ x out r out'. (r ≡ answer_code (root_of x)) × (out' ≡ value_or (root_of x) out.now))
   pub probe_sqrt_lem : Says Probe.probe_sqrt.ended ProbeProofs.probe_sqrt.Reads.Asked
       ProbeProofs.probe_sqrt.Reads.Learnt
       (λ _ x r. r ≡ sqrt_of x)
@@ -41,22 +41,22 @@ pub record OfProbe : Type 0 where
   pub probe_distance : Says Probe.probe_distance.ended ProbeProofs.probe_distance.Reads.Asked
       ProbeProofs.probe_distance.Reads.Learnt
       (λ _ ax ay bx by out r out'. let d = point_distance_of (point ax ay) (point bx by) in
-      (r ≡ length_code d) × (out' ≡ length_or d out.now))
+      (r ≡ answer_code d) × (out' ≡ value_or d out.now))
   pub probe_distance_sq_lem : Says Probe.probe_distance_sq.ended ProbeProofs.probe_distance_sq.Reads.Asked
       ProbeProofs.probe_distance_sq.Reads.Learnt
       (λ _ ax ay bx by out r out'. let d = point_distance_sq_of (point ax ay) (point bx by) in
-      (r ≡ length_code d) × (out' ≡ length_or d out.now))
+      (r ≡ answer_code d) × (out' ≡ value_or d out.now))
   pub probe_between_lem : Says Probe.probe_between.ended ProbeProofs.probe_between.Reads.Asked
       ProbeProofs.probe_between.Reads.Learnt
       (λ _ ax ay bx by r. r ≡ distance_of (point ax ay) (point bx by))
   pub probe_rapid_lem : Says Probe.probe_rapid.ended ProbeProofs.probe_rapid.Reads.Asked
       ProbeProofs.probe_rapid.Reads.Learnt
       (λ _ x y legs out r out'. let d = total_rapid_of (point x y) legs.now in
-      (r ≡ length_code d) × (out' ≡ length_or d out.now))
+      (r ≡ answer_code d) × (out' ≡ value_or d out.now))
   pub probe_sequence_cost_lem : Says Probe.probe_sequence_cost.ended ProbeProofs.probe_sequence_cost.Reads.Asked
       ProbeProofs.probe_sequence_cost.Reads.Learnt
       (λ _ total count weight out r out'. let d = sequence_cost_of total count weight in
-      (r ≡ length_code d) × (out' ≡ length_or d out.now))
+      (r ≡ answer_code d) × (out' ≡ value_or d out.now))
   pub probe_closest_lem : Says Probe.probe_closest.ended ProbeProofs.probe_closest.Reads.Asked
       ProbeProofs.probe_closest.Reads.Learnt
       (λ _ polygon px py x y t vertex r x' y' t' vertex'.
@@ -67,7 +67,7 @@ pub record OfProbe : Type 0 where
   pub probe_num_contours_lem : Says Probe.probe_num_contours.ended ProbeProofs.probe_num_contours.Reads.Asked
       ProbeProofs.probe_num_contours.Reads.Learnt
       (λ _ contours pairs out r out'. let n = num_contours contours pairs.now in
-      (r ≡ count_code n) × (out' ≡ count_or n out.now))
+      (r ≡ answer_code n) × (out' ≡ value_or n out.now))
   pub probe_violates_lem : Says Probe.probe_violates.ended ProbeProofs.probe_violates.Reads.Asked
       ProbeProofs.probe_violates.Reads.Learnt
       (λ _ contours pairs a b r. r ≡ verdict_code (violates_of contours pairs.now a b))
@@ -77,31 +77,31 @@ pub record OfProbe : Type 0 where
   pub probe_precedences_lem : Says Probe.probe_precedences.ended ProbeProofs.probe_precedences.Reads.Asked
       ProbeProofs.probe_precedences.Reads.Learnt
       (λ _ contours pairs ids count r ids' count'. let l = precedences_of contours pairs.now in
-      (r ≡ code_of l.check) × ((ids' ≡ fine_or l.check l.ids ids.now) ×
-      (count' ≡ fine_or l.check l.count count.now)))
+      (r ≡ answer_code l) × ((ids' ≡ told_or l (λ x. x.ids) ids.now) ×
+      (count' ≡ told_or l (λ x. x.count) count.now)))
   pub probe_predecessors_lem : Says Probe.probe_predecessors.ended ProbeProofs.probe_predecessors.Reads.Asked
       ProbeProofs.probe_predecessors.Reads.Learnt
       (λ _ contours pairs id ids count r ids' count'. let l = predecessors_of contours pairs.now id in
-      (r ≡ code_of l.check) × ((ids' ≡ fine_or l.check l.ids ids.now) ×
-      (count' ≡ fine_or l.check l.count count.now)))
+      (r ≡ answer_code l) × ((ids' ≡ told_or l (λ x. x.items) ids.now) ×
+      (count' ≡ told_or l (λ x. x.count) count.now)))
   pub probe_successors_lem : Says Probe.probe_successors.ended ProbeProofs.probe_successors.Reads.Asked
       ProbeProofs.probe_successors.Reads.Learnt
       (λ _ contours pairs id ids count r ids' count'. let l = successors_of contours pairs.now id in
-      (r ≡ code_of l.check) × ((ids' ≡ fine_or l.check l.ids ids.now) ×
-      (count' ≡ fine_or l.check l.count count.now)))
+      (r ≡ answer_code l) × ((ids' ≡ told_or l (λ x. x.items) ids.now) ×
+      (count' ≡ told_or l (λ x. x.count) count.now)))
   pub probe_candidate_lem : Says Probe.probe_candidate.ended ProbeProofs.probe_candidate.Reads.Asked
       ProbeProofs.probe_candidate.Reads.Learnt
       (λ _ numbers c grid kind exterior interior k place vertex way count r place' vertex' way' count'.
-      let o = asked_of numbers.now c grid kind exterior interior in let n = nth_of o.found k in
-      (r ≡ code_of o.check) × ((place' ≡ fine_or o.check (place_of n) place.now) ×
-      ((vertex' ≡ fine_or o.check n.vertex vertex.now) ×
-      ((way' ≡ fine_or o.check (way_of n.direction) way.now) ×
-      (count' ≡ fine_or o.check o.found.count count.now)))))
+      let o = asked_of numbers.now c grid kind exterior interior in
+      (r ≡ answer_code o) × ((place' ≡ told_or o (λ l. place_of (nth_of l k)) place.now) ×
+      ((vertex' ≡ told_or o (λ l. (nth_of l k).vertex) vertex.now) ×
+      ((way' ≡ told_or o (λ l. way_of (nth_of l k).direction) way.now) ×
+      (count' ≡ told_or o (λ l. l.count) count.now)))))
   pub probe_topological_sort_lem : Says Probe.probe_topological_sort.ended
       ProbeProofs.probe_topological_sort.Reads.Asked ProbeProofs.probe_topological_sort.Reads.Learnt
       (λ _ contours pairs positions count r positions' count'. let o = topological_sort contours pairs.now in
-      (r ≡ code_of o.check) × ((positions' ≡ fine_or o.check o.positions positions.now) ×
-      (count' ≡ fine_or o.check o.count count.now)))
+      (r ≡ answer_code o) × ((positions' ≡ told_or o (λ x. x.items) positions.now) ×
+      (count' ≡ told_or o (λ x. x.count) count.now)))
   pub probe_check_lem : Says Probe.probe_check.ended ProbeProofs.probe_check.Reads.Asked
       ProbeProofs.probe_check.Reads.Learnt
       (λ _ card r. r ≡ code_of (check_of card.now))

@@ -1,10 +1,11 @@
 -- What the contracts of `answer`, `block` and `text` come to: see Contract. Assumes nothing.
-use Rattle.std.specs.Prelude.{◌≡◌, ◌++◌}
-use Rattle.answer.specs.declared.Check.{Check}
+use Rattle.std.specs.Prelude.{◌≡◌, ◌++◌, Err}
 use Rattle.answer.specs.Code.{code_of}
+use Rattle.answer.specs.Fault.{number_of}
 use Rattle.block.specs.Field.{byte_at, u16_at, u32_at, u64_at, f64_at}
 use Rattle.block.specs.Block.{check_at, checked, starts, zeros_at}
-use Rattle.text.specs.Page.{paged, put_byte, put as put_text}
+use Rattle.text.specs.Page.{put_byte, put as put_text}
+use Rattle.text.specs.OnPage.{laid, left}
 use Rattle.text.specs.Text.{decimal_of, hex_of}
 use Rattle.answer.specs.contracts as Answer
 use Rattle.answer.proofs as AnswerProofs
@@ -16,8 +17,12 @@ use Rattle.contracts.specs.Contract.{Says}
 
 -- answer
 pub record OfAnswer : Type 0 where
+  pub number : Says Answer.Fault.number.ended AnswerProofs.Fault.number.Reads.Asked AnswerProofs.Fault.number.Reads.Learnt
+      (λ _ f r. r ≡ number_of f)
+  pub at : Says Answer.Fault.at.ended AnswerProofs.Fault.at.Reads.Asked AnswerProofs.Fault.at.Reads.Learnt
+      (λ _ f place r. r ≡ record { number = number_of f; place = place })
   pub refused : Says Answer.refused.ended AnswerProofs.refused.Reads.Asked AnswerProofs.refused.Reads.Learnt
-      (λ _ number place r. r ≡ Check.Refused (record { number = number; place = place }))
+      (λ _ number place r. r ≡ Err (record { number = number; place = place }))
   pub code : Says Answer.code.ended AnswerProofs.code.Reads.Asked AnswerProofs.code.Reads.Learnt
       (λ _ c r. r ≡ code_of c)
 
@@ -45,17 +50,22 @@ pub record OfBlock : Type 0 where
 
 -- text
 pub record OfText : Type 0 where
-  pub put_byte_lem : Says Text.put_byte.ended TextProofs.put_byte.Reads.Asked TextProofs.put_byte.Reads.Learnt
-      (λ _ page at b r page'. paged r page' ≡ put_byte b (paged at page.now))
-  pub put : Says Text.put.ended TextProofs.put.Reads.Asked TextProofs.put.Reads.Learnt
-      (λ _ page at text r page'. paged r page' ≡ put_text text.now (paged at page.now))
-  pub put_decimal_lem : Says Text.put_decimal.ended TextProofs.put_decimal.Reads.Asked
-      TextProofs.put_decimal.Reads.Learnt
-      (λ _ page at n r page'. paged r page' ≡ put_text (decimal_of n) (paged at page.now))
-  pub put_hex_lem : Says Text.put_hex.ended TextProofs.put_hex.Reads.Asked TextProofs.put_hex.Reads.Learnt
-      (λ _ page at n r page'. paged r page' ≡ put_text (hex_of n) (paged at page.now))
-  pub put_number : Says Text.put_number.ended TextProofs.put_number.Reads.Asked TextProofs.put_number.Reads.Learnt
-      (λ _ page at text n r page'. paged r page' ≡ put_text (text.now ++ decimal_of n) (paged at page.now))
+  pub new : Says Text.Page.new.ended TextProofs.Page.new.Reads.Asked TextProofs.Page.new.Reads.Learnt
+      (λ _ bytes r handed. r ≡ record { bytes = bytes; at = 0 })
+  pub put_byte_lem : Says Text.Page.put_byte.ended TextProofs.Page.put_byte.Reads.Asked
+      TextProofs.Page.put_byte.Reads.Learnt
+      (λ _ page b r page'. page' ≡ left page.now (put_byte b (laid page.now)))
+  pub put : Says Text.Page.put.ended TextProofs.Page.put.Reads.Asked TextProofs.Page.put.Reads.Learnt
+      (λ _ page text r page'. page' ≡ left page.now (put_text text.now (laid page.now)))
+  pub put_decimal_lem : Says Text.Page.put_decimal.ended TextProofs.Page.put_decimal.Reads.Asked
+      TextProofs.Page.put_decimal.Reads.Learnt
+      (λ _ page n r page'. page' ≡ left page.now (put_text (decimal_of n) (laid page.now)))
+  pub put_hex_lem : Says Text.Page.put_hex.ended TextProofs.Page.put_hex.Reads.Asked
+      TextProofs.Page.put_hex.Reads.Learnt
+      (λ _ page n r page'. page' ≡ left page.now (put_text (hex_of n) (laid page.now)))
+  pub put_number : Says Text.Page.put_number.ended TextProofs.Page.put_number.Reads.Asked
+      TextProofs.Page.put_number.Reads.Learnt
+      (λ _ page text n r page'. page' ≡ left page.now (put_text (text.now ++ decimal_of n) (laid page.now)))
 
 abbrev pub Claim : Type 0
 Claim = OfAnswer × OfBlock × OfText

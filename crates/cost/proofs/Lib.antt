@@ -2,4 +2,3 @@ pub mod AmountLaws
 pub mod ClosestLaws
 pub mod RapidLaws
 pub mod Starred
-pub mod Answers

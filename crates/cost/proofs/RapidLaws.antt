@@ -1,8 +1,8 @@
 -- The sum over a sequence's legs, a leg at a time. Assumes nothing.
+use Rattle.std.specs.Prelude.{Some}
 use Rattle.std.proofs.Common.{◌≡◌, ℕ, ◌+◌, ◌/◌, ◌<◌, ◌≤◌, List, [], ◌∷◌, length, get_or, drop, sym, refl, ◌∙◌, not-suc-le-zero, add-one, arith, drop_of_length-le, drop-cons}
 use lib.Ieee.{Float, binary64, add, of_bits}
 use Rattle.answer.specs.declared.Point.{Point}
-use Rattle.answer.specs.declared.Found.TheVariants.{At}
 use Rattle.answer.proofs.LowestLaws.{is_at_lem}
 use Rattle.points.specs.declared.Ends.{Ends}
 use Rattle.points.specs.Points.{no_ends, points, legs}
@@ -48,6 +48,6 @@ module _ (d : List Float) where
   pub no_legs : (home : Point) → length d / 4 ≡ 0 → of_bits binary64 0 ≡ rapid_of home (legs (points d))
   no_legs home h = sym (none_of home (legs (points d)) (legs_count d ∙ h))
 
-pub bad_within : (d : List Float) (n k : ℕ) → first_bad d n ≡ At k → k < n
+pub bad_within : (d : List Float) (n k : ℕ) → first_bad d n ≡ Some k → k < n
 unfolding first_bad
 bad_within d n k e = (is_at_lem (bad_at d) n k e).within

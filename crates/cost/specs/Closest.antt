@@ -1,16 +1,14 @@
 -- The point of a polygon's boundary that is closest to a given point. Assumes nothing.
-use Rattle.std.specs.Prelude.{ℕ, suc, ◌+◌, ◌/◌, cond, List, [], ◌∷◌, length, Float}
+use Rattle.std.specs.Prelude.{ℕ, suc, ◌+◌, ◌/◌, cond, List, [], ◌∷◌, length, Float, None, Option, Some}
 use Rattle.std.specs.Float.{binary64}
 use Rattle.std.specs.Float.Ieee.{add, sub, mul, div, lt}
 use Rattle.answer.specs.declared.Point.{Point}
-use Rattle.answer.specs.declared.Check.{Check}
-use Rattle.answer.specs.declared.Check.TheVariants.{Fine, Refused}
+use Rattle.answer.specs.Answer.{Answer, Check, unless}
+use Rattle.cost.specs.declared.Nearest.{Nearest}
 use Rattle.answer.specs.Lowest.{refuse_at, refuse_if}
 use Rattle.answer.specs.Stage.{first_refusal}
 use Rattle.points.specs.declared.Ends.{Ends}
 use Rattle.cost.specs.declared.Best.{Best}
-use Rattle.cost.specs.declared.Closest.{Closest}
-use Rattle.cost.specs.declared.Closest.TheVariants.{At, Nowhere, Refused as Unplaced}
 use Rattle.points.specs.Numbers.{zero64, one64, tiny, huge}
 use Rattle.points.specs.Points.{points, edges}
 use Rattle.points.specs.Bad.{bad_point, first_bad}
@@ -48,15 +46,11 @@ abbrev pub unbeaten : Point → Best
 unbeaten v = record { distance = huge; nearest = record { point = v; vertex = 0; t = zero64 } }
 
 -- the closest point of a polygon; none where it has no vertices
-unfoldable pub closest_to : Point → List Point → Closest
-closest_to p [] = Nowhere
-closest_to p (v ∷ more) = At (closest_from p 0 (unbeaten v) (edges (v ∷ more))).nearest
+unfoldable pub closest_to : Point → List Point → Option Nearest
+closest_to p [] = None
+closest_to p (v ∷ more) = Some (closest_from p 0 (unbeaten v) (edges (v ∷ more))).nearest
 
 -- unless the check refuses
-abbrev pub located : Check → Closest → Closest
-located Fine c = c
-located (Refused r) c = Unplaced r
-
 -- the polygon's first bad vertex, one with a number missing among them; then the point, numbered after the whole
 -- vertices
 unfoldable pub polygon_and_point : List Float → Point → Check
@@ -64,5 +58,5 @@ polygon_and_point polygon p =
     first_refusal (refuse_at 8 (first_bad polygon ((length polygon + 1) / 2))
     ∷ refuse_if (bad_point p) 8 (length polygon / 2) ∷ [])
 
-unfoldable pub closest_on_polygon_of : List Float → Point → Closest
-closest_on_polygon_of polygon p = located (polygon_and_point polygon p) (closest_to p (points polygon))
+unfoldable pub closest_on_polygon_of : List Float → Point → Answer (Option Nearest)
+closest_on_polygon_of polygon p = unless (polygon_and_point polygon p) (closest_to p (points polygon))

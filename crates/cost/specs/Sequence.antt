@@ -2,11 +2,9 @@
 use Rattle.std.specs.Prelude.{ℕ, Bool, true, ◌&&◌, [], ◌∷◌, pos, nat_lt, Float}
 use Rattle.std.specs.Float.{nan, inf, fin, binary64}
 use Rattle.std.specs.Float.Ieee.{add, mul, of_int}
-use Rattle.answer.specs.declared.Check.{Check}
+use Rattle.answer.specs.Answer.{Answer, Check, unless}
 use Rattle.answer.specs.Stage.{first_refusal}
-use Rattle.cost.specs.declared.Measured.{Measured}
 use Rattle.answer.specs.Lowest.{refuse_if}
-use Rattle.cost.specs.Distance.{measured}
 
 -- the most pierces that are counted
 abbrev pub most_pierces : ℕ
@@ -25,6 +23,6 @@ amounts total count weight =
     ∷ refuse_if (nat_lt most_pierces count) 14 3 ∷ [])
 
 -- the product rounded, then the sum
-unfoldable pub sequence_cost_of : Float → ℕ → Float → Measured
+unfoldable pub sequence_cost_of : Float → ℕ → Float → Answer Float
 sequence_cost_of total count weight =
-    measured (amounts total count weight) (add binary64 total (mul binary64 weight (of_int binary64 (pos count))))
+    unless (amounts total count weight) (add binary64 total (mul binary64 weight (of_int binary64 (pos count))))

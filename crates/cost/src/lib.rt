@@ -8,18 +8,11 @@ ghost use Rattle.cost.specs.Closest.{clamp_of, foot_of, closer_of, closest_to, p
 ghost use Rattle.cost.specs.Rapid.{rapid_of, home_and_legs, total_rapid_of};
 ghost use Rattle.cost.specs.Sequence.{no_amount, amounts, sequence_cost_of};
 
-use answer::{Check, Found, Point, Refusal};
+use answer::{Fault, Point, Refusal};
 use points::{Ends, HUGE, TINY};
 
 // The most pierces that are counted.
 pub const MOST_PIERCES: usize = 1000;
-
-// A length, or why there is none.
-#[derive(Clone, Copy)]
-pub enum Measured {
-    Is(f64),
-    Refused(Refusal),
-}
 
 // A place on a polygon's boundary: the point, the vertex its edge starts at, and how far along the edge it is.
 #[derive(Clone, Copy)]
@@ -36,14 +29,6 @@ pub struct Best {
     pub nearest: Nearest,
 }
 
-// The closest place, that there is none, or why the question goes back.
-#[derive(Clone, Copy)]
-pub enum Closest {
-    At(Nearest),
-    Nowhere,
-    Refused(Refusal),
-}
-
 // Leg k of a sequence, four numbers to a leg.
 fn leg_at(numbers: &[f64], k: usize) -> Ends
     requires { k < length numbers.now / 4 }
@@ -56,49 +41,42 @@ fn leg_at(numbers: &[f64], k: usize) -> Ends
 }
 
 // 8 at the first of two points that is bad: 0 or 1.
-fn two_points(a: Point, b: Point) -> Check
+#[tactic(auto, unfolding(crate::specs::Distance::two_points, answer::specs::Stage::first_refusal))]
+fn two_points(a: Point, b: Point) -> Result<(), Refusal>
     ensures { result ≡ two_points a b }
 {
     if points::bad_point(a) {
-        return answer::refused(8, 0);
+        return Err(Fault::Coordinate.at(0));
     }
     if points::bad_point(b) {
-        return answer::refused(8, 1);
+        return Err(Fault::Coordinate.at(1));
     }
-    Check::Fine
+    Ok(())
 }
 
 // The squared distance of two points, for whoever asks; a bad point is refused.
-pub fn point_distance_sq(a: Point, b: Point) -> Measured
+#[tactic(auto, unfolding(crate::specs::Distance::point_distance_sq_of))]
+pub fn point_distance_sq(a: Point, b: Point) -> Result<f64, Refusal>
     ensures { result ≡ point_distance_sq_of a b }
 {
-    match two_points(a, b) {
-        Check::Fine => Measured::Is(points::distance_sq(a, b)),
-        Check::Refused(r) => Measured::Refused(r),
-    }
+    two_points(a, b)?;
+    Ok(points::distance_sq(a, b))
 }
 
 // The distance of two points, for whoever asks; a bad point is refused.
-pub fn point_distance(a: Point, b: Point) -> Measured
+#[tactic(auto, unfolding(crate::specs::Distance::point_distance_of))]
+pub fn point_distance(a: Point, b: Point) -> Result<f64, Refusal>
     ensures { result ≡ point_distance_of a b }
 {
-    match two_points(a, b) {
-        Check::Fine => Measured::Is(points::distance(a, b)),
-        Check::Refused(r) => Measured::Refused(r),
-    }
+    two_points(a, b)?;
+    Ok(points::distance(a, b))
 }
 
 // Brought into 0 to 1. What is neither below 0 nor above 1 stays as it is, -0 too.
 pub fn clamp(t: f64) -> f64
     ensures { result ≡ clamp_of t }
 {
-    if t < 0.0 {
-        return 0.0;
-    }
-    if t > 1.0 {
-        return 1.0;
-    }
-    t
+    t.clamp(0.0, 1.0)
 }
 
 // How far along an edge the foot of a point falls; an edge too short to divide by counts as its start.
@@ -109,9 +87,10 @@ fn foot(p: Point, e: Ends) -> f64
     let b = e.finish;
     let length_sq = points::distance_sq(a, b);
     if length_sq < TINY {
-        return 0.0;
+        0.0
+    } else {
+        ((p.x - a.x) * (b.x - a.x) + (p.y - a.y) * (b.y - a.y)) / length_sq
     }
-    ((p.x - a.x) * (b.x - a.x) + (p.y - a.y) * (b.y - a.y)) / length_sq
 }
 
 // Edge i takes the place of the best so far only if it is strictly closer.
@@ -135,12 +114,12 @@ fn closer(p: Point, i: usize, e: Ends, best: Best) -> Best
 }
 
 // The closest point of a polygon whose coordinates are known to be good.
-pub fn closest_to(polygon: &[f64], p: Point) -> Closest
+pub fn closest_to(polygon: &[f64], p: Point) -> Option<Nearest>
     ensures { result ≡ closest_to p (points polygon.now) }
 {
     let n = polygon.len() / 2;
     if n == 0 {
-        return Closest::Nowhere;
+        return None;
     }
     let mut best = Best {
         distance: HUGE,
@@ -150,40 +129,36 @@ pub fn closest_to(polygon: &[f64], p: Point) -> Closest
             t: 0.0,
         },
     };
-    let mut i = 0;
-    while i < n {
+    for i in 0..n {
         best = closer(p, i, points::edge_at(polygon, i), best);
-        i += 1;
     }
     let nearest = best.nearest;
-    Closest::At(nearest)
+    Some(nearest)
 }
 
 // 8 at the first bad vertex, a part of one counted, or else at the number after the last whole one for the point.
-fn polygon_and_point(polygon: &[f64], p: Point) -> Check
+#[tactic(auto, unfolding(crate::specs::Closest::polygon_and_point, answer::specs::Stage::first_refusal))]
+fn polygon_and_point(polygon: &[f64], p: Point) -> Result<(), Refusal>
     ensures { result ≡ polygon_and_point polygon.now p }
 {
     let whole = polygon.len() / 2;
     let count = (polygon.len() + 1) / 2;
-    match points::first_bad(polygon, count) {
-        Found::At(k) => answer::refused(8, k),
-        Found::Absent => {
-            if points::bad_point(p) {
-                return answer::refused(8, whole);
-            }
-            Check::Fine
-        }
+    if let Some(k) = points::first_bad(polygon, count) {
+        return Err(Fault::Coordinate.at(k));
     }
+    if points::bad_point(p) {
+        return Err(Fault::Coordinate.at(whole));
+    }
+    Ok(())
 }
 
 // The closest point of a polygon, for whoever asks; a bad vertex or point is refused.
-pub fn closest_point_on_polygon(polygon: &[f64], p: Point) -> Closest
+#[tactic(auto, unfolding(crate::specs::Closest::closest_on_polygon_of))]
+pub fn closest_point_on_polygon(polygon: &[f64], p: Point) -> Result<Option<Nearest>, Refusal>
     ensures { result ≡ closest_on_polygon_of polygon.now p }
 {
-    match polygon_and_point(polygon, p) {
-        Check::Fine => closest_to(polygon, p),
-        Check::Refused(r) => Closest::Refused(r),
-    }
+    polygon_and_point(polygon, p)?;
+    Ok(closest_to(polygon, p))
 }
 
 // The length of all rapid moves of a sequence whose coordinates are known to be good: from home to the first leg's start, then
@@ -196,76 +171,69 @@ pub fn rapid_distance(home: Point, numbers: &[f64]) -> f64
         return 0.0;
     }
     let first = leg_at(numbers, 0);
-    let start = first.start;
-    let mut total = points::distance(home, start);
+    let mut total = points::distance(home, first.start);
     let mut at = first.finish;
-    let mut k = 1;
-    while k < n {
+    for k in 1..n {
         let leg = leg_at(numbers, k);
-        let next = leg.start;
-        total = total + points::distance(at, next);
+        total += points::distance(at, leg.start);
         at = leg.finish;
-        k += 1;
     }
     total
 }
 
 // 8 at 0 for home, or else at one more than the first bad end of a leg, a leg that is begun counted.
-fn home_and_legs(home: Point, numbers: &[f64]) -> Check
+#[tactic(auto, unfolding(crate::specs::Rapid::home_and_legs, answer::specs::Stage::first_refusal))]
+fn home_and_legs(home: Point, numbers: &[f64]) -> Result<(), Refusal>
     ensures { result ≡ home_and_legs home numbers.now }
 {
     if points::bad_point(home) {
-        return answer::refused(8, 0);
+        return Err(Fault::Coordinate.at(0));
     }
     let count = 2 * ((numbers.len() + 3) / 4);
-    match points::first_bad(numbers, count) {
-        Found::At(k) => answer::refused(8, k + 1),
-        Found::Absent => Check::Fine,
+    if let Some(k) = points::first_bad(numbers, count) {
+        return Err(Fault::Coordinate.at(k + 1));
     }
+    Ok(())
 }
 
 // The length of all rapid moves, for whoever asks; a bad home or leg is refused.
-pub fn total_rapid_distance(home: Point, numbers: &[f64]) -> Measured
+#[tactic(auto, unfolding(crate::specs::Rapid::total_rapid_of))]
+pub fn total_rapid_distance(home: Point, numbers: &[f64]) -> Result<f64, Refusal>
     ensures { result ≡ total_rapid_of home numbers.now }
 {
-    match home_and_legs(home, numbers) {
-        Check::Fine => Measured::Is(rapid_distance(home, numbers)),
-        Check::Refused(r) => Measured::Refused(r),
-    }
+    home_and_legs(home, numbers)?;
+    Ok(rapid_distance(home, numbers))
 }
 
 // Whether a number is no amount: not finite, or below zero.
 fn no_amount(x: f64) -> bool
     ensures { result ≡ no_amount x }
 {
-    if x < f64::from_bits(0x7ff0_0000_0000_0000) {
-        return x < 0.0;
-    }
-    true
+    !x.is_finite() || x < 0.0
 }
 
 // 14 at 1 for a bad total, at 2 for a bad weight, at 3 for too many pierces.
-fn amounts(total: f64, count: usize, weight: f64) -> Check
+#[tactic(auto, unfolding(crate::specs::Sequence::amounts, answer::specs::Stage::first_refusal))]
+fn amounts(total: f64, count: usize, weight: f64) -> Result<(), Refusal>
     ensures { result ≡ amounts total count weight }
 {
     if no_amount(total) {
-        return answer::refused(14, 1);
+        return Err(Fault::Amount.at(1));
     }
     if no_amount(weight) {
-        return answer::refused(14, 2);
+        return Err(Fault::Amount.at(2));
     }
     if count > MOST_PIERCES {
-        return answer::refused(14, 3);
+        return Err(Fault::Amount.at(3));
     }
-    Check::Fine
+    Ok(())
 }
 
 // What a sequence costs: the length of its rapid moves, and a weight for each pierce.
-pub fn sequence_cost(total: f64, count: usize, weight: f64) -> Measured
+#[tactic(auto, unfolding(crate::specs::Sequence::sequence_cost_of))]
+pub fn sequence_cost(total: f64, count: usize, weight: f64) -> Result<f64, Refusal>
     ensures { result ≡ sequence_cost_of total count weight }
 {
-    match amounts(total, count, weight) {
-        Check::Fine => Measured::Is(total + weight * std::num::nearest_u64_to_f64(count as u64)),
-        Check::Refused(r) => Measured::Refused(r),
-    }
+    amounts(total, count, weight)?;
+    Ok(total + weight * std::num::nearest_u64_to_f64(count as u64))
 }

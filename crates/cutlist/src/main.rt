@@ -14,7 +14,8 @@ const ROOM: usize = CARD_BYTES + 1;
 // More parts of 65,536 bytes than any input has: the reading ends with the input.
 const MOST: u64 = 1_000_000_000_000;
 
-// Reads until the room is full, the input ends or a read fails, and answers how many bytes it put to the front of the room.
+// Reads until the room is full, the input ends or a read fails, and answers how many bytes it put to the front of the room. (As in
+// `replay`, which says why it is written twice and why no method of `Read` does it.)
 fn read_full<R: Read>(input: &mut R, room: &mut [u8]) -> usize
     ensures { result ≤ length room.new }
 {
@@ -32,8 +33,7 @@ fn read_full<R: Read>(input: &mut R, room: &mut [u8]) -> usize
 // Reads a part of the rest and drops it. Was there any?
 fn drop_part<R: Read>(input: &mut R) -> bool {
     let mut space = [0u8; 65536];
-    let n = read_full(input, &mut space);
-    n > 0
+    read_full(input, &mut space) > 0
 }
 
 // Reads the rest and drops it.

@@ -1,4 +1,5 @@
 -- What a tour's question is answered, by what the card's check and the sizes of the two rooms say. Assumes nothing.
+use Rattle.std.specs.Prelude.{Err, Ok}
 use mathlib.Core.Path.{◌≡◌, refl, sym, ap, ◌∙◌, subst}
 use mathlib.Core.Bool.{Bool, true, false}
 use mathlib.Core.List.{List, [], ◌∷◌}
@@ -9,15 +10,13 @@ use lib.Dec.{ltb}
 use lib.Ieee.{Float}
 use lib.ListN.{length}
 use Rattle.answer.specs.declared.Refusal.{Refusal}
-use Rattle.answer.specs.declared.Check.{Check}
-use Rattle.answer.specs.declared.Check.TheVariants as check
+use Rattle.answer.specs.Answer.{Check}
 use Rattle.answer.specs.Stage.{first_refusal}
 use Rattle.answer.specs.Lowest.{refuse_if}
 use Rattle.fields.specs.Layout.{contours_of}
 use Rattle.card.specs.Verdict.{check_of}
 use Rattle.card_laws.proofs.Verdicts.{exactly}
 use Rattle.solve.specs.declared.Outcome.{Outcome}
-use Rattle.tour.specs.declared.Toured.TheVariants as answer
 use Rattle.instance.specs.Search.{count_on}
 use Rattle.tour.specs.Search.{outcome_on}
 use Rattle.tour.specs.Tour.{Left, room_check, tour_check, tour_check_within, toured, toured_unless, tour_of, tour_within}
@@ -43,22 +42,22 @@ module _ (s room : List ℕ) (table : List Float) where
   by_parts = refl
 
   refused_by : (c : Check) (a b : Bool) → check_of s ≡ c → small ≡ a → short ≡ b → (r : Refusal)
-      → parts c a b ≡ check.Refused r → GivenWith s room table r.number r.place
+      → parts c a b ≡ Err r → GivenWith s room table r.number r.place
   unfolding parts first_refusal
-  refused_by (check.Refused q) a b ec ea eb r h = by_card ((exactly s).refused_only r (ec ∙ h))
-  refused_by check.Fine true b ec ea eb r h =
+  refused_by (Err q) a b ec ea eb r h = by_card ((exactly s).refused_only r (ec ∙ h))
+  refused_by (Ok _) true b ec ea eb r h =
       let e : record { number = 13; place = contours_of s } ≡ r = cc in
       subst (λ (z : Refusal). GivenWith s room table z.number z.place) e
       (thirteen ((exactly s).fine_only ec) (small_room (ltb-true (length room) (contours_of s) ea)))
-  refused_by check.Fine false true ec ea eb r h =
+  refused_by (Ok _) false true ec ea eb r h =
       let e : record { number = 13; place = count_on s * count_on s } ≡ r = cc in
       subst (λ (z : Refusal). GivenWith s room table z.number z.place) e
       (thirteen ((exactly s).fine_only ec) (small_table (ltb-false (length room) (contours_of s) ea)
       (ltb-true (length table) (count_on s * count_on s) eb)))
-  refused_by check.Fine false false ec ea eb r h = let z : ◌≡◌ {A = ℕ} 0 1 = cc in absurd (omega arith)
+  refused_by (Ok _) false false ec ea eb r h = let z : ◌≡◌ {A = ℕ} 0 1 = cc in absurd (omega arith)
 
   given_told : (number place : ℕ) → GivenWith s room table number place
-      → told ≡ check.Refused (record { number = number; place = place })
+      → told ≡ Err (record { number = number; place = place })
   unfolding parts first_refusal
   given_told number place (by_card g) =
       by_parts ∙ ap (λ (c : Check). parts c small short)
@@ -73,19 +72,19 @@ module _ (s room : List ℕ) (table : List Float) where
             (count_on s * count_on s) h,
       )
 
-  fine_by : (c : Check) (a b : Bool) → check_of s ≡ c → small ≡ a → short ≡ b → parts c a b ≡ check.Fine
+  fine_by : (c : Check) (a b : Bool) → check_of s ≡ c → small ≡ a → short ≡ b → parts c a b ≡ Ok tt
       → Nothing s room table
   unfolding parts first_refusal
-  fine_by (check.Refused q) a b ec ea eb h = let z : ◌≡◌ {A = ℕ} 0 1 = cc in absurd (omega arith)
-  fine_by check.Fine true b ec ea eb h = let z : ◌≡◌ {A = ℕ} 0 1 = cc in absurd (omega arith)
-  fine_by check.Fine false true ec ea eb h = let z : ◌≡◌ {A = ℕ} 0 1 = cc in absurd (omega arith)
-  fine_by check.Fine false false ec ea eb h = record {
+  fine_by (Err q) a b ec ea eb h = let z : ◌≡◌ {A = ℕ} 0 1 = cc in absurd (omega arith)
+  fine_by (Ok _) true b ec ea eb h = let z : ◌≡◌ {A = ℕ} 0 1 = cc in absurd (omega arith)
+  fine_by (Ok _) false true ec ea eb h = let z : ◌≡◌ {A = ℕ} 0 1 = cc in absurd (omega arith)
+  fine_by (Ok _) false false ec ea eb h = record {
     sound = (exactly s).fine_only ec;
     room_enough = ltb-false (length room) (contours_of s) ea;
     table_enough = ltb-false (length table) (count_on s * count_on s) eb;
   }
 
-  nothing_told : Nothing s room table → told ≡ check.Fine
+  nothing_told : Nothing s room table → told ≡ Ok tt
   unfolding parts first_refusal
   nothing_told w =
       by_parts ∙ rw (
@@ -104,30 +103,30 @@ module _ (s room : List ℕ) (table : List Float) where
   unfolding tour_within
   is_whole = refl
 
-  answer_refused : (c : Check) (r : Refusal) → (whole c).answer ≡ answer.Refused r → c ≡ check.Refused r
-  answer_refused check.Fine r h = let z : ◌≡◌ {A = ℕ} 0 1 = cc in absurd (omega arith)
-  answer_refused (check.Refused q) r h = let e : q ≡ r = cc in ap check.Refused e
+  answer_refused : (c : Check) (r : Refusal) → (whole c).answer ≡ Err r → c ≡ Err r
+  answer_refused (Ok _) r h = let z : ◌≡◌ {A = ℕ} 0 1 = cc in absurd (omega arith)
+  answer_refused (Err q) r h = let e : q ≡ r = cc in ap Err e
 
-  answer_done : (o : Outcome) (c : Check) → (whole c).answer ≡ answer.Done o → c ≡ check.Fine
-  answer_done o check.Fine h = refl
-  answer_done o (check.Refused q) h = let z : ◌≡◌ {A = ℕ} 0 1 = cc in absurd (omega arith)
+  answer_done : (o : Outcome) (c : Check) → (whole c).answer ≡ Ok o → c ≡ Ok tt
+  answer_done o (Ok _) h = refl
+  answer_done o (Err q) h = let z : ◌≡◌ {A = ℕ} 0 1 = cc in absurd (omega arith)
 
-  refused-told : (r : Refusal) → (tour_of s room table).answer ≡ answer.Refused r → told ≡ check.Refused r
+  refused-told : (r : Refusal) → (tour_of s room table).answer ≡ Err r → told ≡ Err r
   refused-told r h = answer_refused told r (ap (λ (l : Left). l.answer) (sym is_whole) ∙ h)
 
-  kept : (r : Refusal) → (tour_of s room table).answer ≡ answer.Refused r → tour_of s room table ≡ whole (check.Refused r)
+  kept : (r : Refusal) → (tour_of s room table).answer ≡ Err r → tour_of s room table ≡ whole (Err r)
   kept r h = is_whole ∙ ap whole (refused-told r h)
 
   -- where the answer is a tour, nothing was refused
-  pub toured-if : (o : Outcome) → (tour_of s room table).answer ≡ answer.Done o → told ≡ check.Fine
+  pub toured-if : (o : Outcome) → (tour_of s room table).answer ≡ Ok o → told ≡ Ok tt
   toured-if o h = answer_done o told (ap (λ (l : Left). l.answer) (sym is_whole) ∙ h)
 
   -- and where nothing is refused, the rooms hold what they should
-  pub done_fine : told ≡ check.Fine → tour_of s room table ≡ toured s room table
+  pub done_fine : told ≡ Ok tt → tour_of s room table ≡ toured s room table
   done_fine h = is_whole ∙ ap whole h
 
   -- where the check is fine, no number is given
-  pub fine_nothing : told ≡ check.Fine → Nothing s room table
+  pub fine_nothing : told ≡ Ok tt → Nothing s room table
   fine_nothing h = fine_by (check_of s) small short refl refl refl (sym by_parts ∙ h)
 
   pub asked : Asked s room table

@@ -1,4 +1,5 @@
 -- Demand 2 holds. Assumes nothing.
+use Rattle.std.specs.Prelude.{Ok}
 use mathlib.Core.Path.{◌≡◌, refl, sym, ap, ◌∙◌, subst}
 use mathlib.Core.Logic.{◌⊎◌, inl, inr}
 use mathlib.Core.Bool.{Bool, true, false, cond, and-false}
@@ -14,7 +15,6 @@ use lib.Seq.{take_at, get_or-append-add}
 use Rattle.root.proofs.IeeeLaws.{claim as ieee}
 use Rattle.points.specs.Distance.{squares, distance_sq_of, distance_of}
 use Rattle.answer.specs.declared.Point.{Point}
-use Rattle.answer.specs.declared.Check.TheVariants.{Fine}
 use Rattle.candidates.specs.declared.Candidate.{Candidate}
 use Rattle.candidates.specs.Generate.{candidates_of}
 use Rattle.candidates.proofs.Moved.{claim as candidates-moved}
@@ -51,7 +51,6 @@ use Rattle.instance.proofs.FineLaws.{outline_whole}
 use Rattle.instance.proofs.GatherLaws.{owners-length, firsts-length}
 use Rattle.instance.proofs.OwnerLaws.{first-at, gathered_grows, owner_at}
 use Rattle.solve.specs.declared.Outcome.{Outcome}
-use Rattle.tour.specs.declared.Toured.TheVariants.{Done}
 use Rattle.instance.specs.Search.{home_on, candidates_on, count_on, owners_on, chart_on}
 use Rattle.tour.specs.Search.{start_on, end_within, tour_on, outcome_on}
 use Rattle.tour.specs.Tour.{Left, tour_of}
@@ -91,7 +90,7 @@ gathered_own s (suc n) k j h l = go (same_or k n) (λ g. gathered_own s n k j g 
         get_or-append (gathered s n) (offers_of s n) absent (length (gathered s k) + j) (omega arith)
         ∙ earlier (omega arith)
 
-module _ (s : List ℕ) (fine : check_of s ≡ Fine) where
+module _ (s : List ℕ) (fine : check_of s ≡ Ok tt) where
   own_is : (k : ℕ) → k < contours_of s → offers_of s k ≡ own_on s k
   unfolding offers_of
   own_is k h =
@@ -143,7 +142,7 @@ apart s a b ha hb = record {
 
 -- ---- pairs
 
-pairs : (s : List ℕ) → check_of s ≡ Fine → Paired s
+pairs : (s : List ℕ) → check_of s ≡ Ok tt → Paired s
 unfolding chart_on
 pairs s fine = record { read = refl; all = (_, joined s fine); equal_ids = (accepted s fine).ids_differ }
 
@@ -169,7 +168,7 @@ measured s = record {
   one-leg = walk_more _ _ _;
 }
 
-terms : (s : List ℕ) → check_of s ≡ Fine → Terms s
+terms : (s : List ℕ) → check_of s ≡ Ok tt → Terms s
 unfolding chart_on shorter
 terms s fine =
     let sound = (exactly s).fine_only fine in
@@ -286,7 +285,7 @@ not-worthwhile : (most n : ℕ) → (most ≡ 0) ⊎ (n < 3) → worthwhile most
 not-worthwhile most n (inl e) = rw e
 not-worthwhile most n (inr h) = rw (lt-leb 3 n h) (and-false (ltb 0 most))
 
-module _ (s : List ℕ) (fine : check_of s ≡ Fine) where
+module _ (s : List ℕ) (fine : check_of s ≡ Ok tt) where
   whole : (most : ℕ) → 3 ≤ contours_of s → trials_of (chart_on s) most (start_on s) ≡ passes_on s most (begun_on s)
   unfolding trials_of passes_trials
   whole zero h = refl
@@ -315,7 +314,7 @@ module _ (s : List ℕ) (fine : check_of s ≡ Fine) where
     few = few;
   }
 
-order : (s : List ℕ) → check_of s ≡ Fine → Order s
+order : (s : List ℕ) → check_of s ≡ Ok tt → Order s
 order s fine = record { making = making s; turns = turns s; rows = rows s; passes = passes s fine }
 
 -- ---- what a turn keeps, and the length to beat
@@ -355,7 +354,7 @@ stays : (s : List ℕ) (M : ℕ) → worthwhile (passes_of s) (length (start_on 
 unfolding searched_within
 stays s M e = rw e
 
-limit : (s : List ℕ) → check_of s ≡ Fine → Cut s
+limit : (s : List ℕ) → check_of s ≡ Ok tt → Cut s
 limit s fine =
     let makes = search-makes (chart_on s) (passes_of s) (start_on s) in
     let all = makes.all_counted in
@@ -386,7 +385,7 @@ claim s room table told h =
     let all = done_fine s room table clear in
     let long = tour_long s fine in
     let e : outcome_on s ≡ told =
-    (let d : Done (outcome_on s) ≡ Done told = sym (ap (λ (l : Left). l.answer) all) ∙ h in cc) in
+    (let d : Ok (outcome_on s) ≡ Ok told = sym (ap (λ (l : Left). l.answer) all) ∙ h in cc) in
     let front : take (contours_of s) (tour_of s room table).room ≡ tour_on s =
     ap (λ (l : Left). take (contours_of s) l.room) all
     ∙ take_at (tour_on s) (drop (length (tour_on s)) room) (contours_of s) long in

@@ -1,4 +1,5 @@
 -- Demand 3 holds. Assumes nothing.
+use Rattle.std.specs.Prelude.{Ok}
 use mathlib.Core.Path.{◌≡◌, refl, sym, ap, ◌∙◌, subst}
 use mathlib.Core.Bool.{Bool, true, false, cond}
 use mathlib.Core.List.{List}
@@ -10,7 +11,6 @@ use lib.Dec.{T, leb, lit≤}
 use lib.Ieee.{le}
 use lib.ListN.{length, get_or, take, drop}
 use lib.Seq.{take_at}
-use Rattle.answer.specs.declared.Check.TheVariants.{Fine}
 use Rattle.closure.specs.Limits.{contour_limit}
 use Rattle.fields.specs.Layout.{contours_of, passes_of, move_limit_of}
 use Rattle.card.specs.Verdict.{check_of}
@@ -23,7 +23,6 @@ use Rattle.exact.proofs.SumLaws.{enough_fewer, forty, eighty}
 use Rattle.improve.specs.Search.{contours, length_in}
 use Rattle.improve.proofs.LengthLaws.{never_longer}
 use Rattle.solve.specs.declared.Outcome.{Outcome}
-use Rattle.tour.specs.declared.Toured.TheVariants.{Done}
 use Rattle.instance.specs.Search.{count_on, owners_on, chart_on}
 use Rattle.instance.proofs.OwnerLaws.{first-at, owner_at, seat_of}
 use Rattle.tour.specs.Search.{start_on, end_within, tour_on, outcome_on}
@@ -102,7 +101,7 @@ entry s tour v p h =
     subst (λ (k : ℕ). OneOf s k (get_or tour p 0)) (sym (contour_at (owners_on s) tour p inside))
     (own s (get_or tour p 0) (below_at (count_on s) tour p v.among inside))
 
-module _ (s : List ℕ) (fine : check_of s ≡ Fine) (grid : OnGrid s) where
+module _ (s : List ℕ) (fine : check_of s ≡ Ok tt) (grid : OnGrid s) where
   abbrev bound : (a : ℕ) × Enough (contours_of s) a (nearness (contours_of s))
   bound = enough (contours_of s) (accepted s fine).few_contours
 
@@ -145,7 +144,7 @@ holds s room table told grid h =
     let fine = (exactly s).fine_if (fine_nothing s room table clear).sound in
     let all = done_fine s room table clear in
     let e : outcome_on s ≡ told =
-    (let d : Done (outcome_on s) ≡ Done told = sym (ap (λ (l : Left). l.answer) all) ∙ h in cc) in
+    (let d : Ok (outcome_on s) ≡ Ok told = sym (ap (λ (l : Left). l.answer) all) ∙ h in cc) in
     let front : take (contours_of s) (tour_of s room table).room ≡ tour_on s =
     ap (λ (l : Left). take (contours_of s) l.room) all
     ∙ take_at (tour_on s) (drop (length (tour_on s)) room) (contours_of s) (tour_long s fine) in

@@ -1,5 +1,6 @@
 -- Each step of a fine card's start takes the first of the nearest candidates that are ready, and the steps make up the
 -- start. Assumes nothing.
+use Rattle.std.specs.Prelude.{Ok}
 use mathlib.Core.Bool.{Bool, true, false, not, cond, true≢false, or-true, ◌&&◌, ◌||◌}
 use mathlib.Core.List.{List, [], ◌∷◌, ◌++◌}
 use mathlib.Core.Logic.{◌⊎◌, inl, inr}
@@ -12,7 +13,6 @@ use lib.Dec.{eqb, lit≤}
 use lib.Ieee.{Float, nan, inf, fin, of_bits, of_fields, odd}
 use lib.ListN.{length, get_or, length-append}
 use Rattle.answer.specs.declared.Point.{Point}
-use Rattle.answer.specs.declared.Check.TheVariants.{Fine}
 use Rattle.points.specs.Distance.{distance_of}
 use Rattle.points.proofs.SizeLaws.{Plus, Near, distance_plus}
 use Rattle.candidates.proofs.SizeLaws.{outmost}
@@ -139,7 +139,7 @@ module _ (s : List ℕ) (w : Way) where
         clear i j p true e = from_visited i (free.cleared i (subst (Precedes s i) (eqb-true j k e) p))
         clear i j p false e = refl
 
-  looks : check_of s ≡ Fine → Looks s w
+  looks : check_of s ≡ Ok tt → Looks s w
   unfolding chart_on reach_of reach_by
   looks fine = let past : Past10 s = ((exactly s).fine_only fine).0.0 in record {
     from_home = λ a e. ap (reach_by a) e;
@@ -175,7 +175,7 @@ step_grows g n i w =
     go true k a = let e = length-append w.tour (a ∷ []) in omega arith
     go false k a = omega arith
 
-module _ (s : List ℕ) (fine : check_of s ≡ Fine) where
+module _ (s : List ℕ) (fine : check_of s ≡ Ok tt) where
   abbrev g : Ground
   g = ground_on s
 

@@ -1,4 +1,5 @@
 -- The starred table holds: each row is computed. Assumes nothing.
+use Rattle.std.specs.Prelude.{Err, Ok}
 use mathlib.Core.Path.{◌≡◌, refl, sym, ap, ◌∙◌}
 use mathlib.Core.Bool.{false}
 use mathlib.Core.List.{List, []}
@@ -8,8 +9,7 @@ use lib.Ieee.{Float, of_bits, of_fields, odd, size, span, climb, round, units}
 use lib.Count.{count_trailing_zeros}
 use lib.ListN.{length, get_or}
 use Rattle.answer.specs.declared.Refusal.{Refusal}
-use Rattle.answer.specs.declared.Check.{Check}
-use Rattle.answer.specs.declared.Check.TheVariants as check
+use Rattle.answer.specs.Answer.{Check}
 use Rattle.answer.specs.declared.CutDirection.{CutDirection}
 use Rattle.answer.specs.Stage.{first_refusal}
 use Rattle.answer.specs.Lowest.{lowest, lowest_from}
@@ -60,7 +60,7 @@ of_roots = record {
 }
 
 -- nothing is wrong with the square, two or four candidates wanted
-square_fine : (one_contour square 2 ≡ check.Fine) × (one_contour square 4 ≡ check.Fine)
+square_fine : (one_contour square 2 ≡ Ok tt) × (one_contour square 4 ≡ Ok tt)
 unfolding one_contour contour_check first_refusal first_bad lowest lowest_from bad_at bad_point bad_number points
     of_bits of_fields odd size span climb round units count_trailing_zeros
 square_fine = (refl, refl)
@@ -76,16 +76,19 @@ unfolding offered_of filled
 of_square = record {
   two_candidates = λ kind exterior interior. rw (square_fine.0, two_of_square _);
   second_of_four = λ kind exterior interior.
-      let way = direction_of kind exterior interior in
-      rw square_fine.1
-      (refl, (four_of_square way).0, (four_of_square way).1 ∙ second_of_four way);
+      let way = direction_of kind exterior interior in (
+        filled (candidates_of false way (points square) 4),
+        rw square_fine.1,
+        (four_of_square way).0,
+        (four_of_square way).1 ∙ second_of_four way,
+      );
   closest = closest_of_square;
 }
 
 -- ---- cards
 
 -- where a card is fine and the rooms are large enough, they hold what the tour's definition says
-in_rooms : (s room : List ℕ) (table : List Float) → check_of s ≡ check.Fine → contours_of s ≤ length room
+in_rooms : (s room : List ℕ) (table : List Float) → check_of s ≡ Ok tt → contours_of s ≤ length room
     → count_on s * count_on s ≤ length table → tour_of s room table ≡ toured s room table
 in_rooms s room table fine seats entries =
     sym (tour_fine s room table (check_of s) refl (toured s room table) fine
@@ -93,7 +96,7 @@ in_rooms s room table fine seats entries =
     (rooms_fine s (length room) (length table) (contours_of s) (count_on s) refl refl seats entries)))
 
 -- what goes back goes back from every door
-back : (c : Card) (r : Refusal) (list : String) → check_of (written c) ≡ check.Refused r
+back : (c : Card) (r : Refusal) (list : String) → check_of (written c) ≡ Err r
     → refused_line r ≡ bytes list → GoesBack c r list
 back c r list e line =
     let on = passed_on (written c) r e in

@@ -5,14 +5,12 @@
 -- `card::check` promises and tour_of what `tour::tour` does (contracts/specs); the rows of the table are in
 -- card_laws/specs/Table, the orders in card_laws/specs/Orders, the other doors in Doors. It shuts out a program that
 -- sends every card back: a refusal is given only where the table says so (Checked.fine, Asked.done). Assumes nothing.
-use Rattle.std.specs.Prelude.{◌≡◌, ◌↔◌, List, ℕ, ◌*◌, ◌≤◌, ◌<◌, Float, length}
+use Rattle.std.specs.Prelude.{◌≡◌, ◌↔◌, List, ℕ, ◌*◌, ◌≤◌, ◌<◌, Float, length, Err, Ok}
 use Rattle.answer.specs.declared.Refusal.{Refusal}
-use Rattle.answer.specs.declared.Check.TheVariants as check
 use Rattle.fields.specs.Layout.{contours_of}
 use Rattle.card_laws.specs.Table.{Given, Sound, Past11}
 use Rattle.card_laws.specs.Orders.{LegalOrder, RefusedWith}
 use Rattle.card.specs.Verdict.{check_of}
-use Rattle.tour.specs.declared.Toured.TheVariants as answer
 use Rattle.instance.specs.Search.{count_on}
 use Rattle.tour.specs.Search.{outcome_on}
 use Rattle.tour.specs.Tour.{tour_of}
@@ -42,17 +40,17 @@ pub record Nothing (s room : List ℕ) (table : List Float) : Type 0 where
 
 -- whoever asks only whether the card is fine
 pub record Checked (s : List ℕ) : Type 0 where
-  pub refused : (r : Refusal) → (check_of s ≡ check.Refused r) ↔ Given s r.number r.place
-  pub fine : (check_of s ≡ check.Fine) ↔ Sound s
+  pub refused : (r : Refusal) → (check_of s ≡ Err r) ↔ Given s r.number r.place
+  pub fine : (check_of s ≡ Ok tt) ↔ Sound s
   pub impossible : Past11 s → RefusedWith 12 s ↔ (((order : List ℕ) × LegalOrder s order) → ⊥)
 
 -- whoever asks for the tour
 pub record Asked (s room : List ℕ) (table : List Float) : Type 0 where
   pub refused : (r : Refusal)
-      → ((tour_of s room table).answer ≡ answer.Refused r) ↔ GivenWith s room table r.number r.place
-  pub done : ((tour_of s room table).answer ≡ answer.Done (outcome_on s)) ↔ Nothing s room table
-  pub room_kept : (r : Refusal) → (tour_of s room table).answer ≡ answer.Refused r → (tour_of s room table).room ≡ room
-  pub table_kept : (r : Refusal) → (tour_of s room table).answer ≡ answer.Refused r → (tour_of s room table).table ≡ table
+      → ((tour_of s room table).answer ≡ Err r) ↔ GivenWith s room table r.number r.place
+  pub done : ((tour_of s room table).answer ≡ Ok (outcome_on s)) ↔ Nothing s room table
+  pub room_kept : (r : Refusal) → (tour_of s room table).answer ≡ Err r → (tour_of s room table).room ≡ room
+  pub table_kept : (r : Refusal) → (tour_of s room table).answer ≡ Err r → (tour_of s room table).table ≡ table
 
 -- and at every other door, the card's own refusals are passed on and no door adds to them
 abbrev pub Claim : Type 0

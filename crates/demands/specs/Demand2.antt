@@ -8,7 +8,7 @@
 -- tour_of and nothing else is said in contracts/specs/Doors; what the candidates of one contour are, in
 -- candidates/specs/Generate, two cases of it in Starred; when they are moved to the grid, which, and how, in OnTheGrid.
 -- Assumes nothing.
-use Rattle.std.specs.Prelude.{◌≡◌, Bool, true, false, ◌⊎◌, ◌↔◌, List, [], ◌∷◌, map, ◌++◌, reverse, ℕ, suc, ◌+◌, ◌*◌, ◌-◌, ◌≤◌, ◌<◌, min, T, Float, length, get_or, set, take, drop}
+use Rattle.std.specs.Prelude.{◌≡◌, Bool, true, false, ◌⊎◌, ◌↔◌, List, [], ◌∷◌, map, ◌++◌, reverse, ℕ, suc, ◌+◌, ◌*◌, ◌-◌, ◌≤◌, ◌<◌, min, T, Float, length, get_or, set, take, drop, Ok}
 use Rattle.std.specs.Float.{nan, binary64}
 use Rattle.std.specs.Float.Ieee.{of_bits, lt, le, add, sub, mul}
 use Rattle.answer.specs.declared.Point.{Point}
@@ -40,7 +40,6 @@ use Rattle.improve.specs.Trials.{passes_trials, trials_of, Proper, Level}
 use Rattle.improve.specs.Kept.{accepted_of}
 use Rattle.solve.specs.declared.Outcome.{Outcome}
 use Rattle.solve.specs.Solve.{ground_in}
-use Rattle.tour.specs.declared.Toured.TheVariants.{Done}
 use Rattle.instance.specs.Search.{home_on, candidates_on, count_on, owners_on, firsts_on, homes_on, table_on, chart_on}
 use Rattle.tour.specs.Search.{start_on}
 use Rattle.tour.specs.Tour.{tour_of}
@@ -412,5 +411,5 @@ pub record Follows (s room : List ℕ) (table : List Float) (told : Outcome) : T
 
 -- of any bytes with any rooms, if the answer is a tour
 abbrev pub Claim : Type 0
-Claim = (s room : List ℕ) (table : List Float) (told : Outcome) → (tour_of s room table).answer ≡ Done told
+Claim = (s room : List ℕ) (table : List Float) (told : Outcome) → (tour_of s room table).answer ≡ Ok told
     → Follows s room table told

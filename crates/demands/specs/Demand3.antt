@@ -4,7 +4,7 @@
 -- one; and the tour is at most 2^-27 mm longer than the start, exactly. Above 40 contours the two bounds are 2^-26 and
 -- 2^-25 mm. tour_of is what `tour::tour` promises, so it speaks of demand 2's tour, and no fixed legal order will do.
 -- Assumes nothing.
-use Rattle.std.specs.Prelude.{◌≡◌, cond, List, [], ◌∷◌, map, ℕ, suc, ◌+◌, ◌*◌, ◌^◌, ◌≤◌, ◌<◌, T, leb, Float, length, get_or, take}
+use Rattle.std.specs.Prelude.{◌≡◌, cond, List, [], ◌∷◌, map, ℕ, suc, ◌+◌, ◌*◌, ◌^◌, ◌≤◌, ◌<◌, T, leb, Float, length, get_or, take, Ok}
 use Rattle.answer.specs.declared.Point.{Point}
 use Rattle.table.specs.Distances.{absent, pierced}
 use Rattle.exact.specs.Grid.{grid_point, squared_length}
@@ -17,7 +17,6 @@ use Rattle.fields.specs.Layout.{payload, grid_offset, version_of, contours_of, h
 use Rattle.fields.specs.Values.{point_at}
 use Rattle.card.specs.Limits.{before}
 use Rattle.card_laws.specs.Orders.{LegalOrder}
-use Rattle.tour.specs.declared.Toured.TheVariants.{Done}
 use Rattle.instance.specs.Search.{home_on, candidates_on, count_on, owners_on, firsts_on}
 use Rattle.tour.specs.Search.{start_on}
 use Rattle.tour.specs.Tour.{tour_of}
@@ -87,7 +86,7 @@ pub record Good (s tour : List ℕ) (told : Outcome) : Type 0 where
 abbrev pub GoodWhere : (List ℕ → Type 0) → Type 0
 GoodWhere Kind =
     (s room : List ℕ) (table : List Float) (told : Outcome) → Kind s
-    → (tour_of s room table).answer ≡ Done told → Good s (take (contours_of s) (tour_of s room table).room) told
+    → (tour_of s room table).answer ≡ Ok told → Good s (take (contours_of s) (tour_of s room table).room) told
 
 -- the card asks for the grid, by byte 34 of a version 2 head, and its home and all vertices of its contours are whole
 -- numbers of 1/1024 mm, none above 8192 mm in size; nothing is said of how many candidates it asks for

@@ -3,17 +3,14 @@
 -- closest_on_polygon_of what `cost::closest_point_on_polygon`, check_of `card::check`, tour_of `tour::tour` and list_of
 -- `list::write_list`. A card is its bytes, `written` from what it says; floats are given by their bits. Assumes
 -- nothing.
-use Rattle.std.specs.Prelude.{◌≡◌, false, List, [], ◌∷◌, ◌++◌, ℕ, ◌*◌, ◌≤◌, Float, length, get_or, drop}
+use Rattle.std.specs.Prelude.{◌≡◌, false, List, [], ◌∷◌, ◌++◌, ℕ, ◌*◌, ◌≤◌, Float, length, get_or, drop, Err, Ok, Some}
 use Prim.Native.String.{String}
 use Rattle.std.specs.Float.{binary64}
 use Rattle.std.specs.Float.Ieee.{of_bits}
 use Rattle.answer.specs.declared.ContourType.{ContourType}
 use Rattle.answer.specs.declared.CutDirectionPreference.{CutDirectionPreference}
 use Rattle.answer.specs.declared.Refusal.{Refusal}
-use Rattle.answer.specs.declared.Check.TheVariants as check
-use Rattle.root.specs.declared.Rooted.TheVariants as rooted
 use Rattle.root.specs.Root.{sqrt_of, root_of}
-use Rattle.cost.specs.declared.Closest.TheVariants.{At}
 use Rattle.points.specs.Numbers.{zero64}
 use Rattle.points.specs.Points.{point}
 use Rattle.points.specs.Square.{four64, square}
@@ -21,14 +18,13 @@ use Rattle.cost.specs.Closest.{closest_on_polygon_of}
 use Rattle.candidates.specs.declared.Candidate.{Candidate}
 use Rattle.candidates.specs.Direction.{direction_of}
 use Rattle.candidates.specs.Along.{spot}
-use Rattle.candidates.specs.Generate.{candidate_at, blank, filled}
+use Rattle.candidates.specs.Generate.{candidate_at, blank, Candidates, filled}
 use Rattle.candidates.specs.Question.{offered_of}
 use Rattle.card.specs.Verdict.{check_of}
 use Rattle.card_laws.specs.Card.{Card}
 use Rattle.card_laws.specs.Write.{written}
 use Rattle.card_laws.specs.Examples.{as_job41, job41, self_pair, waiting}
 use Rattle.instance.specs.Search.{table_on}
-use Rattle.tour.specs.declared.Toured.TheVariants as answer
 use Rattle.tour.specs.Tour.{left, tour_of}
 use Rattle.text.specs.Text.{bytes}
 use Rattle.list.specs.Lines.{list_of}
@@ -37,7 +33,7 @@ use Rattle.list.specs.Lines.{list_of}
 
 -- the root of one pattern of bits is another: as it is asked for, and as the distances take it
 pub record HasRoot (x r : ℕ) : Type 0 where
-  pub asked : root_of (of_bits binary64 x) ≡ rooted.Is (of_bits binary64 r)
+  pub asked : root_of (of_bits binary64 x) ≡ Ok (of_bits binary64 r)
   pub within : sqrt_of (of_bits binary64 x) ≡ of_bits binary64 r
 
 pub record OfRoots : Type 0 where
@@ -63,34 +59,30 @@ pierced_at x y vertex kind exterior interior = candidate_at (direction_of kind e
 pub record OfSquare : Type 0 where
   pub two_candidates : (kind : ContourType) (exterior interior : CutDirectionPreference)
       → offered_of square 2 false kind exterior interior
-      ≡ record {
-        check = check.Fine;
-        found = filled (pierced_at zero64 zero64 0 kind exterior interior
-            ∷ pierced_at four64 four64 1 kind exterior interior ∷ []);
-      }
+      ≡ Ok (filled (pierced_at zero64 zero64 0 kind exterior interior
+      ∷ pierced_at four64 four64 1 kind exterior interior ∷ []))
   pub second_of_four : (kind : ContourType) (exterior interior : CutDirectionPreference)
-      → let answer = offered_of square 4 false kind exterior interior in
-      (answer.check ≡ check.Fine) × (answer.found.count ≡ 4)
-      × (get_or answer.found.items 1 blank ≡ pierced_at four64 zero64 0 kind exterior interior)
+      → (found : Candidates) × (offered_of square 4 false kind exterior interior ≡ Ok found) × (found.count ≡ 4)
+      × (get_or found.items 1 blank ≡ pierced_at four64 zero64 0 kind exterior interior)
   pub closest : closest_on_polygon_of square (point two64 two64)
-      ≡ At (record { point = point two64 zero64; vertex = 0; t = half64 })
+      ≡ Ok (Some (record { point = point two64 zero64; vertex = 0; t = half64 }))
 
 -- ---- cards
 
 -- a card goes through, in every room for n contours and table for t candidates: whoever asks for its tour is told so
 -- many trials and a length of these bits, and finds the tour at the front of the room. The list reads so
 pub record GoesThrough (c : Card) (n t : ℕ) (tour : List ℕ) (moves bits : ℕ) (list : String) : Type 0 where
-  pub checked : check_of (written c) ≡ check.Fine
+  pub checked : check_of (written c) ≡ Ok tt
   pub toured : (room : List ℕ) (table : List Float) → n ≤ length room → t * t ≤ length table
       → tour_of (written c) room table
-      ≡ left (answer.Done (record { moves = moves; length = of_bits binary64 bits })) (tour ++ drop n room)
+      ≡ left (Ok (record { moves = moves; length = of_bits binary64 bits })) (tour ++ drop n room)
       (table_on (written c) ++ drop (t * t) table)
   pub printed : list_of (written c) ≡ bytes list
 
 -- a card goes back with this number and place, whatever is lent, and that stays as it was
 pub record GoesBack (c : Card) (r : Refusal) (list : String) : Type 0 where
-  pub checked : check_of (written c) ≡ check.Refused r
-  pub toured : (room : List ℕ) (table : List Float) → tour_of (written c) room table ≡ left (answer.Refused r) room table
+  pub checked : check_of (written c) ≡ Err r
+  pub toured : (room : List ℕ) (table : List Float) → tour_of (written c) room table ≡ left (Err r) room table
   pub printed : list_of (written c) ≡ bytes list
 
 -- no contours and no pairs: an empty tour, no trial, length 0

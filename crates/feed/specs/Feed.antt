@@ -1,19 +1,14 @@
 -- A card that arrives in pieces: what is kept of each, and what is said at the end. A piece is what the paper calls a
 -- part; the parts of a card are what is cut. Assumes nothing.
-use Rattle.std.specs.Prelude.{true, false, ◌&&◌, ◌||◌, List, [], ◌∷◌, ◌++◌, ℕ, ◌+◌, ◌-◌, min, ltb, Float, length, take, drop}
+use Rattle.std.specs.Prelude.{true, false, ◌&&◌, ◌||◌, List, [], ◌∷◌, ◌++◌, ℕ, ◌+◌, ◌-◌, min, ltb, Float, length, take, drop, Err, Ok}
 use Rattle.answer.specs.declared.Refusal.{Refusal}
-use Rattle.answer.specs.declared.Check.{Check}
-use Rattle.answer.specs.declared.Check.TheVariants.{Fine, Refused}
-use Rattle.answer.specs.declared.Count.{Count}
-use Rattle.answer.specs.declared.Count.TheVariants as count
+use Rattle.solve.specs.declared.Outcome.{Outcome}
+use Rattle.answer.specs.Answer.{Answer, Check, Count}
 use Rattle.answer.specs.Stage.{first_refusal}
 use Rattle.answer.specs.Lowest.{refuse_if}
 use Rattle.fields.specs.Limits.{card_bytes}
-use Rattle.tour.specs.declared.Toured.TheVariants as answer
 use Rattle.tour.specs.Tour.{Left, left, toured_unless, tour_of}
 use Rattle.feed.specs.declared.Feed.{Feed}
-use Rattle.feed.specs.declared.Fed.{Fed}
-use Rattle.feed.specs.declared.Asked.{Asked}
 
 -- before the first piece
 abbrev pub begun : Feed
@@ -44,27 +39,27 @@ filled kept held piece =
     let n = taken_of kept (length piece) in
     take kept held ++ take n piece ++ drop (kept + n) held
 
--- what a piece leaves behind: what was answered, with the state, and the byte room
+-- what a piece leaves behind: the state, what was answered, and the byte room
 pub record Stored : Type 0 where
   pub feed : Feed
   pub answer : Count
   pub held : List ℕ
 
-abbrev pub stored : Fed → List ℕ → Stored
-stored r held = record { feed = r.feed; answer = r.answer; held = held }
+abbrev pub stored : Feed → Count → List ℕ → Stored
+stored f answer held = record { feed = f; answer = answer; held = held }
 
 -- refused: nothing changes
 abbrev pub unchanged : Feed → Refusal → List ℕ → Stored
-unchanged f r held = record { feed = f; answer = count.Refused r; held = held }
+unchanged f r held = record { feed = f; answer = Err r; held = held }
 
 -- taken: only how many bytes are held is said
 abbrev pub stored_unless : Check → Feed → List ℕ → List ℕ → Stored
-stored_unless Fine f held piece = record {
+stored_unless (Ok _) f held piece = record {
   feed = fed f (length piece);
-  answer = count.Is (fed f (length piece)).kept;
+  answer = Ok (fed f (length piece)).kept;
   held = filled f.kept held piece;
 }
-stored_unless (Refused r) f held piece = unchanged f r held
+stored_unless (Err r) f held piece = unchanged f r held
 
 -- a piece, whatever the state and the byte room
 unfoldable pub add_of : Feed → List ℕ → List ℕ → Stored
@@ -82,8 +77,8 @@ pub record Reply : Type 0 where
   pub feed : Feed
   pub left : Left
 
-abbrev pub reply : Asked → List ℕ → List Float → Reply
-reply r room table = record { feed = r.feed; left = left r.answer room table }
+abbrev pub reply : Feed → Answer Outcome → List ℕ → List Float → Reply
+reply f answer room table = record { feed = f; left = left answer room table }
 
 -- from now on it is the end
 abbrev pub ended : Feed → Feed
@@ -96,12 +91,12 @@ end_of f held room table =
 
 -- refused for the byte room: nothing changes
 abbrev pub unasked : Feed → Refusal → List ℕ → List Float → Reply
-unasked f r room table = record { feed = f; left = left (answer.Refused r) room table }
+unasked f r room table = record { feed = f; left = left (Err r) room table }
 
 -- else it is the end
 abbrev pub reply_unless : Check → Feed → List ℕ → List ℕ → List Float → Reply
-reply_unless Fine f held room table = record { feed = ended f; left = end_of f held room table }
-reply_unless (Refused r) f held room table = unasked f r room table
+reply_unless (Ok _) f held room table = record { feed = ended f; left = end_of f held room table }
+reply_unless (Err r) f held room table = unasked f r room table
 
 -- the asking, whatever the state and the rooms
 unfoldable pub ask_of : Feed → List ℕ → List ℕ → List Float → Reply

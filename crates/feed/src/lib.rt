@@ -1,14 +1,14 @@
-// A card that arrives in pieces, in a byte room that the caller lends to each call; the first asking is the end. The state goes in
-// and comes back by value, and each call decides its answer whatever the state says.
+// A card that arrives in pieces, in a byte room that the caller lends to each call; the first asking is the end. Each call decides
+// its answer whatever the state says.
 #![tactic(auto)]
 
-ghost use Rattle.std.specs.Prelude.{◌≡◌, ◌≤◌, min, length};
+ghost use Rattle.std.specs.Prelude.{◌≡◌, ◌<◌, ◌≤◌, length};
 ghost use Rattle.fields.specs.Limits.{card_bytes};
 ghost use Rattle.feed.specs.Feed.{begun, taken_of, filled, stored, add_of, reply, ask_of};
 
-use answer::{Count, Refusal};
+use answer::{Fault, Refusal};
 use fields::CARD_BYTES;
-use tour::Toured;
+use solve::Outcome;
 
 // How far a card has come: the bytes kept, whether there were more than the longest card has, whether it was asked about.
 #[derive(Clone, Copy)]
@@ -18,58 +18,14 @@ pub struct Feed {
     pub ended: bool,
 }
 
-// What is said of a piece: the state behind it, and how many bytes are held or why it is refused.
-#[derive(Clone, Copy)]
-pub struct Fed {
-    pub feed: Feed,
-    pub answer: Count,
-}
-
-// What is said at the end: the state behind it, and the tour or why there is none.
-#[derive(Clone, Copy)]
-pub struct Asked {
-    pub feed: Feed,
-    pub answer: Toured,
-}
-
-// The smaller of two numbers.
-fn smaller(a: usize, b: usize) -> usize
-    ensures { result ≡ min a b }
-{
-    if a < b {
-        return a;
-    }
-    b
-}
-
-// How many bytes are kept of a piece of this size.
-fn taken(kept: usize, size: usize) -> usize
-    ensures { result ≡ taken_of kept size }
-{
-    if CARD_BYTES < kept {
-        return 0;
-    }
-    smaller(size, CARD_BYTES - kept)
-}
-
-// Before the first piece.
-pub fn begin() -> Feed
-    ensures { result ≡ begun }
-{
-    Feed {
-        kept: 0,
-        over: false,
-        ended: false,
-    }
-}
-
 // Writes the bytes of a piece that are kept behind those kept before, and answers how many they are.
 fn keep(kept: usize, held: &mut [u8], piece: &[u8]) -> usize
-    requires { card_bytes ≤ length held.old }
+    requires { 0 < length piece.now → card_bytes ≤ length held.old }
     ensures value { result ≡ taken_of kept (length piece.now) }
     ensures held_after { held.new ≡ filled kept held.old piece.now }
 {
-    let n = taken(kept, piece.len());
+    let n = piece.len().min(CARD_BYTES.saturating_sub(kept));
+    // A state may say more than a byte room has: where nothing is taken, there is no place to write at.
     if n == 0 {
         return 0;
     }
@@ -77,92 +33,54 @@ fn keep(kept: usize, held: &mut [u8], piece: &[u8]) -> usize
     n
 }
 
-// A piece that is refused with this number at this place: the state stays.
-fn sent_back(f: Feed, number: u32, place: usize) -> Fed
-    ensures { result ≡ record { feed = f; answer = Count.Refused (record { number = number; place = place }) } }
-{
-    Fed {
-        feed: f,
-        answer: Count::Refused(Refusal { number, place }),
-    }
-}
-
-// A piece of no bytes: it is said what is held.
-fn nothing_new(f: Feed) -> Fed
-    ensures { result ≡ record { feed = f; answer = Count.Is f.kept } }
-{
-    let kept = f.kept;
-    Fed {
-        feed: f,
-        answer: Count::Is(kept),
-    }
-}
-
-// A piece: its bytes are kept in the byte room behind those kept before, as many as the longest card takes.
-pub fn add(f: Feed, held: &mut [u8], piece: &[u8]) -> Fed
-    ensures { stored result held.new ≡ add_of f held.old piece.now }
-{
-    let size = piece.len();
-    if f.ended {
-        return sent_back(f, 17, 0);
-    }
-    if size == 0 {
-        return nothing_new(f);
-    }
-    if held.len() < CARD_BYTES {
-        return sent_back(f, 13, CARD_BYTES);
-    }
-    let n = keep(f.kept, held, piece);
-    let kept = f.kept + n;
-    Fed {
-        feed: Feed {
-            kept,
-            over: f.over | (n < size),
+impl Feed {
+    // Before the first piece.
+    pub fn begin() -> Feed
+        ensures { result ≡ begun }
+    {
+        Feed {
+            kept: 0,
+            over: false,
             ended: false,
-        },
-        answer: Count::Is(kept),
+        }
     }
-}
 
-// An asking in a byte room that is too small: the state stays, and it is not the end.
-fn unasked(f: Feed) -> Asked
-    ensures { result ≡ record { feed = f; answer = Toured.Refused (record { number = 13; place = card_bytes }) } }
-{
-    Asked {
-        feed: f,
-        answer: Toured::Refused(Refusal {
-            number: 13,
-            place: CARD_BYTES,
-        }),
+    // A piece: its bytes are kept in the byte room behind those kept before, as many as the longest card takes. A refusal changes
+    // nothing.
+    #[tactic(auto, unfolding(crate::specs::Feed::add_of, crate::specs::Feed::piece_check, answer::specs::Stage::first_refusal))]
+    pub fn add(&mut self, held: &mut [u8], piece: &[u8]) -> Result<usize, Refusal>
+        ensures { stored self.new result held.new ≡ add_of self.old held.old piece.now }
+    {
+        if self.ended {
+            return Err(Fault::Ended.at(0));
+        }
+        if !piece.is_empty() && held.len() < CARD_BYTES {
+            return Err(Fault::Room.at(CARD_BYTES));
+        }
+        let n = keep(self.kept, held, piece);
+        self.kept += n;
+        self.over |= n < piece.len();
+        Ok(self.kept)
     }
-}
 
-// The end: the tour of the bytes kept.
-pub fn ask(f: Feed, held: &[u8], room: &mut [u8], table: &mut [f64]) -> Asked
-    ensures { reply result room.new table.new ≡ ask_of f held.now room.old table.old }
-{
-    if held.len() < CARD_BYTES {
-        return unasked(f);
-    }
-    let kept = f.kept;
-    let over = f.over;
-    let feed = Feed {
-        kept,
-        over,
-        ended: true,
-    };
-    if over {
-        return Asked {
-            feed,
-            answer: Toured::Refused(Refusal {
-                number: 1,
-                place: CARD_BYTES + 1,
-            }),
-        };
-    }
-    let n = smaller(kept, held.len());
-    Asked {
-        feed,
-        answer: tour::tour(&held[..n], room, table),
+    // The end: the tour of the bytes kept. An asking in a byte room that is too small is not the end, and the state stays.
+    #[tactic(auto, unfolding(crate::specs::Feed::ask_of, crate::specs::Feed::ask_check))]
+    pub fn ask(
+        &mut self,
+        held: &[u8],
+        room: &mut [u8],
+        table: &mut [f64],
+    ) -> Result<Outcome, Refusal>
+        ensures { reply self.new result room.new table.new ≡ ask_of self.old held.now room.old table.old }
+    {
+        if held.len() < CARD_BYTES {
+            return Err(Fault::Room.at(CARD_BYTES));
+        }
+        self.ended = true;
+        if self.over {
+            return Err(Fault::Length.at(CARD_BYTES + 1));
+        }
+        let n = self.kept.min(held.len());
+        tour::tour(&held[..n], room, table)
     }
 }

@@ -1,4 +1,5 @@
 -- The tour asked for again, in the rooms that it was written to: the same answer, and the rooms stay. Assumes nothing.
+use Rattle.std.specs.Prelude.{Err, Ok}
 use mathlib.Core.Path.{◌≡◌, refl, ap, ◌∙◌}
 use mathlib.Core.Bool.{Bool, true, false}
 use mathlib.Core.List.{List, [], ◌∷◌, ◌++◌}
@@ -9,8 +10,7 @@ use lib.Dec.{ltb}
 use lib.Ieee.{Float}
 use lib.ListN.{length, drop, length-append, length-drop}
 use lib.Seq.{drop_at}
-use Rattle.answer.specs.declared.Check.{Check}
-use Rattle.answer.specs.declared.Check.TheVariants.{Fine, Refused}
+use Rattle.answer.specs.Answer.{Check}
 use Rattle.answer.specs.Stage.{first_refusal}
 use Rattle.answer.specs.Lowest.{refuse_if}
 use Rattle.answer.specs.Room.{placed}
@@ -37,14 +37,14 @@ module _ (s : List ℕ) where
       ∷ refuse_if b 13 (count_on s * count_on s) ∷ []) ∷ [])
 
   fine_grown : (c : Check) (a b a' b' : Bool) → (a ≡ false → a' ≡ false) → (b ≡ false → b' ≡ false)
-      → tests c a b ≡ Fine → tests c a' b' ≡ Fine
+      → tests c a b ≡ Ok tt → tests c a' b' ≡ Ok tt
   unfolding tests first_refusal
-  fine_grown (Refused r) a b a' b' f g e = e
-  fine_grown Fine true b a' b' f g e = let z : ◌≡◌ {A = ℕ} 0 1 = cc in absurd (omega arith)
-  fine_grown Fine false true a' b' f g e = let z : ◌≡◌ {A = ℕ} 0 1 = cc in absurd (omega arith)
-  fine_grown Fine false false a' b' f g e = rw (f refl, g refl)
+  fine_grown (Err r) a b a' b' f g e = e
+  fine_grown (Ok _) true b a' b' f g e = let z : ◌≡◌ {A = ℕ} 0 1 = cc in absurd (omega arith)
+  fine_grown (Ok _) false true a' b' f g e = let z : ◌≡◌ {A = ℕ} 0 1 = cc in absurd (omega arith)
+  fine_grown (Ok _) false false a' b' f g e = rw (f refl, g refl)
 
-  still_fine : (a a' b b' : ℕ) → a ≤ a' → b ≤ b' → tour_check s a b ≡ Fine → tour_check s a' b' ≡ Fine
+  still_fine : (a a' b b' : ℕ) → a ≤ a' → b ≤ b' → tour_check s a b ≡ Ok tt → tour_check s a' b' ≡ Ok tt
   unfolding tour_check_within room_check tests
   still_fine a a' b b' h g e =
       let n = contours_of s in
@@ -72,8 +72,8 @@ module _ (s : List ℕ) where
     same : (c : Check) → tour_check s (length room) (length table) ≡ c
         → let l = toured_unless c (toured s room table) room table in tour_of s l.room l.table ≡ l
     unfolding tour_within
-    same (Refused r) e = ap (λ (c : Check). toured_unless c (toured s room table) room table) e
-    same Fine e =
+    same (Err r) e = ap (λ (c : Check). toured_unless c (toured s room table) room table) e
+    same (Ok _) e =
         let tour = tour_on s in
         let fine = still_fine (length room) (length (placed tour room)) (length table) (length written)
         (placed_grows tour room) written_grows e in
@@ -90,5 +90,5 @@ module _ (s : List ℕ) where
     table_grows = go (tour_check s (length room) (length table))
       where
         go : (c : Check) → length table ≤ length (toured_unless c (toured s room table) room table).table
-        go Fine = written_grows
-        go (Refused r) = omega arith
+        go (Ok _) = written_grows
+        go (Err r) = omega arith

@@ -1,4 +1,5 @@
 -- However a card is cut, the end answers as for the whole. Assumes nothing.
+use Rattle.std.specs.Prelude.{Ok}
 use mathlib.Core.Path.{◌≡◌, refl, sym, ap, ◌∙◌, subst}
 use mathlib.Core.Bool.{Bool, true, false, ◌||◌}
 use mathlib.Core.Logic.{inr}
@@ -12,8 +13,6 @@ use lib.Ieee.{Float}
 use lib.ListN.{length, take, drop, length-append, length-take}
 use lib.Seq.{take_all, take_at, drop-append-add, drop-drop}
 use Rattle.answer.specs.declared.Refusal.{Refusal}
-use Rattle.answer.specs.declared.Check.TheVariants.{Fine}
-use Rattle.answer.specs.declared.Count.TheVariants as count
 use Rattle.answer.specs.Lowest.{refuse_if}
 use Rattle.answer.specs.Room.{placed}
 use Rattle.answer.proofs.RoomLaws.{placed_front}
@@ -90,12 +89,12 @@ module _ {s : List ℕ} {f : Feed} {was : List ℕ} (st : State s f was)
   filled_is : filled f.kept held piece ≡ placed (take card_bytes (s ++ piece)) held
   filled_is = λ i. front_is i ++ drop (sym front_length i) held
 
-  is_stored : add_of f held piece ≡ stored_unless Fine f held piece
+  is_stored : add_of f held piece ≡ stored_unless (Ok tt) f held piece
   is_stored = add-taken f held piece st.before_end intact.enough
 
   holds : Holds (s ++ piece) (add_of f held piece) held
   holds = (
-    ap (λ (a : Stored). a.answer) is_stored ∙ ap count.Is count_is,
+    ap (λ (a : Stored). a.answer) is_stored ∙ ap Ok count_is,
     ap (λ (a : Stored). a.held) is_stored ∙ filled_is,
   )
 

@@ -1,7 +1,6 @@
 -- However a card is cut, the end answers as for the whole: what the calls of Feed come to, one after another. Assumes
 -- nothing.
-use Rattle.std.specs.Prelude.{◌≡◌, true, false, List, [], ◌∷◌, ◌++◌, ℕ, ◌+◌, ◌≤◌, ◌<◌, min, Float, length, take}
-use Rattle.answer.specs.declared.Count.TheVariants as count
+use Rattle.std.specs.Prelude.{◌≡◌, true, false, List, [], ◌∷◌, ◌++◌, ℕ, ◌+◌, ◌≤◌, ◌<◌, min, Float, length, take, Ok}
 use Rattle.answer.specs.Room.{placed}
 use Rattle.fields.specs.Limits.{card_bytes}
 use Rattle.tour.specs.Tour.{tour_of}
@@ -16,9 +15,9 @@ pub record OfPieces (f : Feed) (held piece : List ℕ) : Type 0 where
   pub small : f.ended ≡ false → 0 < length piece → length held < card_bytes
       → add_of f held piece ≡ unchanged f (record { number = 13; place = card_bytes }) held
   pub none : f.ended ≡ false → length piece ≡ 0 → add_of f held piece
-      ≡ record { feed = f; answer = count.Is f.kept; held = held }
+      ≡ record { feed = f; answer = Ok f.kept; held = held }
   pub taken : f.ended ≡ false → card_bytes ≤ length held
-      → (add_of f held piece).answer ≡ count.Is (f.kept + taken_of f.kept (length piece))
+      → (add_of f held piece).answer ≡ Ok (f.kept + taken_of f.kept (length piece))
 
 -- of an asking: 13 under the longest card, which is not the end; every other one is the end, whatever it answers
 pub record OfAsking (f : Feed) (held room : List ℕ) (table : List Float) : Type 0 where
@@ -57,7 +56,7 @@ pub data Run : List ℕ → Feed → List ℕ → Type 0 where
 
 -- before the end: how many bytes are held; they stand at the front of the byte room, whose rest is untouched
 abbrev pub Holds : List ℕ → Stored → List ℕ → Type 0
-Holds s a held = (a.answer ≡ count.Is (min (length s) card_bytes)) × (a.held ≡ placed (take card_bytes s) held)
+Holds s a held = (a.answer ≡ Ok (min (length s) card_bytes)) × (a.held ≡ placed (take card_bytes s) held)
 
 pub record Whole (s : List ℕ) (f : Feed) (was : List ℕ) : Type 0 where
   pub kept : f.kept ≡ min (length s) card_bytes

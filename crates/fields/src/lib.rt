@@ -162,30 +162,17 @@ pub fn home(card: &[u8]) -> Point
     }
 }
 
-// A direction asked for: 0 Ccw, 1 Cw, and on a card that was not checked any other byte is Auto too.
-fn preference(b: u8) -> CutDirectionPreference
-    ensures { result ≡ as_preference b }
-{
-    if b == 0 {
-        return CutDirectionPreference::Ccw;
-    }
-    if b == 1 {
-        return CutDirectionPreference::Cw;
-    }
-    CutDirectionPreference::Auto
-}
-
 // Which way round exteriors are to be cut, and interiors.
 pub fn exterior(card: &[u8]) -> CutDirectionPreference
     ensures { result ≡ as_preference (exterior_of card.now) }
 {
-    preference(block::byte_at(card, EXTERIOR_AT))
+    CutDirectionPreference::from(block::byte_at(card, EXTERIOR_AT))
 }
 
 pub fn interior(card: &[u8]) -> CutDirectionPreference
     ensures { result ≡ as_preference (interior_of card.now) }
 {
-    preference(block::byte_at(card, INTERIOR_AT))
+    CutDirectionPreference::from(block::byte_at(card, INTERIOR_AT))
 }
 
 // The byte that asks for the grid; 0 in version 1.
@@ -211,41 +198,25 @@ pub fn asks_grid(card: &[u8]) -> bool
 fn payload_offset(card: &[u8], b: usize, offset: usize) -> usize
     ensures { result ≡ min (payload b + offset) (length card.now) }
 {
-    let end = card.len();
-    if end / BLOCK < b {
-        return end;
-    }
-    let start = BLOCK * b;
-    if end - start < PAYLOAD_AT {
-        return end;
-    }
-    let at = start + PAYLOAD_AT;
-    if end - at < offset {
-        return end;
-    }
-    at + offset
+    let payload = BLOCK.saturating_mul(b).saturating_add(PAYLOAD_AT);
+    payload.saturating_add(offset).min(card.len())
 }
 
 // The same for contour k, whose block is the one after block k.
 pub fn contour_offset(card: &[u8], k: usize, offset: usize) -> usize
     ensures { result ≡ min (payload (k + 1) + offset) (length card.now) }
 {
-    if card.len() <= k {
-        return card.len();
-    }
-    payload_offset(card, k + 1, offset)
+    payload_offset(card, k.saturating_add(1), offset)
 }
 
 // Where vertex j of contour k stands, cut off likewise.
 fn vertex_offset(card: &[u8], k: usize, j: usize) -> usize
     ensures { result ≡ min (vertex_offset k j) (length card.now) }
 {
-    let end = card.len();
-    let start = contour_offset(card, k, CONTOUR_SIZE);
-    if (end - start) / VERTEX_SIZE < j {
-        return end;
-    }
-    start + VERTEX_SIZE * j
+    let first = contour_offset(card, k, CONTOUR_SIZE);
+    first
+        .saturating_add(VERTEX_SIZE.saturating_mul(j))
+        .min(card.len())
 }
 
 // Where pair q stands, cut off likewise.
@@ -300,11 +271,7 @@ pub fn vertices(card: &[u8], k: usize) -> usize
 pub fn contour_type(card: &[u8], k: usize) -> ContourType
     ensures { result ≡ as_type (type_of card.now k) }
 {
-    let b = contour_byte(card, k, TYPE_AT);
-    if b == 0 {
-        return ContourType::Exterior;
-    }
-    ContourType::Interior
+    ContourType::from(contour_byte(card, k, TYPE_AT))
 }
 
 // The part that contour k belongs to: 0 for none, and in version 1.
@@ -312,9 +279,10 @@ pub fn part(card: &[u8], k: usize) -> u32
     ensures { result ≡ part_of card.now k }
 {
     if is_two(card) {
-        return contour_u32(card, k, PART_AT);
+        contour_u32(card, k, PART_AT)
+    } else {
+        0
     }
-    0
 }
 
 // Which copy of its part contour k is in; 0 in version 1.
@@ -322,9 +290,10 @@ pub fn copy(card: &[u8], k: usize) -> u32
     ensures { result ≡ copy_of card.now k }
 {
     if is_two(card) {
-        return contour_u32(card, k, COPY_AT);
+        contour_u32(card, k, COPY_AT)
+    } else {
+        0
     }
-    0
 }
 
 // Vertex j of contour k.

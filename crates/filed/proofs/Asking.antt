@@ -1,4 +1,5 @@
 -- What byte 34 of the head was before request 2026-07. Assumes nothing.
+use Rattle.std.specs.Prelude.{None, Ok, Some}
 use mathlib.Mathlib.Data.Bool.Basic.{not_iff_not}
 use mathlib.Core.Path.{◌≡◌, refl, sym, ap, ◌∙◌}
 use mathlib.Core.Bool.{Bool, true, false, not, cond}
@@ -8,8 +9,6 @@ use native.Mathlib.Omega.{arith}
 use lib.Dec.{eqb, eqb-suc-zero, lit<}
 use lib.ListN.{get_or}
 use lib.Ieee.{Float, lt}
-use Rattle.answer.specs.declared.Found.TheVariants.{At, Absent}
-use Rattle.answer.specs.declared.Check.TheVariants.{Fine}
 use Rattle.answer.specs.Lowest.{lowest, lowest_from}
 use Rattle.answer.proofs.LowestLaws.{is_absent, absent_is, at_is, lowest_same}
 use Rattle.answer.proofs.StageLaws.{is_fine}
@@ -96,13 +95,13 @@ not_asked s none = record { verdict = same_verdict s none; candidates = same_can
 
 -- ---- asked
 
-module _ (s : List ℕ) (asks : asks_grid s ≡ true) (fine : check_of s ≡ Fine) where
+module _ (s : List ℕ) (asks : asks_grid s ≡ true) (fine : check_of s ≡ Ok tt) where
   -- no stage of today's finds anything
-  stages_fine : (rank : ℕ) → rank < 13 → get_or (stages_within today s) rank Fine ≡ Fine
+  stages_fine : (rank : ℕ) → rank < 13 → get_or (stages_within today s) rank (Ok tt) ≡ Ok tt
   unfolding check_within
   stages_fine rank h = is_fine (stages_within today s) fine rank h
 
-  head_fine : head_fault_then s ≡ Absent
+  head_fine : head_fault_then s ≡ None
   unfolding head_fault_then head_fault_within
   head_fine =
       let none =
@@ -117,7 +116,7 @@ module _ (s : List ℕ) (asks : asks_grid s ≡ true) (fine : check_of s ≡ Fin
       (not_iff_not {b = zeros_at s (payload 0 + head_size) (payload_bytes - head_size)}).1
       (λ t. some_byte (zeros_each s (payload 0 + head_size) (payload_bytes - head_size) t 0 (lit< tt)))
 
-  spare_told : spare_fault_then s ≡ At 0
+  spare_told : spare_fault_then s ≡ Some 0
   unfolding spare_fault_then
   spare_told =
       let whole = (accepted s fine).whole in

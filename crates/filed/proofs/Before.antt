@@ -1,4 +1,5 @@
 -- What a reader from before says of every sound card, and that what it refuses gets no tour. Assumes nothing.
+use Rattle.std.specs.Prelude.{None, Ok, Some}
 use mathlib.Core.Path.{◌≡◌, refl, ◌∙◌}
 use mathlib.Core.Bool.{false}
 use mathlib.Core.List.{List}
@@ -7,8 +8,6 @@ use native.Mathlib.Omega.{arith}
 use borrow.Author.Tests.{lt-ltb, le-ltb}
 use lib.Dec.{lit<}
 use lib.ListN.{length, get_or}
-use Rattle.answer.specs.declared.Found.TheVariants.{At, Absent}
-use Rattle.answer.specs.declared.Check.TheVariants.{Fine}
 use Rattle.answer.specs.Stage.{first_refusal}
 use Rattle.answer.proofs.LowestLaws.{at_is}
 use Rattle.answer.proofs.StageLaws.{is_fine}
@@ -24,11 +23,11 @@ use Rattle.filed.specs.Before.{Raised, Longest, Refuses, NotLarger, Longer, More
 use Rattle.filed.specs.Before.{Reads, Claim}
 use Rattle.filed.proofs.LimitLaws.{Passes, Small, passes, small, one_verdict, one_head, one_cycle, length_again}
 
-module _ (s : List ℕ) (fine : check_of s ≡ Fine) where
+module _ (s : List ℕ) (fine : check_of s ≡ Ok tt) where
   now : Passes today s
   now = passes today s fine
 
-  short_fine : length s ≤ before.bytes → length_fault_within before.bytes s ≡ Absent
+  short_fine : length s ≤ before.bytes → length_fault_within before.bytes s ≡ None
   short_fine h = length_again today.bytes before.bytes s now.length_fine h
 
   short : contours_of s ≤ before.contours → pairs_of s ≤ before.pairs → length s ≤ before.bytes
@@ -49,20 +48,20 @@ module _ (s : List ℕ) (fine : check_of s ≡ Fine) where
   longer h = rw (← too_long before.bytes s h)
 
   -- the stages between the length and the head name no limit
-  checks_fine : check_fault s ≡ Absent
+  checks_fine : check_fault s ≡ None
   unfolding check_within
   checks_fine = fine_absent 2 (check_fault s) (is_fine (stages_within today s) fine 1 (lit< tt))
 
-  start_fine : start_fault s 1 ≡ Absent
+  start_fine : start_fault s 1 ≡ None
   unfolding check_within
   start_fine = fine_absent 3 (start_fault s 1) (is_fine (stages_within today s) fine 2 (lit< tt))
 
-  at_field : (f : ℕ) → length s ≤ before.bytes → head_fault_within before.contours before.pairs s ≡ At f
+  at_field : (f : ℕ) → length s ≤ before.bytes → head_fault_within before.contours before.pairs s ≡ Some f
       → Refuses s 4 f
   unfolding check_within
   at_field f h e = rw (short_fine h, checks_fine, start_fine, e)
 
-  first_field : before.contours < contours_of s → head_fault_within before.contours before.pairs s ≡ At 1
+  first_field : before.contours < contours_of s → head_fault_within before.contours before.pairs s ≡ Some 1
   unfolding head_fault_within
   first_field n =
       at_is (λ f. get_or (head_faults_within before.contours before.pairs s) f false) 9 1
@@ -73,7 +72,7 @@ module _ (s : List ℕ) (fine : check_of s ≡ Fine) where
       none (suc j) h = absurd (omega arith)
 
   second_field : contours_of s ≤ before.contours → before.pairs < pairs_of s
-      → head_fault_within before.contours before.pairs s ≡ At 2
+      → head_fault_within before.contours before.pairs s ≡ Some 2
   unfolding head_fault_within
   second_field n m =
       at_is (λ f. get_or (head_faults_within before.contours before.pairs s) f false) 9 2

@@ -1,10 +1,10 @@
 -- Cards already filed keep their tours. Assumes nothing.
+use Rattle.std.specs.Prelude.{Ok}
 use mathlib.Core.Path.{◌≡◌, sym, ap, ◌∙◌}
 use mathlib.Core.List.{List}
 use Prim.Native.Nat.{ℕ, ◌≤◌}
 use native.Mathlib.Omega.{arith}
 use lib.ListN.{length}
-use Rattle.answer.specs.declared.Check.TheVariants.{Fine}
 use Rattle.fields.specs.Layout.{contours_of, pairs_of}
 use Rattle.card.specs.Limits.{today, before}
 use Rattle.card.specs.Verdict.{check_within, check_of}
@@ -15,7 +15,7 @@ use Rattle.filed.specs.Filed.{Kept, Claim}
 use Rattle.filed.proofs.LimitLaws.{Passes, Small, passes, small, one_verdict, one_head, one_cycle, one-held}
 use Rattle.filed.proofs.LimitLaws.{one_start, one-tour, one_list, length_again, short_enough}
 
-module _ (s : List ℕ) (e : check_within before s ≡ Fine) where
+module _ (s : List ℕ) (e : check_within before s ≡ Ok tt) where
   then : Passes before s
   then = passes before s e
 
@@ -41,7 +41,7 @@ module _ (s : List ℕ) (e : check_within before s ≡ Fine) where
   same : check_within before s ≡ check_of s
   same = one_verdict before today s then now
 
-  fine : check_of s ≡ Fine
+  fine : check_of s ≡ Ok tt
   fine = sym same ∙ e
 
   kept : Kept before s

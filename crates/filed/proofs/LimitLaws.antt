@@ -1,5 +1,6 @@
 -- Two limits on one card that is not larger than either allows: every definition that names them says the same. Assumes
 -- nothing.
+use Rattle.std.specs.Prelude.{None, Ok}
 use mathlib.Core.Path.{◌≡◌, refl, sym, ap, ◌∙◌}
 use mathlib.Core.Bool.{Bool, true, false, not, ◌||◌}
 use mathlib.Core.List.{List}
@@ -9,8 +10,6 @@ use borrow.Author.Tests.{le-leb, le-ltb, ltb-false}
 use lib.Dec.{eqb, ltb, lit<}
 use lib.Ieee.{Float}
 use lib.ListN.{length}
-use Rattle.answer.specs.declared.Found.TheVariants.{Absent}
-use Rattle.answer.specs.declared.Check.TheVariants.{Fine}
 use Rattle.answer.specs.Lowest.{lowest}
 use Rattle.answer.proofs.RoomLaws.{padded_front}
 use Rattle.answer.proofs.StageLaws.{is_fine}
@@ -32,16 +31,16 @@ use Rattle.filed.specs.Filed.{SamePairs}
 
 -- the three stages that name a limit find nothing
 pub record Passes (l : Limits) (s : List ℕ) : Type 0 where
-  pub length_fine : length_fault_within l.bytes s ≡ Absent
-  pub head_fine : head_fault_within l.contours l.pairs s ≡ Absent
-  pub cycle_fine : cycle_fault_within l.contours s ≡ Absent
+  pub length_fine : length_fault_within l.bytes s ≡ None
+  pub head_fine : head_fault_within l.contours l.pairs s ≡ None
+  pub cycle_fine : cycle_fault_within l.contours s ≡ None
 
 -- no more contours and pairs than the limits
 pub record Small (l : Limits) (s : List ℕ) : Type 0 where
   pub contours : contours_of s ≤ l.contours
   pub pairs : pairs_of s ≤ l.pairs
 
-pub passes : (l : Limits) (s : List ℕ) → check_within l s ≡ Fine → Passes l s
+pub passes : (l : Limits) (s : List ℕ) → check_within l s ≡ Ok tt → Passes l s
 unfolding check_within
 passes l s e =
     let all = is_fine (stages_within l s) e in
@@ -51,7 +50,7 @@ passes l s e =
       cycle_fine = fine_absent 12 (cycle_fault_within l.contours s) (all 12 (lit< tt));
     }
 
-pub small : (l : Limits) (s : List ℕ) → head_fault_within l.contours l.pairs s ≡ Absent → Small l s
+pub small : (l : Limits) (s : List ℕ) → head_fault_within l.contours l.pairs s ≡ None → Small l s
 small l s e = let both = no_more l.contours l.pairs s e in record { contours = both.0; pairs = both.1 }
 
 -- where both pass, the verdicts are one
@@ -122,12 +121,12 @@ one_list l m s a b =
 
 -- ---- the length
 
-found_none : (b : Bool) (k : ℕ) → found_if b k ≡ Absent → b ≡ false
+found_none : (b : Bool) (k : ℕ) → found_if b k ≡ None → b ≡ false
 found_none true k e = let z : ◌≡◌ {A = ℕ} 0 1 = cc in absurd (omega arith)
 found_none false k e = refl
 
 -- a length that is not at fault is not 0, is one of whole blocks, and is not above the limit
-sized : (most : ℕ) (s : List ℕ) → length_fault_within most s ≡ Absent
+sized : (most : ℕ) (s : List ℕ) → length_fault_within most s ≡ None
     → (eqb (length s) 0 ≡ false) × (not (eqb (length s % block_bytes) 0) ≡ false) × (ltb most (length s) ≡ false)
 unfolding length_fault_within
 sized most s e =
@@ -136,12 +135,12 @@ sized most s e =
     let whole = or-none (not (eqb (length s % block_bytes) 0)) (ltb most (length s)) some.1 in
     (some.0, whole.0, whole.1)
 
-pub short_enough : (most : ℕ) (s : List ℕ) → length_fault_within most s ≡ Absent → length s ≤ most
+pub short_enough : (most : ℕ) (s : List ℕ) → length_fault_within most s ≡ None → length s ≤ most
 short_enough most s e = ltb-false most (length s) (sized most s e).2
 
 -- with another limit that it is not above either, it is not at fault
-pub length_again : (most other : ℕ) (s : List ℕ) → length_fault_within most s ≡ Absent → length s ≤ other
-    → length_fault_within other s ≡ Absent
+pub length_again : (most other : ℕ) (s : List ℕ) → length_fault_within most s ≡ None → length s ≤ other
+    → length_fault_within other s ≡ None
 unfolding length_fault_within
 length_again most other s e h =
     let fine = sized most s e in rw (fine.0, fine.1, le-ltb other (length s) h)

@@ -1,13 +1,11 @@
 -- Byte 34 of the head before request 2026-07, when it was spare in both versions: a card with a 0 there, and any card
 -- of version 1, has the verdict and the candidates that it had then, and a fine one that asks for the grid went back
 -- with 7 at block 0. Assumes nothing.
-use Rattle.std.specs.Prelude.{◌≡◌, Bool, true, false, not, cond, List, [], ◌∷◌, ◌++◌, ℕ, zero, suc, ◌+◌, ◌-◌, min, eqb, Float, get_or, set}
+use Rattle.std.specs.Prelude.{◌≡◌, Bool, true, false, not, cond, List, [], ◌∷◌, ◌++◌, ℕ, zero, suc, ◌+◌, ◌-◌, min, eqb, Float, get_or, set, Err, Ok}
 use Rattle.std.specs.Float.Ieee.{lt}
 use Rattle.answer.specs.declared.CutDirection.{CutDirection}
 use Rattle.answer.specs.declared.Point.{Point}
-use Rattle.answer.specs.declared.Found.{Found}
-use Rattle.answer.specs.declared.Check.{Check}
-use Rattle.answer.specs.declared.Check.TheVariants.{Fine, Refused}
+use Rattle.answer.specs.Answer.{Check, Found}
 use Rattle.answer.specs.Lowest.{lowest, refuse_at}
 use Rattle.answer.specs.Stage.{first_refusal}
 use Rattle.block.specs.Field.{byte_at}
@@ -77,7 +75,7 @@ pub record NotAsked (s : List ℕ) : Type 0 where
 
 -- a fine card that asks went back
 abbrev pub Asked : List ℕ → Type 0
-Asked s = asks_grid s ≡ true → check_of s ≡ Fine → check_then s ≡ Refused (record { number = 7; place = 0 })
+Asked s = asks_grid s ≡ true → check_of s ≡ Ok tt → check_then s ≡ Err (record { number = 7; place = 0 })
 
 -- a card of a version without contours, with this byte 34
 abbrev pub head_with : ℕ → ℕ → List ℕ
@@ -86,15 +84,15 @@ head_with version byte = block_of 1 version 0 (head_bytes (as_job41 [] []) ++ (b
 -- such cards today: in version 2 with 0 and 1 fine, with 2 and 255 4 at 8; in version 1 with 0 fine, with 1, 2 and 255
 -- 7 at block 0
 pub record Today : Type 0 where
-  pub not_asking : check_of (head_with 2 0) ≡ Fine
-  pub asking : check_of (head_with 2 1) ≡ Fine
+  pub not_asking : check_of (head_with 2 0) ≡ Ok tt
+  pub asking : check_of (head_with 2 1) ≡ Ok tt
   pub does_ask : asks_grid (head_with 2 1) ≡ true
-  pub above : check_of (head_with 2 2) ≡ Refused (record { number = 4; place = 8 })
-  pub most-above : check_of (head_with 2 255) ≡ Refused (record { number = 4; place = 8 })
-  pub of_version_1 : check_of (head_with 1 0) ≡ Fine
-  pub spare_there : check_of (head_with 1 1) ≡ Refused (record { number = 7; place = 0 })
-  pub no_field_there : check_of (head_with 1 2) ≡ Refused (record { number = 7; place = 0 })
-  pub most_there : check_of (head_with 1 255) ≡ Refused (record { number = 7; place = 0 })
+  pub above : check_of (head_with 2 2) ≡ Err (record { number = 4; place = 8 })
+  pub most-above : check_of (head_with 2 255) ≡ Err (record { number = 4; place = 8 })
+  pub of_version_1 : check_of (head_with 1 0) ≡ Ok tt
+  pub spare_there : check_of (head_with 1 1) ≡ Err (record { number = 7; place = 0 })
+  pub no_field_there : check_of (head_with 1 2) ≡ Err (record { number = 7; place = 0 })
+  pub most_there : check_of (head_with 1 255) ≡ Err (record { number = 7; place = 0 })
 
 pub record Claim : Type 0 where
   pub byte_0 : (s : List ℕ) → byte_at s (payload 0 + grid_offset) ≡ 0 → NotAsked s

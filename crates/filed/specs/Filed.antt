@@ -1,7 +1,6 @@
 -- Cards already filed keep their bytes and tours: what the limits from before request 2026-04 accept is accepted today,
 -- and candidates, pairs, start, tour, moves, length and table are the same. Assumes nothing.
-use Rattle.std.specs.Prelude.{◌≡◌, List, ℕ, Float, take}
-use Rattle.answer.specs.declared.Check.TheVariants.{Fine}
+use Rattle.std.specs.Prelude.{◌≡◌, List, ℕ, Float, take, Ok}
 use Rattle.card.specs.declared.Named.{Named}
 use Rattle.card.specs.Limits.{Limits, before}
 use Rattle.card.specs.Names.{named_within, named_of}
@@ -20,11 +19,11 @@ pub record SamePairs (a b : Named) : Type 0 where
 -- a card is fine today, and all that a search reads of it and answers, whatever rooms are lent, is as within these
 -- limits
 pub record Kept (l : Limits) (s : List ℕ) : Type 0 where
-  pub fine : check_of s ≡ Fine
+  pub fine : check_of s ≡ Ok tt
   pub candidates : gathered s (held_within l.contours s) ≡ candidates_on s
   pub pairs : SamePairs (named_within l s) (named_of s)
   pub start : start_within l s ≡ start_on s
   pub tour : (room : List ℕ) (table : List Float) → tour_within l s room table ≡ tour_of s room table
 
 abbrev pub Claim : Type 0
-Claim = (s : List ℕ) → check_within before s ≡ Fine → Kept before s
+Claim = (s : List ℕ) → check_within before s ≡ Ok tt → Kept before s

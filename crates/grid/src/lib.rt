@@ -38,18 +38,16 @@ pub fn moved(x: f64) -> f64
     ensures { result ≡ moved x }
 {
     if 0.0 < x {
-        if x < ALL_ON_GRID {
-            return moved_up(x);
-        }
-        return x;
-    }
-    if x < 0.0 {
+        if x < ALL_ON_GRID { moved_up(x) } else { x }
+    } else if x < 0.0 {
         if -x < ALL_ON_GRID {
-            return 0.0 - moved_up(-x);
+            0.0 - moved_up(-x)
+        } else {
+            x
         }
-        return x;
+    } else {
+        x + 0.0
     }
-    x + 0.0
 }
 
 // Both coordinates of a point, moved.

@@ -2,8 +2,8 @@
 use mathlib.Core.Bool.{Bool, true, false, cond, ◌&&◌}
 use mathlib.Core.Path.{◌≡◌, refl, sym, ap, ◌∙◌, subst}
 use mathlib.Core.Logic.{⊎_elim}
-use mathlib.Core.List.{List, [], ◌∷◌, ◌++◌, append-nil}
-use Prim.Native.Nat.{ℕ, zero, suc, ◌+◌, ◌-◌, ◌≤◌, ◌<◌}
+use mathlib.Core.List.{List, [], ◌∷◌, ◌++◌, map, append-nil}
+use Prim.Native.Nat.{ℕ, zero, suc, ◌+◌, ◌-◌, ◌/◌, ◌≤◌, ◌<◌}
 use native.Mathlib.Numerals.{add-one}
 use native.Mathlib.Omega.{arith}
 use lib.Dec.{eqb, ltb}
@@ -13,31 +13,24 @@ use lib.ListN.{take-append-drop}
 use lib.Seq.{get_or-set_same, get_or-set_other, take-suc, take-suc-set, take_at, take_all, drop-cons, get_or-take}
 use lib.Seq.{take-append-le, drop-append-le}
 use Rattle.closure.specs.Limits.{contour_limit}
-use Rattle.closure.specs.Pairs.{Pair, paired, both}
-use Rattle.closure.proofs.PairLaws.{same_or, pair_at, paired_more, paired_end}
+use Rattle.std.specs.Simd.{first_chunks}
+use Rattle.closure.specs.Pairs.{Pair, pair_of, paired, both}
+use Rattle.closure.proofs.PairLaws.{same_or, left-at, left-none, chunks_are}
 use mathlib.Mathlib.Data.Bool.Basic.{and_elim_right}
 use Rattle.answer.proofs.RoomLaws.{padded-length}
 use Rattle.hierarchy.specs.Fill.{Filled}
 use Rattle.hierarchy.specs.Sort.{Kahn, held_back, tallied, free_below, untaken, loosened, released, front_taken}
 use Rattle.hierarchy.specs.Sort.{queue_taken, sorted_by}
 use Rattle.hierarchy.specs.Code.{held_count, standing, first_taken, HasRoom, Stands}
-use Rattle.answer.specs.declared.Check.{Check}
-use Rattle.hierarchy.specs.declared.Order.{Order}
-use Rattle.hierarchy.specs.Questions.{order_of}
-use Rattle.hierarchy.proofs.FillLaws.{filled_none, filled_more}
+use Rattle.answer.specs.declared.Listed.{Listed}
+use Rattle.answer.specs.Room.{listed}
+use Rattle.hierarchy.proofs.FillLaws.{filled_none, filled_more, listed_is}
 
 pub both_yes : (n : ℕ) (p : Pair) → p.before < n → p.after < n → both n p ≡ true
 both_yes n p hb ha = rw (lt-ltb p.before n hb, lt-ltb p.after n ha)
 
 pub both_low : (n : ℕ) (p : Pair) → both n p ≡ true → p.after < n
 both_low n p t = ltb-true p.after n (and_elim_right (ltb p.before n) (ltb p.after n) t)
-
-module _ (b a n v : ℕ) (is : v ≡ b) where
-  pub both_told : (w : ℕ) → w ≡ a → v < n → ltb w n ≡ both n (record { before = b; after = a })
-  both_told w e h = rw (lt-ltb b n (omega arith), e)
-
-  pub both_high : n ≤ v → false ≡ both n (record { before = b; after = a })
-  both_high h = rw (le-ltb b n (omega arith))
 
 -- ---- the tally
 
@@ -47,61 +40,62 @@ zeros zero a = refl
 zeros (suc n) zero = refl
 zeros (suc n) (suc a) = zeros n a
 
--- what is left to tally decides the whole, and no entry is above the numbers passed
-pub record TallyPart (n : ℕ) (pairs : List ℕ) (at : ℕ) (w : List ℕ) : Type 0 where
+-- what is left to tally decides the whole, and no entry is above the number of pairs passed
+pub record TallyPart (n : ℕ) (chunks : List (List ℕ)) (i : ℕ) (w : List ℕ) : Type 0 where
   pub size : length w ≡ contour_limit
-  pub within : at ≤ length pairs
-  pub small : (a : ℕ) → get_or w a 0 ≤ at
-  pub left : tallied n (paired (drop at pairs)) w ≡ tallied n (paired pairs) (replicate contour_limit 0)
+  pub small : (a : ℕ) → get_or w a 0 ≤ i
+  pub left : tallied n (drop i (map pair_of chunks)) w ≡ tallied n (map pair_of chunks) (replicate contour_limit 0)
 
-pub tally-none : (n : ℕ) (pairs : List ℕ) → TallyPart n pairs 0 (replicate contour_limit 0)
-tally-none n pairs =
+pub tally-none : (n : ℕ) (chunks : List (List ℕ)) → TallyPart n chunks 0 (replicate contour_limit 0)
+tally-none n chunks =
     record {
       size = length-replicate {A = ℕ} contour_limit 0;
-      within = omega arith;
       small = λ a. omega (arith, zeros contour_limit a);
       left = refl;
     }
 
-module _ (n : ℕ) (pairs : List ℕ) (at : ℕ) (w : List ℕ) (more : at + 1 < length pairs) (part : TallyPart n pairs at w)
-  where
-    tally-walk : tallied n (paired (drop (at + 2) pairs))
-        (cond (both n (pair_at pairs at)) (held_back w (get_or pairs (at + 1) 0)) w)
-        ≡ tallied n (paired pairs) (replicate contour_limit 0)
-    unfolding tallied
-    tally-walk = rw (paired_more pairs at more) at part.left
+-- the pair at this place of the chunks
+abbrev pub pair_in : List (List ℕ) → ℕ → Pair
+pair_in chunks i = pair_of (get_or chunks i [])
 
-    tally_small : (a : ℕ) → a < contour_limit → (x : ℕ) → get_or (held_back w a) x 0 ≤ at + 2
+module _ (n : ℕ) (chunks : List (List ℕ)) (i : ℕ) (w : List ℕ) (more : i < length chunks) (part : TallyPart n chunks i w)
+  where
+    tally-walk : tallied n (drop (i + 1) (map pair_of chunks))
+        (cond (both n (pair_in chunks i)) (held_back w (pair_in chunks i).after) w)
+        ≡ tallied n (map pair_of chunks) (replicate contour_limit 0)
+    unfolding tallied
+    tally-walk = rw (left-at pair_of chunks i [] more) at part.left
+
+    tally_small : (a : ℕ) → a < contour_limit → (x : ℕ) → get_or (held_back w a) x 0 ≤ i + 1
     tally_small a h x = ⊎_elim
         (λ (e : x ≡ a). rw (e, get_or-set_same w a (get_or w a 0 + 1) 0 (omega (arith, part.size)))
         (omega (arith, part.small a)))
         (λ (d : x ≡ a → ⊥). rw (get_or-set_other w a x (get_or w a 0 + 1) 0 d) (omega (arith, part.small x))) (same_or x a)
 
-    pub tally_low : (a : ℕ) → a ≡ get_or pairs (at + 1) 0 → both n (pair_at pairs at) ≡ true → n ≤ contour_limit
-        → a < contour_limit
-    tally_low a q t low = omega (arith, both_low n (pair_at pairs at) t)
+    pub tally_low : both n (pair_in chunks i) ≡ true → n ≤ contour_limit → (pair_in chunks i).after < contour_limit
+    tally_low t low = omega (arith, both_low n (pair_in chunks i) t)
 
-    pub tally_hit : (a : ℕ) → a ≡ get_or pairs (at + 1) 0 → both n (pair_at pairs at) ≡ true → n ≤ contour_limit
-        → TallyPart n pairs (at + 2) (set w a (get_or w a 0 + 1))
-    tally_hit a q t low = record {
-      size = length-set w a (get_or w a 0 + 1) ∙ part.size;
-      within = omega arith;
-      small = tally_small a (tally_low a q t low);
-      left = rw q (rw t at tally-walk);
+    pub tally_hit : both n (pair_in chunks i) ≡ true → n ≤ contour_limit
+        → TallyPart n chunks (i + 1) (held_back w (pair_in chunks i).after)
+    tally_hit t low = record {
+      size = length-set w (pair_in chunks i).after (get_or w (pair_in chunks i).after 0 + 1) ∙ part.size;
+      small = tally_small (pair_in chunks i).after (tally_low t low);
+      left = rw t at tally-walk;
     }
 
-    pub tally_miss : both n (pair_at pairs at) ≡ false → TallyPart n pairs (at + 2) w
+    pub tally_miss : both n (pair_in chunks i) ≡ false → TallyPart n chunks (i + 1) w
     tally_miss f = record {
       size = part.size;
-      within = omega arith;
       small = λ a. omega (arith, part.small a);
       left = rw f at tally-walk;
     }
 
-pub tally_all : (n : ℕ) (pairs : List ℕ) (at : ℕ) (w : List ℕ) → length pairs ≤ at + 1 → TallyPart n pairs at w
+pub tally_all : (n : ℕ) (pairs : List ℕ) (chunks : List (List ℕ)) (i : ℕ) (w : List ℕ)
+    → chunks ≡ first_chunks 2 (length pairs / 2) pairs → length chunks ≤ i → TallyPart n chunks i w
     → w ≡ tallied n (paired pairs) (replicate contour_limit 0)
 unfolding tallied
-tally_all n pairs at w all part = rw (paired_end pairs at all) at part.left
+tally_all n pairs chunks i w are all part =
+    rw (← chunks_are pairs chunks are) (rw (left-none pair_of chunks i all) at part.left)
 
 -- ---- the positions that are free at first
 
@@ -206,61 +200,50 @@ module _ (w o : List ℕ) (k a : ℕ) (roomy : HasRoom w o k) (ha : a < contour_
     is = rw (p, ne_eqb (get_or w a 0) 1 d, append-nil (take k o));
   }
 
--- ---- which pairs count
-
-module _ (b a x n : ℕ) where
-  pub counts_other : (b ≡ x → ⊥) → false ≡ (eqb b x && both n (record { before = b; after = a }))
-  counts_other d = rw (ne_eqb b x d)
-
-  pub counts_same : (r : Bool) → b ≡ x → r ≡ both n (record { before = b; after = a })
-      → r ≡ (eqb b x && both n (record { before = b; after = a }))
-  counts_same r e q = rw (eq-eqb b x e) q
-
 -- ---- all pairs of one position
 
-pub record ReleasePart (n x : ℕ) (pairs : List ℕ) (at : ℕ) (s : Kahn) (w o : List ℕ) (k : ℕ) : Type 0 where
-  pub within : at ≤ length pairs
+pub record ReleasePart (n x : ℕ) (chunks : List (List ℕ)) (i : ℕ) (s : Kahn) (w o : List ℕ) (k : ℕ) : Type 0 where
   pub roomy : HasRoom w o k
-  pub left : released n x (paired (drop at pairs)) (standing w o k) ≡ released n x (paired pairs) s
+  pub left :
+      released n x (drop i (map pair_of chunks)) (standing w o k) ≡ released n x (map pair_of chunks) s
 
-pub release-none : (n x : ℕ) (pairs w o : List ℕ) (k : ℕ) → HasRoom w o k
-    → ReleasePart n x pairs 0 (standing w o k) w o k
-release-none n x pairs w o k roomy = record { within = omega arith; roomy = roomy; left = refl }
+pub release-none : (n x : ℕ) (chunks : List (List ℕ)) (w o : List ℕ) (k : ℕ) → HasRoom w o k
+    → ReleasePart n x chunks 0 (standing w o k) w o k
+release-none n x chunks w o k roomy = record { roomy = roomy; left = refl }
 
-module _ (n x : ℕ) (pairs : List ℕ) (at : ℕ) (s : Kahn) (w o : List ℕ) (k : ℕ) (r : Bool) (more : at + 1 < length pairs)
-    (part : ReleasePart n x pairs at s w o k)
-    (is : r ≡ (eqb (get_or pairs at 0) x && both n (pair_at pairs at))) where
-  release-walk : released n x (paired (drop (at + 2) pairs))
-      (cond r (loosened (standing w o k) (get_or pairs (at + 1) 0)) (standing w o k)) ≡ released n x (paired pairs) s
+module _ (n x : ℕ) (chunks : List (List ℕ)) (i : ℕ) (s : Kahn) (w o : List ℕ) (k : ℕ) (r : Bool)
+    (more : i < length chunks) (part : ReleasePart n x chunks i s w o k)
+    (is : r ≡ (eqb (pair_in chunks i).before x && both n (pair_in chunks i))) where
+  release-walk : released n x (drop (i + 1) (map pair_of chunks))
+      (cond r (loosened (standing w o k) (pair_in chunks i).after) (standing w o k)) ≡ released n x (map pair_of chunks) s
   unfolding released
-  release-walk = rw is (rw (paired_more pairs at more) at part.left)
+  release-walk = rw is (rw (left-at pair_of chunks i [] more) at part.left)
 
-  pub release_hit : (a : ℕ) (w' o' : List ℕ) (k' : ℕ) → a ≡ get_or pairs (at + 1) 0 → r ≡ true
-      → Stands (loosened (standing w o k) a) w' o' k' → ReleasePart n x pairs (at + 2) s w' o' k'
-  release_hit a w' o' k' p t stands = record {
-    within = omega arith;
-    roomy = stands.roomy;
-    left = rw (stands.is, p) (rw t at release-walk);
-  }
+  pub release_hit : (w' o' : List ℕ) (k' : ℕ) → r ≡ true
+      → Stands (loosened (standing w o k) (pair_in chunks i).after) w' o' k'
+      → ReleasePart n x chunks (i + 1) s w' o' k'
+  release_hit w' o' k' t stands = record { roomy = stands.roomy; left = rw stands.is (rw t at release-walk) }
 
-  pub release_miss : r ≡ false → ReleasePart n x pairs (at + 2) s w o k
-  release_miss t = record { within = omega arith; roomy = part.roomy; left = rw t at release-walk }
+  pub release_miss : r ≡ false → ReleasePart n x chunks (i + 1) s w o k
+  release_miss t = record { roomy = part.roomy; left = rw t at release-walk }
 
   -- a pair that counts has its second below the limit
-  pub release_low : (a : ℕ) → a ≡ get_or pairs (at + 1) 0 → n ≤ contour_limit → r ≡ true → a < contour_limit
-  release_low a p low t =
+  pub release_low : n ≤ contour_limit → r ≡ true → (pair_in chunks i).after < contour_limit
+  release_low low t =
       omega (
         arith,
-        p,
-        both_low n (pair_at pairs at)
-            (and_elim_right (eqb (get_or pairs at 0) x) (both n (pair_at pairs at)) (sym is ∙ t)),
+        both_low n (pair_in chunks i)
+            (and_elim_right (eqb (pair_in chunks i).before x) (both n (pair_in chunks i)) (sym is ∙ t)),
       )
 
-pub release_all : (n x : ℕ) (pairs : List ℕ) (at : ℕ) (s : Kahn) (w o : List ℕ) (k : ℕ) → length pairs ≤ at + 1 →
-    ReleasePart n x pairs at s w o k → Stands (released n x (paired pairs) s) w o k
+pub release_all : (n x : ℕ) (pairs : List ℕ) (chunks : List (List ℕ)) (i : ℕ) (s : Kahn) (w o : List ℕ) (k : ℕ)
+    → chunks ≡ first_chunks 2 (length pairs / 2) pairs → length chunks ≤ i →
+    ReleasePart n x chunks i s w o k → Stands (released n x (paired pairs) s) w o k
 unfolding released
-release_all n x pairs at s w o k all part =
-    record { roomy = part.roomy; is = rw (paired_end pairs at all) at part.left }
+release_all n x pairs chunks i s w o k are all part = record {
+  roomy = part.roomy;
+  is = rw (← chunks_are pairs chunks are) (rw (left-none pair_of chunks i all) at part.left);
+}
 
 -- ---- one position of the queue after the other
 
@@ -413,16 +396,12 @@ stands_first n pairs w o k low e f = record {
     is = ap (take k) f.holds ∙ take_at (free_below w n) (replicate (contour_limit - length (free_below w n)) 0) k
         (sym f.counts)
 
-order_of_lem : (items : List ℕ) (count : ℕ) (l : List ℕ) → Filled contour_limit items count l
-    → ◌≡◌ {A = Order} (record { check = Check.Fine; positions = items; count = count }) (order_of Check.Fine l)
-order_of_lem items count l f = rw (f.holds, f.counts)
-
 -- the whole order, as the code hands it back
 pub sorted_is : (n : ℕ) (pairs w o : List ℕ) (k : ℕ) (o' : List ℕ) (k' : ℕ) → Stands (untaken n (paired pairs)) w o k →
     Filled contour_limit o' k' (queue_taken contour_limit n (paired pairs) (standing w o k)).taken →
-    ◌≡◌ {A = Order} (record { check = Check.Fine; positions = o'; count = k' }) (order_of Check.Fine (sorted_by n pairs))
+    ◌≡◌ {A = Listed ℕ contour_limit} (record { items = o'; count = k' }) (listed contour_limit 0 (sorted_by n pairs))
 unfolding sorted_by
 sorted_is n pairs w o k o' k' first last =
-    order_of_lem o' k' (queue_taken contour_limit n (paired pairs) (untaken n (paired pairs))).taken
+    listed_is contour_limit o' k' (queue_taken contour_limit n (paired pairs) (untaken n (paired pairs))).taken
     (subst (λ (s : Kahn). Filled contour_limit o' k' (queue_taken contour_limit n (paired pairs) s).taken) first.is
     last)

@@ -1,4 +1,5 @@
 -- The topological order is legal: what holds while its positions are taken. Assumes nothing.
+use Rattle.std.specs.Prelude.{Err, Ok}
 use mathlib.Core.Bool.{Bool, true, false, cond, not, ◌&&◌, ◌||◌, or-true, or-false, and-false}
 use mathlib.Mathlib.Data.Bool.Basic.{or_inl, or_inr, and_elim_left, and_elim_right, and_intro}
 use mathlib.Core.Path.{◌≡◌, refl, sym, ap, ◌∙◌, subst, fun_ext}
@@ -14,8 +15,6 @@ use lib.Seq.{get_or-set_same, get_or-set_other, get_or-append_seam, take_all}
 use Rattle.closure.specs.Limits.{contour_limit}
 use Rattle.closure.specs.Pairs.{Pair, paired, every, some_of, is_pair, both}
 use Rattle.closure.specs.Cycle.{linked, on_cycle, Acyclic, first_on_cycle}
-use Rattle.answer.specs.declared.Check.{Check}
-use Rattle.answer.specs.declared.Found.{Found}
 use Rattle.answer.specs.Lowest.{lowest}
 use Rattle.answer.proofs.LowestLaws.{LowestAt, Nowhere, at_is, absent_is, search_through}
 use Rattle.closure.proofs.PairLaws.{same_or, lt-or, is_pair_lem}
@@ -24,10 +23,10 @@ use Rattle.closure.proofs.PathLaws.{linked_within, absent_exactly, linked_pair, 
 use Rattle.hierarchy.specs.Sort.{Kahn, held_back, tallied, free_below, untaken, loosened, released, queue_taken}
 use Rattle.hierarchy.specs.Sort.{sorted_by}
 use Rattle.hierarchy.specs.Code.{first_taken}
-use Rattle.hierarchy.specs.declared.Order.{Order}
-use Rattle.hierarchy.specs.Questions.{pairs_check, order_of, topological_sort}
+use Rattle.answer.specs.Room.{listed}
+use Rattle.hierarchy.specs.Questions.{pairs_check, topological_sort}
 use Rattle.keep.specs.Legal.{Legal}
-use Rattle.hierarchy.proofs.CheckLaws.{fine_small, sort_cycle, sort_told}
+use Rattle.hierarchy.proofs.CheckLaws.{fine_small}
 use Rattle.hierarchy.proofs.SortLaws.{both_yes, both_low, zeros, tallied-length, queue_step, queue_end}
 use Rattle.closure.proofs.CountLaws.{any_below, met, met_is, met_at, Different, met_not, different_few, all_many, Least}
 use Rattle.closure.proofs.CountLaws.{least}
@@ -623,7 +622,7 @@ pub legal_exactly : (n : ℕ) → n ≤ contour_limit → (pairs : List ℕ)
 legal_exactly n small pairs =
     ((λ some. legal_acyclic n pairs some.0 some.1), (λ free. (sorted_by n pairs, sorted-legal n small pairs free)))
 
-module _ (contours : ℕ) (pairs : List ℕ) (fine : Check.Fine ≡ pairs_check contours pairs) where
+module _ (contours : ℕ) (pairs : List ℕ) (fine : (Ok tt) ≡ pairs_check contours pairs) where
   limit : contours ≤ contour_limit
   limit = (fine_small contours pairs fine).few
 
@@ -633,43 +632,36 @@ module _ (contours : ℕ) (pairs : List ℕ) (fine : Check.Fine ≡ pairs_check 
 
   -- where no position reaches itself, the question is answered with a legal order
   pub sort_answers : Acyclic contours pairs
-      → (topological_sort contours pairs ≡ order_of Check.Fine (sorted_by contours pairs)) × Legal contours pairs
+      → (topological_sort contours pairs ≡ Ok (listed contour_limit 0 (sorted_by contours pairs))) × Legal contours pairs
       (sorted_by contours pairs)
   sort_answers free = (
-    sym (sort_told contours pairs Check.Fine fine Found.Absent
-        (sym (first_on ∙ (absent_exactly contours pairs).1 free)) refl (order_of Check.Fine (sorted_by contours pairs))
-        refl refl),
+    rw (← fine, first_on, (absent_exactly contours pairs).1 free),
     sorted-legal contours limit pairs free,
   )
 
   -- where k is the lowest position that reaches itself, it is refused 12 at k
   pub sort_refuses : (k : ℕ) → LowestAt (on_cycle contours pairs) contours k
-      → (topological_sort contours pairs).check ≡ Check.Refused (record { number = 12; place = k })
-  sort_refuses k at =
-      ap (λ (r : Order). r.check)
-      (sym (sort_cycle contours pairs Check.Fine fine (Found.At k)
-      (sym (first_on ∙ at_is (on_cycle contours pairs) contours k at)) refl
-      k _ refl refl))
+      → topological_sort contours pairs ≡ Err (record { number = 12; place = k })
+  sort_refuses k at = rw (← fine, first_on, at_is (on_cycle contours pairs) contours k at)
 
   -- refused 12 exactly where there is no legal order
-  pub refused_exactly : ((k : ℕ) × ((topological_sort contours pairs).check
-      ≡ Check.Refused (record { number = 12; place = k }))) ↔ (((order : List ℕ) × Legal contours pairs order) → ⊥)
+  pub refused_exactly : ((k : ℕ) × (topological_sort contours pairs
+      ≡ Err (record { number = 12; place = k }))) ↔ (((order : List ℕ) × Legal contours pairs order) → ⊥)
   refused_exactly = (to, from)
     where
-      to : (k : ℕ) × ((topological_sort contours pairs).check ≡ Check.Refused (record { number = 12; place = k }))
+      to : (k : ℕ) × (topological_sort contours pairs ≡ Err (record { number = 12; place = k }))
           → ((order : List ℕ) × Legal contours pairs order) → ⊥
       to (k, e) (order, legal) =
-          let f : (topological_sort contours pairs).check ≡ Check.Fine =
-          ap (λ (r : Order). r.check) (sort_answers (legal_acyclic contours pairs order legal)).0 in
+          let f = (sort_answers (legal_acyclic contours pairs order legal)).0 in
           let z : ◌≡◌ {A = ℕ} 0 1 = cc in
           omega arith
 
       from : (((order : List ℕ) × Legal contours pairs order) → ⊥)
-          → (k : ℕ) × ((topological_sort contours pairs).check ≡ Check.Refused (record { number = 12; place = k }))
+          → (k : ℕ) × (topological_sort contours pairs ≡ Err (record { number = 12; place = k }))
       from none = go (search_through (on_cycle contours pairs) contours)
         where
           go : ((k : ℕ) × LowestAt (on_cycle contours pairs) contours k) ⊎ Nowhere (on_cycle contours pairs) contours
-              → (k : ℕ) × ((topological_sort contours pairs).check ≡ Check.Refused (record { number = 12; place = k }))
+              → (k : ℕ) × (topological_sort contours pairs ≡ Err (record { number = 12; place = k }))
           go (inl (k, at)) = (k, sort_refuses k at)
           go (inr no') =
               absurd (none (

@@ -1,19 +1,15 @@
--- How the code lists: one question for both sides of a pair; and for Kahn's order the positions taken and then the
--- queue in one array, the waits in another. Assumes nothing.
-use Rattle.std.specs.Prelude.{Bool, cond, not, List, [], ◌∷◌, ◌≡◌, ℕ, ◌+◌, ◌≤◌, eqb, length, take, drop}
+-- How the code lists: one question for both sides of a pair, with a closure; and for Kahn's order the positions taken
+-- and then the queue in one array, the waits in another. Assumes nothing.
+use Rattle.std.specs.Prelude.{Bool, cond, Option, Some, None, List, [], ◌∷◌, ◌≡◌, ℕ, ◌+◌, ◌≤◌, eqb, length, take, drop}
 use Rattle.closure.specs.Limits.{contour_limit}
-use Rattle.closure.specs.Pairs.{Pair, paired}
+use Rattle.closure.specs.Pairs.{Pair}
 use Rattle.hierarchy.specs.Fill.{Filled}
 use Rattle.hierarchy.specs.Sort.{Kahn}
-use Rattle.hierarchy.specs.Questions.{picked}
 
--- of a pair's two numbers the second, or the first
-abbrev pub side_of : Bool → Pair → ℕ
-side_of second p = cond second p.after p.before
-
--- the numbers on one side of the pairs that have the id on the other
-abbrev pub others_of : Bool → ℕ → List ℕ → List ℕ
-others_of second id pairs = picked (λ p. eqb (side_of (not second) p) id) (side_of second) (paired pairs)
+-- of a pair that passes the test a closure hands out what is picked, and of another none
+abbrev pub Finds : (ℕ → ℕ → Option ℕ → Type 0) → (Pair → Bool) → (Pair → ℕ) → Type 0
+Finds hands_out test pick = (b a : ℕ) (r : Option ℕ) → hands_out b a r →
+    let p : Pair = record { before = b; after = a } in r ≡ cond (test p) (Some (pick p)) None
 
 -- so many of the positions are held back
 unfoldable pub held_count : List ℕ → ℕ

@@ -1,19 +1,15 @@
 -- The questions on a list of pairs: what is refused, with which number and at which place, and what is answered.
 -- Assumes nothing.
 use Rattle.std.specs.Prelude.{Bool, cond, List, [], ◌∷◌, ℕ, ◌+◌, ◌*◌, ◌/◌, ◌%◌, ltb, eqb, length}
-use Rattle.answer.specs.declared.Check.{Check}
+use Rattle.answer.specs.declared.Listed.{Listed}
+use Rattle.answer.specs.Answer.{Answer, Check, Count, unless}
 use Rattle.answer.specs.Stage.{or_else, first_refusal}
 use Rattle.answer.specs.Lowest.{refuse_at, refuse_if}
 use Rattle.closure.specs.Limits.{contour_limit, pair_limit}
 use Rattle.closure.specs.Pairs.{Pair, paired, some_of, is_pair}
 use Rattle.closure.specs.Cycle.{first_on_cycle}
-use Rattle.answer.specs.declared.Count.{Count}
-use Rattle.answer.specs.Count.{count_unless}
-use Rattle.answer.specs.Room.{padded}
-use Rattle.hierarchy.specs.declared.Verdict.{Verdict}
+use Rattle.answer.specs.Room.{padded, listed}
 use Rattle.hierarchy.specs.declared.PairList.{PairList}
-use Rattle.hierarchy.specs.declared.Ids.{Ids}
-use Rattle.hierarchy.specs.declared.Order.{Order}
 use Rattle.keep.specs.Keep.{keeps_pairs}
 use Rattle.hierarchy.specs.Sort.{sorted_by}
 
@@ -37,24 +33,10 @@ valid_check contours pairs ids =
 abbrev pub sort_check : ℕ → List ℕ → Check
 sort_check contours pairs = or_else (pairs_check contours pairs) (refuse_at 12 (first_on_cycle contours pairs))
 
--- ---- answers: a refusal's number and place, or the value
+-- ---- pairs as they are handed out, in a room for the most there are
 
-abbrev pub verdict_of : Check → Bool → Verdict
-verdict_of Check.Fine b = Verdict.Is b
-verdict_of (Check.Refused r) b = Verdict.Refused r
-
--- a refusal's list is empty
-abbrev pub pair_list_of : Check → List ℕ → PairList
-pair_list_of Check.Fine l = record { check = Check.Fine; ids = padded (2 * pair_limit) 0 l; count = length l / 2 }
-pair_list_of (Check.Refused r) l = record { check = Check.Refused r; ids = padded (2 * pair_limit) 0 []; count = 0 }
-
-abbrev pub ids_of : Check → List ℕ → Ids
-ids_of Check.Fine l = record { check = Check.Fine; ids = padded pair_limit 0 l; count = length l }
-ids_of (Check.Refused r) l = record { check = Check.Refused r; ids = padded pair_limit 0 []; count = 0 }
-
-abbrev pub order_of : Check → List ℕ → Order
-order_of Check.Fine l = record { check = Check.Fine; positions = padded contour_limit 0 l; count = length l }
-order_of (Check.Refused r) l = record { check = Check.Refused r; positions = padded contour_limit 0 []; count = 0 }
+abbrev pub pair_list_of : List ℕ → PairList
+pair_list_of l = record { ids = padded (2 * pair_limit) 0 l; count = length l / 2 }
 
 -- ---- the questions
 
@@ -72,29 +54,30 @@ starts_at id p = eqb p.before id
 
 -- how many contours there are
 abbrev pub num_contours : ℕ → List ℕ → Count
-num_contours contours pairs = count_unless (pairs_check contours pairs) contours
+num_contours contours pairs = unless (pairs_check contours pairs) contours
 
 -- the pairs themselves
-abbrev pub precedences_of : ℕ → List ℕ → PairList
-precedences_of contours pairs = pair_list_of (pairs_check contours pairs) pairs
+abbrev pub precedences_of : ℕ → List ℕ → Answer PairList
+precedences_of contours pairs = unless (pairs_check contours pairs) (pair_list_of pairs)
 
 -- cutting a before b breaks a pair that puts b before a
-abbrev pub violates_of : ℕ → List ℕ → ℕ → ℕ → Verdict
-violates_of contours pairs a b = verdict_of (pairs_check contours pairs) (some_of (is_pair b a) (paired pairs))
+abbrev pub violates_of : ℕ → List ℕ → ℕ → ℕ → Answer Bool
+violates_of contours pairs a b = unless (pairs_check contours pairs) (some_of (is_pair b a) (paired pairs))
 
 -- the ids that pairs put before this one
-abbrev pub predecessors_of : ℕ → List ℕ → ℕ → Ids
+abbrev pub predecessors_of : ℕ → List ℕ → ℕ → Answer (Listed ℕ pair_limit)
 predecessors_of contours pairs id =
-    ids_of (pairs_check contours pairs) (picked (ends_at id) (λ p. p.before) (paired pairs))
+    unless (pairs_check contours pairs) (listed pair_limit 0 (picked (ends_at id) (λ p. p.before) (paired pairs)))
 
 -- the ids that pairs put after this one
-abbrev pub successors_of : ℕ → List ℕ → ℕ → Ids
-successors_of contours pairs id = ids_of (pairs_check contours pairs) (picked (starts_at id) (λ p. p.after) (paired pairs))
+abbrev pub successors_of : ℕ → List ℕ → ℕ → Answer (Listed ℕ pair_limit)
+successors_of contours pairs id =
+    unless (pairs_check contours pairs) (listed pair_limit 0 (picked (starts_at id) (λ p. p.after) (paired pairs)))
 
 -- the ids as given keep to the pairs
-abbrev pub valid_sequence : ℕ → List ℕ → List ℕ → Verdict
-valid_sequence contours pairs ids = verdict_of (valid_check contours pairs ids) (keeps_pairs ids pairs)
+abbrev pub valid_sequence : ℕ → List ℕ → List ℕ → Answer Bool
+valid_sequence contours pairs ids = unless (valid_check contours pairs ids) (keeps_pairs ids pairs)
 
 -- the positions in topological order
-abbrev pub topological_sort : ℕ → List ℕ → Order
-topological_sort contours pairs = order_of (sort_check contours pairs) (sorted_by contours pairs)
+abbrev pub topological_sort : ℕ → List ℕ → Answer (Listed ℕ contour_limit)
+topological_sort contours pairs = unless (sort_check contours pairs) (listed contour_limit 0 (sorted_by contours pairs))

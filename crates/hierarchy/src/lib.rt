@@ -1,268 +1,178 @@
 // The questions on a list of pairs, each of which puts one contour before another.
 #![tactic(auto)]
 
-ghost use Rattle.std.specs.Prelude.{◌≡◌, ◌&&◌, eqb, ◌-◌, ◌*◌, ◌≤◌, ◌<◌, length, replicate};
-ghost use Rattle.answer.specs.declared.Check.{Check};
+ghost use Rattle.std.specs.Prelude.{Bool, ℕ, ◌≡◌, ◌&&◌, eqb, ◌-◌, ◌*◌, ◌≤◌, ◌<◌, length, replicate};
+ghost use Rattle.answer.specs.Answer.{unless};
+ghost use Rattle.answer.specs.Room.{listed};
 ghost use Rattle.closure.specs.Limits.{contour_limit, pair_limit};
-ghost use Rattle.closure.specs.Pairs.{paired, some_of, is_pair, both};
+ghost use Rattle.closure.specs.Pairs.{Pair, paired, some_of, is_pair, both};
 ghost use Rattle.keep.specs.Keep.{last_rank, keeps_pairs};
-ghost use Rattle.hierarchy.specs.Questions.{pairs_check, pair_list_of, ids_of, num_contours, precedences_of, violates_of, predecessors_of, successors_of, valid_sequence, order_of, topological_sort};
+ghost use Rattle.hierarchy.specs.Questions.{picked, pairs_check, pair_list_of, num_contours, precedences_of, violates_of, predecessors_of, successors_of, valid_sequence, topological_sort};
 ghost use Rattle.hierarchy.specs.Fill.{Filled};
 ghost use Rattle.hierarchy.specs.Sort.{tallied, free_below, loosened, released, queue_taken, sorted_by};
-ghost use Rattle.hierarchy.specs.Code.{side_of, others_of, standing, HasRoom, Stands};
+ghost use Rattle.hierarchy.specs.Code.{Finds, standing, HasRoom, Stands};
 
-use answer::{Check, Count, Found, Refusal};
+use answer::{Fault, Listed, Refusal};
 use closure::{CONTOURS, PAIRS};
 
-// Yes or no, or why neither.
-#[derive(Clone, Copy)]
-pub enum Verdict {
-    Is(bool),
-    Refused(Refusal),
-}
-
-// Pairs, two ids a pair: the first count pairs of the array, the rest 0.
+// Pairs, two ids a pair: the first count pairs of the array, the rest 0. (No `Listed`: its count is of pairs, its room of ids, which
+// the C interface hands out side by side.)
 #[derive(Clone, Copy)]
 pub struct PairList {
-    pub check: Check,
     pub ids: [u32; 2 * PAIRS],
     pub count: usize,
 }
 
-// Ids: the first count of the array, the rest 0.
-#[derive(Clone, Copy)]
-pub struct Ids {
-    pub check: Check,
-    pub ids: [u32; PAIRS],
-    pub count: usize,
-}
+// Ids, the rest 0.
+pub type Ids = Listed<u32, PAIRS>;
 
-// Positions in order: the first count of the array, the rest 0.
-#[derive(Clone, Copy)]
-pub struct Order {
-    pub check: Check,
-    pub positions: [u32; CONTOURS],
-    pub count: usize,
-}
+// Positions in order, the rest 0.
+pub type Order = Listed<u32, CONTOURS>;
 
 // What every question on pairs refuses first.
-fn check_pairs(contours: usize, pairs: &[u32]) -> Check
+#[tactic(auto, unfolding(crate::specs::Questions::pairs_check, answer::specs::Stage::first_refusal))]
+fn check_pairs(contours: usize, pairs: &[u32]) -> Result<(), Refusal>
     ensures { result ≡ pairs_check contours pairs.now }
 {
     if contours > CONTOURS {
-        return answer::refused(4, 1);
+        return Err(Fault::Field.at(1));
     }
     let whole = pairs.len() / 2;
     let half = pairs.len() % 2;
     if whole + half > PAIRS {
-        return answer::refused(4, 2);
+        return Err(Fault::Field.at(2));
     }
     if half == 1 {
-        return answer::refused(10, whole);
+        return Err(Fault::UnknownId.at(whole));
     }
-    Check::Fine
+    Ok(())
 }
 
 // How many contours there are.
-pub fn num_contours(contours: usize, pairs: &[u32]) -> Count
+pub fn num_contours(contours: usize, pairs: &[u32]) -> Result<usize, Refusal>
     ensures { result ≡ num_contours contours pairs.now }
 {
-    let check = check_pairs(contours, pairs);
-    match check {
-        Check::Fine => Count::Is(contours),
-        Check::Refused(r) => Count::Refused(r),
-    }
+    check_pairs(contours, pairs)?;
+    Ok(contours)
 }
 
 // The pairs copied out.
 fn list_pairs(pairs: &[u32]) -> PairList
     requires { length pairs.now ≤ 2 * pair_limit }
-    ensures { result ≡ pair_list_of Check.Fine pairs.now }
+    ensures { result ≡ pair_list_of pairs.now }
 {
     let mut ids = [0u32; 2 * PAIRS];
-    let mut i = 0;
-    while i < pairs.len() {
-        ids[i] = pairs[i];
-        i += 1;
-    }
+    ids[..pairs.len()].copy_from_slice(pairs);
     PairList {
-        check: Check::Fine,
         ids,
         count: pairs.len() / 2,
     }
 }
 
 // The pairs themselves, in their order.
-pub fn precedences(contours: usize, pairs: &[u32]) -> PairList
+pub fn precedences(contours: usize, pairs: &[u32]) -> Result<PairList, Refusal>
     ensures { result ≡ precedences_of contours pairs.now }
 {
-    let check = check_pairs(contours, pairs);
-    let Check::Fine = check else {
-        return PairList {
-            check,
-            ids: [0u32; 2 * PAIRS],
-            count: 0,
-        };
-    };
-    list_pairs(pairs)
+    check_pairs(contours, pairs)?;
+    Ok(list_pairs(pairs))
 }
 
 // Whether a pair puts the one before the other.
 fn has_pair(pairs: &[u32], before: u32, after: u32) -> bool
     ensures { result ≡ some_of (is_pair before after) (paired pairs.now) }
 {
-    let mut at = 0;
-    while at + 1 < pairs.len() {
-        let b = pairs[at];
-        let a = pairs[at + 1];
-        at += 2;
-        if b == before {
-            if a == after {
-                return true;
-            }
-        }
-    }
-    false
+    pairs
+        .as_chunks::<2>()
+        .0
+        .iter()
+        .any(|&[b, a]| b == before && a == after)
 }
 
 // Whether cutting a before b breaks a pair.
-pub fn violates(contours: usize, pairs: &[u32], a: u32, b: u32) -> Verdict
+pub fn violates(contours: usize, pairs: &[u32], a: u32, b: u32) -> Result<bool, Refusal>
     ensures { result ≡ violates_of contours pairs.now a b }
 {
-    let check = check_pairs(contours, pairs);
-    let Check::Refused(r) = check else {
-        return Verdict::Is(has_pair(pairs, b, a));
-    };
-    Verdict::Refused(r)
+    check_pairs(contours, pairs)?;
+    Ok(has_pair(pairs, b, a))
 }
 
-// Of a pair's two numbers the second, or the first.
-fn side(b: u32, a: u32, second: bool) -> u32
-    ensures { result ≡ side_of second (record { before = b; after = a }) }
+// The numbers that `other` finds in the pairs.
+fn list_others<F: Fn(u32, u32) -> Option<u32>>(pairs: &[u32], other: F) -> Ids
+    requires small { length pairs.now ≤ 2 * pair_limit }
+    requires callable { F.IsAlwaysCallable other }
+    ensures { (test : Pair → Bool) (pick : Pair → ℕ) → Finds (F.post other) test pick → result ≡ listed pair_limit 0 (picked test pick (paired pairs.now)) }
 {
-    if second {
-        return a;
-    }
-    b
-}
-
-// The numbers on one side of the pairs that have the id on the other.
-fn list_others(pairs: &[u32], id: u32, second: bool) -> Ids
-    requires { length pairs.now ≤ 2 * pair_limit }
-    ensures { result ≡ ids_of Check.Fine (others_of second id pairs.now) }
-{
-    let mut ids = [0u32; PAIRS];
+    let mut items = [0u32; PAIRS];
     let mut count = 0;
-    let mut at = 0;
-    while at + 1 < pairs.len() {
-        let b = pairs[at];
-        let a = pairs[at + 1];
-        at += 2;
-        if side(b, a, !second) == id {
-            ids[count] = side(b, a, second);
+    for &[b, a] in pairs.as_chunks::<2>().0 {
+        if let Some(x) = other(b, a) {
+            items[count] = x;
             count += 1;
         }
     }
-    Ids {
-        check: Check::Fine,
-        ids,
-        count,
-    }
+    Listed { items, count }
 }
 
 // The same where the pairs pass the check.
-fn others(contours: usize, pairs: &[u32], id: u32, second: bool) -> Ids
-    ensures { let ps = pairs.now in result ≡ ids_of (pairs_check contours ps) (others_of second id ps) }
+fn others<F: Fn(u32, u32) -> Option<u32>>(
+    contours: usize,
+    pairs: &[u32],
+    other: F,
+) -> Result<Ids, Refusal>
+    requires { F.IsAlwaysCallable other }
+    ensures { (test : Pair → Bool) (pick : Pair → ℕ) → Finds (F.post other) test pick → result ≡ unless (pairs_check contours pairs.now) (listed pair_limit 0 (picked test pick (paired pairs.now))) }
 {
-    let check = check_pairs(contours, pairs);
-    let Check::Fine = check else {
-        return Ids {
-            check,
-            ids: [0u32; PAIRS],
-            count: 0,
-        };
-    };
-    list_others(pairs, id, second)
+    check_pairs(contours, pairs)?;
+    Ok(list_others(pairs, other))
 }
 
 // The ids that pairs put before this one, in the order of the pairs, repeats kept.
-pub fn predecessors(contours: usize, pairs: &[u32], id: u32) -> Ids
+pub fn predecessors(contours: usize, pairs: &[u32], id: u32) -> Result<Ids, Refusal>
     ensures { result ≡ predecessors_of contours pairs.now id }
 {
-    others(contours, pairs, id, false)
+    others(contours, pairs, |b, a| if a == id { Some(b) } else { None })
 }
 
 // The ids that pairs put after this one, in the order of the pairs, repeats kept.
-pub fn successors(contours: usize, pairs: &[u32], id: u32) -> Ids
+pub fn successors(contours: usize, pairs: &[u32], id: u32) -> Result<Ids, Refusal>
     ensures { result ≡ successors_of contours pairs.now id }
 {
-    others(contours, pairs, id, true)
+    others(contours, pairs, |b, a| if b == id { Some(a) } else { None })
 }
 
 // The last rank of an id, counted from 1; 0 where it is not there.
 fn last_rank(ids: &[u32], id: u32) -> usize
     ensures { result ≡ last_rank ids.now id }
 {
-    let mut met = 0;
-    let mut i = 0;
-    while i < ids.len() {
-        let x = ids[i];
-        i += 1;
-        if x == id {
-            met = i;
-        }
-    }
-    met
+    ids.iter().rposition(|&x| x == id).map_or(0, |i| i + 1)
 }
 
 // Whether ids as given keep to the pairs, going by last ranks.
 fn keeps_ids(ids: &[u32], pairs: &[u32]) -> bool
     ensures { result ≡ keeps_pairs ids.now pairs.now }
 {
-    let mut at = 0;
-    while at + 1 < pairs.len() {
-        let b = last_rank(ids, pairs[at]);
-        let a = last_rank(ids, pairs[at + 1]);
-        if !keep::kept_at(b, a) {
-            return false;
-        }
-        at += 2;
-    }
-    true
+    pairs.as_chunks::<2>().0.iter().all(|&[b, a]| keep::kept_at(
+        last_rank(ids, b),
+        last_rank(ids, a),
+    ))
 }
 
 // Whether a sequence of ids keeps to the pairs.
-pub fn is_valid_sequence(contours: usize, pairs: &[u32], ids: &[u32]) -> Verdict
+pub fn is_valid_sequence(contours: usize, pairs: &[u32], ids: &[u32]) -> Result<bool, Refusal>
     ensures { result ≡ valid_sequence contours pairs.now ids.now }
 {
-    let check = check_pairs(contours, pairs);
-    let Check::Refused(r) = check else {
-        if ids.len() > CONTOURS {
-            return Verdict::Refused(Refusal {
-                number: 15,
-                place: ids.len(),
-            });
-        }
-        return Verdict::Is(keeps_ids(ids, pairs));
-    };
-    Verdict::Refused(r)
-}
-
-// A number of 32 bits as an index.
-fn wide32(x: u32) -> usize
-    ensures { result ≡ x }
-{
-    x as usize
+    check_pairs(contours, pairs)?;
+    if ids.len() > CONTOURS {
+        return Err(Fault::Order.at(ids.len()));
+    }
+    Ok(keeps_ids(ids, pairs))
 }
 
 // Whether both positions of a pair are below n.
 fn both_below(b: u32, a: u32, n: usize) -> bool
     ensures { result ≡ both n (record { before = b; after = a }) }
 {
-    if wide32(b) < n {
-        return wide32(a) < n;
-    }
-    false
+    (b as usize) < n && (a as usize) < n
 }
 
 // How many pairs hold each position back.
@@ -271,14 +181,9 @@ fn tally(pairs: &[u32], n: usize) -> [usize; CONTOURS]
     ensures { result ≡ tallied n (paired pairs.now) (replicate contour_limit 0) }
 {
     let mut waits = [0usize; CONTOURS];
-    let mut at = 0;
-    while at + 1 < pairs.len() {
-        let b = pairs[at];
-        let a = pairs[at + 1];
-        at += 2;
+    for &[b, a] in pairs.as_chunks::<2>().0 {
         if both_below(b, a, n) {
-            let k = wide32(a);
-            waits[k] += 1;
+            waits[a as usize] += 1;
         }
     }
     waits
@@ -290,27 +195,13 @@ fn list_free(waits: &[usize; CONTOURS], n: usize, order: &mut [u32; CONTOURS]) -
     ensures { Filled contour_limit order.new result (free_below waits.now n) }
 {
     let mut count = 0;
-    let mut k = 0;
-    while k < n {
-        let w = waits[k];
-        let position = k as u32;
-        k += 1;
-        if w == 0 {
-            order[count] = position;
+    for k in 0..n {
+        if waits[k] == 0 {
+            order[count] = k as u32;
             count += 1;
         }
     }
     count
-}
-
-// One less; 0 stays 0.
-fn less(w: usize) -> usize
-    ensures { result ≡ w - 1 }
-{
-    if w == 0 {
-        return 0;
-    }
-    w - 1
 }
 
 // One pair less holds a back; where it was the last one, a joins the queue.
@@ -329,7 +220,7 @@ fn loosen(
         order[count] = a as u32;
         return count + 1;
     }
-    waits[a] = less(w);
+    waits[a] = w.saturating_sub(1);
     count
 }
 
@@ -337,10 +228,7 @@ fn loosen(
 fn counts(b: u32, a: u32, x: u32, n: usize) -> bool
     ensures { result ≡ (eqb b x && both n (record { before = b; after = a })) }
 {
-    if b != x {
-        return false;
-    }
-    both_below(b, a, n)
+    b == x && both_below(b, a, n)
 }
 
 // x's pairs hold nothing back any more.
@@ -356,13 +244,9 @@ fn release(
     ensures { Stands (released n x (paired pairs.now) (standing waits.old order.old before)) waits.new order.new result }
 {
     let mut count = before;
-    let mut at = 0;
-    while at + 1 < pairs.len() {
-        let b = pairs[at];
-        let a = pairs[at + 1];
-        at += 2;
+    for &[b, a] in pairs.as_chunks::<2>().0 {
         if counts(b, a, x, n) {
-            count = loosen(wide32(a), waits, order, count);
+            count = loosen(a as usize, waits, order, count);
         }
     }
     count
@@ -380,6 +264,7 @@ fn take_queue(
     ensures { Filled contour_limit order.new result (queue_taken contour_limit n (paired pairs.now) (standing waits.old order.old free)).taken }
 {
     let mut count = free;
+    // (No `for`: the queue grows while it is taken.)
     let mut i = 0;
     while i < count {
         let x = order[i];
@@ -392,38 +277,22 @@ fn take_queue(
 // The topological order of n positions between which there is no cycle.
 fn sorted(n: usize, pairs: &[u32]) -> Order
     requires { n ≤ contour_limit }
-    ensures { result ≡ order_of Check.Fine (sorted_by n pairs.now) }
+    ensures { result ≡ listed contour_limit 0 (sorted_by n pairs.now) }
 {
     let mut waits = tally(pairs, n);
-    let mut order = [0u32; CONTOURS];
-    let free = list_free(&waits, n, &mut order);
-    let count = take_queue(pairs, n, &mut waits, &mut order, free);
-    Order {
-        check: Check::Fine,
-        positions: order,
-        count,
-    }
+    let mut items = [0u32; CONTOURS];
+    let free = list_free(&waits, n, &mut items);
+    let count = take_queue(pairs, n, &mut waits, &mut items, free);
+    Listed { items, count }
 }
 
 // The positions in topological order; refused at the lowest position on a cycle.
-pub fn topological_sort(contours: usize, pairs: &[u32]) -> Order
+pub fn topological_sort(contours: usize, pairs: &[u32]) -> Result<Order, Refusal>
     ensures { result ≡ topological_sort contours pairs.now }
 {
-    let check = check_pairs(contours, pairs);
-    let Check::Fine = check else {
-        return Order {
-            check,
-            positions: [0u32; CONTOURS],
-            count: 0,
-        };
-    };
-    let found = closure::first_on_cycle_wide(contours, pairs);
-    let Found::At(k) = found else {
-        return sorted(contours, pairs);
-    };
-    Order {
-        check: answer::refused(12, k),
-        positions: [0u32; CONTOURS],
-        count: 0,
+    check_pairs(contours, pairs)?;
+    if let Some(k) = closure::first_on_cycle_wide(contours, pairs) {
+        return Err(Fault::Cycle.at(k));
     }
+    Ok(sorted(contours, pairs))
 }

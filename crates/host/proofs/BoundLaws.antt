@@ -1,9 +1,9 @@
 -- How large the place of a refusal can be: the card's own and 13's are the length at most, of which one more than the
 -- longest card's is told if it is larger. Assumes nothing.
+use Rattle.std.specs.Prelude.{Err, Ok}
 use Rattle.std.proofs.Common.{◌≡◌, ℕ, ◌+◌, ◌*◌, ◌<◌, ◌≤◌, Bool, true, false, ltb, List, [], ◌∷◌, length, sym, refl, ap, ◌∙◌, inr, arith, lit<, ltb-false, ltb-true}
 use lib.Ieee.{Float}
-use Rattle.answer.specs.declared.Check.{Check}
-use Rattle.answer.specs.declared.Check.TheVariants.{Fine, Refused}
+use Rattle.answer.specs.Answer.{Check}
 use Rattle.answer.specs.declared.Refusal.{Refusal}
 use Rattle.answer.specs.Stage.{first_refusal}
 use Rattle.answer.specs.Lowest.{refuse_if}
@@ -19,7 +19,6 @@ use Rattle.card_laws.proofs.Verdicts.{exactly}
 use Rattle.table.proofs.PlaceLaws.{square_small}
 use Rattle.instance.proofs.FineLaws.{few_candidates}
 use Rattle.instance.specs.Search.{count_on}
-use Rattle.tour.specs.declared.Toured.TheVariants as answer
 use Rattle.tour.specs.Tour.{Left, room_check, tour_check_within, toured, toured_unless, tour_of, tour_within}
 
 not-above : (most n : ℕ) → (most < n → ⊥) → n ≤ most
@@ -56,7 +55,7 @@ module _ (s : List ℕ) where
   given_near (eleven past row) = omega (arith, few_pairs past.0.0.0.0.0.0.0.1, row.within)
   given_near (twelve past row) = omega (arith, few_contours past.0.0.0.0.0.0.0.0.1, row.within)
 
-  pub check_near : (r : Refusal) → check_of s ≡ Refused r → r.place ≤ card_bytes + 1
+  pub check_near : (r : Refusal) → check_of s ≡ Err r → r.place ≤ card_bytes + 1
   check_near r e = given_near ((exactly s).refused_only r e)
 
   module _ (room : List ℕ) (table : List Float) where
@@ -73,21 +72,21 @@ module _ (s : List ℕ) where
     is_whole = refl
 
     -- and 13
-    near : (c : Check) (a b : Bool) → check_of s ≡ c → (r : Refusal) → (whole c a b).answer ≡ answer.Refused r
+    near : (c : Check) (a b : Bool) → check_of s ≡ c → (r : Refusal) → (whole c a b).answer ≡ Err r
         → r.place ≤ card_bytes + 1
     unfolding whole first_refusal
-    near (Refused q) a b e r h = let f : q ≡ r = cc in check_near r (e ∙ ap Refused f)
-    near Fine true b e r h =
+    near (Err q) a b e r h = let f : q ≡ r = cc in check_near r (e ∙ ap Err f)
+    near (Ok _) true b e r h =
         let f : record { number = 13; place = contours_of s } ≡ r = cc in
         let p : contours_of s ≡ r.place = ap (λ (z : Refusal). z.place) f in
         omega (arith, (accepted s e).few_contours)
-    near Fine false true e r h =
+    near (Ok _) false true e r h =
         let f : record { number = 13; place = count_on s * count_on s } ≡ r = cc in
         let p : count_on s * count_on s ≡ r.place = ap (λ (z : Refusal). z.place) f in
         omega (arith, square_small (count_on s) (few_candidates s e))
-    near Fine false false e r h = let z : ◌≡◌ {A = ℕ} 0 1 = cc in absurd (omega arith)
+    near (Ok _) false false e r h = let z : ◌≡◌ {A = ℕ} 0 1 = cc in absurd (omega arith)
 
-    pub tour_near : (r : Refusal) → (tour_of s room table).answer ≡ answer.Refused r → r.place ≤ card_bytes + 1
+    pub tour_near : (r : Refusal) → (tour_of s room table).answer ≡ Err r → r.place ≤ card_bytes + 1
     tour_near r h =
         near (check_of s) (ltb (length room) (contours_of s)) (ltb (length table) (count_on s * count_on s)) refl r
         (ap (λ (l : Left). l.answer) (sym is_whole) ∙ h)

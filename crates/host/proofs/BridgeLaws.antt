@@ -1,30 +1,19 @@
 -- How bridges come to stand in a host's room, one at a time. Assumes nothing.
-use Rattle.std.proofs.Common.{◌≡◌, ℕ, suc, ◌+◌, ◌*◌, ◌<◌, List, [], ◌∷◌, ◌++◌, length, get_or, take, set, sym, refl, ap, ◌∙◌, append_assoc, append-nil, add-one, arith, length-take-le, take-suc}
-use lib.Seq.{sets}
+use Rattle.std.proofs.Common.{◌≡◌, ℕ, suc, ◌+◌, ◌*◌, ◌<◌, ◌≤◌, List, [], ◌∷◌, ◌++◌, length, get_or, take, drop, set, sym, refl, ap, ◌∙◌, append_assoc, append-nil, add-one, arith, length-take-le, take-suc}
+use lib.Seq.{sets, sets-eq, drop-drop}
 use lib.Ieee.{Float, nan}
-use Rattle.answer.specs.declared.Refusal.{Refusal}
-use Rattle.answer.specs.declared.Check.TheVariants.{Fine, Refused}
-use Rattle.answer.specs.Code.{code_of}
 use Rattle.points.specs.Points.{nowhere}
 use Rattle.bridge.specs.declared.Bridge.{Bridge}
-use Rattle.bridge.specs.declared.Bridges.{Bridges}
-use Rattle.bridge.specs.Question.{bridges_of}
-use Rattle.host.specs.Bridges.{eight_of, numbers_of, spanned, host_bridges}
+use Rattle.host.specs.Bridges.{eight_of, numbers_of}
 
--- eight stores in a row
-pub eight_stores : (l : List Float) (at : ℕ) (a b c d e f g h : Float)
-    → set (set (set (set (set (set (set (set l at a) (at + 1) b) (at + 2) c) (at + 3) d) (at + 4) e) (at + 5) f)
-    (at + 6) g) (at + 7) h
-    ≡ sets l at (a ∷ b ∷ c ∷ d ∷ e ∷ f ∷ g ∷ h ∷ [])
-eight_stores l at a b c d e f g h =
-    let e1 : at + 1 ≡ suc at = omega arith in
-    let e2 : at + 2 ≡ suc (suc at) = omega arith in
-    let e3 : at + 3 ≡ suc (suc (suc at)) = omega arith in
-    let e4 : at + 4 ≡ suc (suc (suc (suc at))) = omega arith in
-    let e5 : at + 5 ≡ suc (suc (suc (suc (suc at)))) = omega arith in
-    let e6 : at + 6 ≡ suc (suc (suc (suc (suc (suc at))))) = omega arith in
-    let e7 : at + 7 ≡ suc (suc (suc (suc (suc (suc (suc at)))))) = omega arith in
-    rw (e1, e2, e3, e4, e5, e6, e7)
+-- numbers copied over as many, from a place on
+pub copied_over : (l after xs : List Float) (at n : ℕ) → n ≡ length xs → at + length xs ≤ length l → after ≡ xs
+    → take at l ++ (after ++ drop n (drop at l)) ≡ sets l at xs
+copied_over l after xs at n many fits e =
+    (λ i. take at l ++ (e i ++ drop (many i) (drop at l)))
+    ∙ ap (λ (r : List Float). take at l ++ (xs ++ r)) (drop-drop (length xs) at l)
+    ∙ sym (append_assoc (take at l) xs (drop (at + length xs) l))
+    ∙ sym (sets-eq xs l at fits)
 
 -- stores behind stores
 pub sets_more : (l : List Float) (i n : ℕ) (xs ys : List Float) → i + length xs ≡ n
@@ -71,18 +60,3 @@ stood_more items before room k b h e s =
     ∙ ap (λ (l : List Bridge). sets before 0 (numbers_of l))
     (ap (λ (x : Bridge). front ++ (x ∷ [])) e ∙ sym (take-suc items k no_bridge h)
     ∙ ap (λ (i : ℕ). take i items) (sym (add-one k)))
-
--- ---- how they are told
-
-module _ (numbers : List Float) (width : Float) (centres room : List Float) (a : Bridges)
-    (is : a ≡ bridges_of numbers width centres) where
-  pub bridges_refused : (r : Refusal) (x : ℕ) → a.check ≡ Refused r → x ≡ code_of (Refused r)
-      → spanned x room ≡ host_bridges numbers width centres room
-  unfolding host_bridges
-  bridges_refused r x c e = rw (← is, c, e)
-
-  pub bridges_fine : (after : List Float) → a.check ≡ Fine
-      → after ≡ sets room 0 (numbers_of (take a.count a.items))
-      → spanned 0 after ≡ host_bridges numbers width centres room
-  unfolding host_bridges
-  bridges_fine after c e = rw (← is, c, e)

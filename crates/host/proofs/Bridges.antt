@@ -1,13 +1,11 @@
 -- What a host's room holds after a call for bridges. Assumes nothing.
-use Rattle.std.proofs.Common.{◌≡◌, ℕ, zero, suc, ◌+◌, ◌*◌, ◌/◌, ◌<◌, ◌≤◌, Bool, true, false, ltb, ◌↔◌, List, [], ◌∷◌, ◌++◌, length, get_or, drop, sym, refl, ap, ◌∙◌, le_of_suc-le-suc, not-suc-le-zero, zero-add, arith, lit<}
+use Rattle.std.specs.Prelude.{Err, None, Ok, Some}
+use Rattle.std.proofs.Common.{◌≡◌, ℕ, zero, suc, ◌+◌, ◌*◌, ◌/◌, ◌<◌, ◌≤◌, Bool, true, false, ltb, ◌↔◌, List, [], ◌∷◌, ◌++◌, length, get_or, drop, refl, ap, ◌∙◌, le_of_suc-le-suc, not-suc-le-zero, zero-add, arith, lit<}
 use lib.ListN.{get_or-append}
 use lib.Seq.{sets, sets-eq}
 use lib.Ieee.{Float, nan, lt}
 use Rattle.answer.specs.declared.Refusal.{Refusal}
-use Rattle.answer.specs.declared.Check.{Check}
-use Rattle.answer.specs.declared.Check.TheVariants.{Fine, Refused}
-use Rattle.answer.specs.declared.Found.{Found}
-use Rattle.answer.specs.declared.Found.TheVariants.{At, Absent}
+use Rattle.answer.specs.Answer.{Check, Found, unless}
 use Rattle.answer.specs.Lowest.{refuse_at, refuse_if}
 use Rattle.answer.specs.Stage.{or_else, first_refusal}
 use Rattle.answer.specs.Code.{code_of}
@@ -19,15 +17,14 @@ use Rattle.points.specs.Numbers.{tiny}
 use Rattle.candidates.specs.Along.{perimeter_of}
 use Rattle.candidates.specs.Question.{outside, contour_check}
 use Rattle.bridge.specs.declared.Bridge.{Bridge}
-use Rattle.bridge.specs.declared.Bridges.{Bridges}
 use Rattle.bridge.specs.Limits.{bridge_limit}
 use Rattle.bridge.specs.Lookup.{marks}
 use Rattle.bridge.specs.Create.{bridge_at, bridges_at, blank}
-use Rattle.bridge.specs.Question.{half_of, bad_width, first_off, after_width, way_check, bridge_check, bridges_of}
+use Rattle.bridge.specs.Question.{half_of, bad_width, first_off, after_width, way_check, bridge_check, filled, bridges_of}
 use Rattle.bridge.proofs.FillLaws.{bridges_length, bridges_at_lem}
 use Rattle.bridge.proofs.QuestionLaws.{fine_few}
-use Rattle.bridge.proofs.AnswerLaws.{checked, items_front}
-use Rattle.host.specs.Bridges.{bridge_numbers, eight_of, numbers_of, Spanned, spanned, host_bridges, Claim}
+use Rattle.bridge.proofs.AnswerLaws.{accepted, items_front}
+use Rattle.host.specs.Bridges.{bridge_numbers, eight_of, numbers_of, Spanned, spanned, bridges_told, host_bridges, Claim}
 use Rattle.host.proofs.BridgeLaws.{numbers_length}
 
 -- stored from the first entry on: the front written, the rest kept
@@ -55,39 +52,39 @@ number_at (x ∷ l) (suc i) j b h g =
 -- ---- no refusal of bridges has number 0
 
 abbrev Numbered : Check → Type 0
-Numbered Fine = Unit {0}
-Numbered (Refused r) = 0 < r.number
+Numbered (Ok _) = Unit {0}
+Numbered (Err r) = 0 < r.number
 
 both_numbered : (a b : Check) → Numbered a → Numbered b → Numbered (or_else a b)
-both_numbered Fine b n m = m
-both_numbered (Refused r) b n m = n
+both_numbered (Ok _) b n m = m
+both_numbered (Err r) b n m = n
 
 if_numbered : (b : Bool) (number place : ℕ) → 0 < number → Numbered (refuse_if b number place)
 if_numbered true number place h = h
 if_numbered false number place h = tt
 
 at_numbered : (f : Found) (number : ℕ) → 0 < number → Numbered (refuse_at number f)
-at_numbered (At k) number h = h
-at_numbered Absent number h = tt
+at_numbered (Some k) number h = h
+at_numbered None number h = tt
 
 contour_numbered : (numbers : List Float) → Numbered (contour_check numbers)
 unfolding contour_check first_refusal
 contour_numbered numbers =
     let v = (length numbers + 1) / 2 in
     let bad = refuse_at 8 (first_bad numbers v) in
-    both_numbered (refuse_if (outside vertex_limit v) 6 v) (or_else bad Fine)
+    both_numbered (refuse_if (outside vertex_limit v) 6 v) (or_else bad (Ok tt))
     (if_numbered (outside vertex_limit v) 6 v (lit< tt))
-    (both_numbered bad Fine (at_numbered (first_bad numbers v) 8 (lit< tt)) tt)
+    (both_numbered bad (Ok tt) (at_numbered (first_bad numbers v) 8 (lit< tt)) tt)
 
 way_numbered : (whole width : Float) (centres : List Float) → Numbered (way_check whole width centres)
 unfolding way_check first_refusal
 way_numbered whole width centres =
     let off = after_width (first_off whole centres) in
-    let last = or_else (refuse_at 18 off) Fine in
+    let last = or_else (refuse_at 18 off) (Ok tt) in
     both_numbered (refuse_if (lt whole tiny) 18 0) (or_else (refuse_if (bad_width whole width) 18 1) last)
     (if_numbered (lt whole tiny) 18 0 (lit< tt))
     (both_numbered (refuse_if (bad_width whole width) 18 1) last (if_numbered (bad_width whole width) 18 1 (lit< tt))
-    (both_numbered (refuse_at 18 off) Fine (at_numbered off 18 (lit< tt)) tt))
+    (both_numbered (refuse_at 18 off) (Ok tt) (at_numbered off 18 (lit< tt)) tt))
 
 bridges_numbered : (numbers : List Float) (width : Float) (centres : List Float)
     → Numbered (bridge_check numbers width centres)
@@ -99,22 +96,15 @@ bridges_numbered numbers width centres =
     (both_numbered (contour_check numbers) way (contour_numbered numbers)
     (way_numbered (perimeter_of (points numbers)) width centres))
 
-zero_fine : (c : Check) → Numbered c → code_of c ≡ 0 → c ≡ Fine
-zero_fine Fine n e = refl
-zero_fine (Refused r) n e = absurd (omega arith)
-
 -- ---- what is told
 
 module _ (numbers : List Float) (width : Float) (centres room : List Float) (whole : length room ≡ bridge_numbers) where
   abbrev all : List Bridge
   all = bridges_at (points numbers) (marks (points numbers)) (half_of width) centres
 
-  abbrev a : Bridges
-  a = bridges_of numbers width centres
-
-  module _ (fine : bridge_check numbers width centres ≡ Fine) where
-    check : a.check ≡ Fine
-    check = checked numbers width centres ∙ fine
+  module _ (fine : bridge_check numbers width centres ≡ Ok tt) where
+    given : bridges_of numbers width centres ≡ Ok (filled all)
+    given = accepted numbers width centres fine
 
     count : length all ≡ length centres
     count = bridges_length (points numbers) (marks (points numbers)) (half_of width) centres centres
@@ -122,7 +112,7 @@ module _ (numbers : List Float) (width : Float) (centres room : List Float) (who
     told_fine : host_bridges numbers width centres room ≡ spanned 0 (placed (numbers_of all) room)
     unfolding host_bridges
     told_fine =
-        rw (check, items_front numbers width centres a refl check)
+        rw (given, items_front numbers width centres (filled all) given)
         (ap (λ (r : List Float). spanned 0 r)
         (front (numbers_of all) room
         (omega (arith, numbers_length all, count, fine_few numbers width centres fine))))
@@ -138,18 +128,18 @@ module _ (numbers : List Float) (width : Float) (centres room : List Float) (who
         ∙ ap (λ (b : Bridge). get_or (eight_of b) j nan)
         (bridges_at_lem (points numbers) (marks (points numbers)) (half_of width) centres i blank h)
 
-  told_good : ((host_bridges numbers width centres room).answer ≡ 0) ↔ (bridge_check numbers width centres ≡ Fine)
-  unfolding host_bridges
-  told_good = (
-    λ e. zero_fine (bridge_check numbers width centres) (bridges_numbered numbers width centres)
-        (ap code_of (sym (checked numbers width centres)) ∙ e),
-    λ e. ap code_of (checked numbers width centres ∙ e),
-  )
+  told_good : ((host_bridges numbers width centres room).answer ≡ 0) ↔ (bridge_check numbers width centres ≡ Ok tt)
+  unfolding host_bridges bridges_of
+  told_good = (good (bridge_check numbers width centres) (bridges_numbered numbers width centres), λ e. rw e)
+    where
+      good : (c : Check) → Numbered c → (bridges_told (unless c (filled all)) room).answer ≡ 0 → c ≡ Ok (tt {0})
+      good (Ok _) n e = refl
+      good (Err r) n e = absurd (omega arith)
 
-  told-refused : (r : Refusal) → bridge_check numbers width centres ≡ Refused r
-      → host_bridges numbers width centres room ≡ spanned (code_of (Refused r)) room
-  unfolding host_bridges
-  told-refused r e = rw (checked numbers width centres ∙ e)
+  told-refused : (r : Refusal) → bridge_check numbers width centres ≡ Err r
+      → host_bridges numbers width centres room ≡ spanned (code_of (Err r)) room
+  unfolding host_bridges bridges_of
+  told-refused r e = rw e
 
 pub claim : Claim
 claim numbers width centres room whole = record {

@@ -1,9 +1,11 @@
 -- The exports answer as the tour's question does. Assumes nothing.
+use Rattle.std.specs.Prelude.{Err, Ok}
 use Rattle.std.proofs.Common.{◌≡◌, ℕ, ◌+◌, ◌-◌, ◌*◌, ◌%◌, ◌^◌, ◌<◌, ◌≤◌, min, Bool, true, false, ltb, List, [], ◌∷◌, length, sym, refl, ap, ◌∙◌, subst, true≢false, arith, le-ltb, le-leb}
 use borrow.Author.Tests.{lt-leb}
 use lib.Ieee.{Float}
-use Rattle.answer.specs.declared.Check.{Check}
-use Rattle.answer.specs.declared.Check.TheVariants.{Fine, Refused}
+use Rattle.answer.specs.Answer.{Answer, Check}
+use Rattle.questions.specs.declared.Local.{Local}
+use Rattle.solve.specs.declared.Outcome.{Outcome}
 use Rattle.answer.specs.declared.Refusal.{Refusal}
 use Rattle.answer.specs.Code.{code_of}
 use Rattle.answer.specs.Stage.{first_refusal}
@@ -18,12 +20,8 @@ use Rattle.card_laws.proofs.Verdicts.{exactly}
 use Rattle.table.proofs.PlaceLaws.{square_small}
 use Rattle.instance.proofs.FineLaws.{few_candidates}
 use Rattle.instance.specs.Search.{count_on}
-use Rattle.questions.specs.declared.Located.{Located}
-use Rattle.questions.specs.declared.Located.TheVariants as located
 use Rattle.questions.specs.Index.{number_check, located_of}
 use Rattle.questions.proofs.IndexLaws.{place_refused}
-use Rattle.tour.specs.declared.Toured.{Toured}
-use Rattle.tour.specs.declared.Toured.TheVariants as answer
 use Rattle.tour.specs.Tour.{tour_of}
 use Rattle.host.specs.Hosts.{Hosted, host_check, hosted_unless, host_tour, host_place}
 use Rattle.host.specs.Exports.{as_told, Coded, TourTold, Decodes, CardRead, NumberRead, Claim}
@@ -34,13 +32,13 @@ module _ (s room : List ℕ) (table : List Float) (moves bits : ℕ) where
   host : Check → Bool → Hosted
   host c a = hosted_unless (first_refusal (c ∷ refuse_if a 13 (contours_of s) ∷ [])) s room moves bits
 
-  same : (c : Check) (a b : Bool) → (c ≡ Fine → b ≡ false)
+  same : (c : Check) (a b : Bool) → (c ≡ Ok tt → b ≡ false)
       → host c a ≡ as_told (whole s room table c a b).answer (whole s room table c a b).room moves bits
   unfolding host whole first_refusal
-  same (Refused q) a b h = refl
-  same Fine true b h = refl
-  same Fine false true h = absurd (true≢false (h refl))
-  same Fine false false h = refl
+  same (Err q) a b h = refl
+  same (Ok _) true b h = refl
+  same (Ok _) false true h = absurd (true≢false (h refl))
+  same (Ok _) false false h = refl
 
   host_is : host_tour s room moves bits ≡ host (check_of s) (ltb (length room) (contours_of s))
   unfolding host host_tour host_check
@@ -64,15 +62,15 @@ some_number (ten past row) = omega arith
 some_number (eleven past row) = omega arith
 some_number (twelve past row) = omega arith
 
-zero_fine : (s : List ℕ) (c : Check) → check_of s ≡ c → code_of (check_of s) ≡ 0 → check_of s ≡ Fine
-zero_fine s Fine e z = e
-zero_fine s (Refused r) e z =
-    let code : code_of (Refused r) ≡ 0 = sym (ap code_of e) ∙ z in
+zero_fine : (s : List ℕ) (c : Check) → check_of s ≡ c → code_of (check_of s) ≡ 0 → check_of s ≡ Ok tt
+zero_fine s (Ok _) e z = e
+zero_fine s (Err r) e z =
+    let code : code_of (Err r) ≡ 0 = sym (ap code_of e) ∙ z in
     let some = some_number ((exactly s).refused_only r e) in
     let n = code-number r in
     absurd (omega arith)
 
-place_cut : (r : Refusal) → code_of (Refused r) % 2 ^ 32 ≡ min r.place (2 ^ 32 - 1)
+place_cut : (r : Refusal) → code_of (Err r) % 2 ^ 32 ≡ min r.place (2 ^ 32 - 1)
 place_cut r = omega arith
 
 coded : Coded
@@ -95,18 +93,18 @@ toured_so s room table moves bits large =
 -- ---- read back
 
 -- a place that is not beyond the longest card's is held whole
-holds : (r : Refusal) → r.place ≤ card_bytes + 1 → Decodes (code_of (Refused r)) r
+holds : (r : Refusal) → r.place ≤ card_bytes + 1 → Decodes (code_of (Err r)) r
 holds r near = record { number = code-number r; place = code_place r (omega arith) }
 
 -- where the tour is refused, the host is told that refusal
-tour-code : (t : Toured) (room : List ℕ) (moves bits : ℕ) (r : Refusal) → t ≡ answer.Refused r
-    → (as_told t room moves bits).answer ≡ code_of (Refused r)
-tour-code t room moves bits r e = ap (λ (z : Toured). (as_told z room moves bits).answer) e
+tour-code : (t : Answer Outcome) (room : List ℕ) (moves bits : ℕ) (r : Refusal) → t ≡ Err r
+    → (as_told t room moves bits).answer ≡ code_of (Err r)
+tour-code t room moves bits r e = ap (λ (z : Answer Outcome). (as_told z room moves bits).answer) e
 
 -- and so where a candidate's place is
-place_code : (l : Located) (contour within : ℕ) (r : Refusal) → located.Refused r ≡ l
-    → (host_place l contour within).answer ≡ code_of (Refused r)
-place_code l contour within r e = ap (λ (z : Located). (host_place z contour within).answer) (sym e)
+place_code : (l : Answer Local) (contour within : ℕ) (r : Refusal) → Err r ≡ l
+    → (host_place l contour within).answer ≡ code_of (Err r)
+place_code l contour within r e = ap (λ (z : Answer Local). (host_place z contour within).answer) (sym e)
 
 module _ (s : List ℕ) where
   card_read_lem : CardRead s
@@ -125,7 +123,7 @@ module _ (s : List ℕ) where
         (holds r (check_near s r e));
   }
 
-  module _ (fine : check_of s ≡ Fine) (candidate contour within : ℕ) where
+  module _ (fine : check_of s ≡ Ok tt) (candidate contour within : ℕ) where
     some_candidate : candidate < count_on s → (host_place (located_of s candidate) contour within).answer ≡ 0
     unfolding located_of number_check first_refusal
     some_candidate h = rw (fine, lt-leb (count_on s) candidate h)

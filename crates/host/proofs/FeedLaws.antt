@@ -1,25 +1,19 @@
 -- A feed's state as one number: one for one, and never larger than a host's number holds; what the calls left behind is
 -- what a host is told. Assumes nothing.
+use Rattle.std.specs.Prelude.{Err, Ok}
 use Rattle.std.proofs.Common.{◌≡◌, ℕ, zero, suc, ◌/◌, ◌%◌, ◌^◌, ◌<◌, ◌≤◌, Bool, true, false, eqb, List, length, replicate, sym, refl, ap, ◌∙◌, arith}
 use lib.Ieee.{Float, to_bits, binary64}
-use Rattle.answer.specs.declared.Check.{Check}
-use Rattle.answer.specs.declared.Check.TheVariants.{Fine, Refused}
+use Rattle.answer.specs.Answer.{Answer, Check, Count}
 use Rattle.answer.specs.declared.Refusal.{Refusal}
-use Rattle.answer.specs.declared.Count.TheVariants as count
 use Rattle.answer.specs.Code.{code_of}
 use Rattle.points.specs.Numbers.{zero64}
 use Rattle.table.specs.Distances.{entry_limit}
 use Rattle.solve.specs.declared.Outcome.{Outcome}
-use Rattle.tour.specs.declared.Toured.{Toured}
-use Rattle.tour.specs.declared.Toured.TheVariants as answer
 use Rattle.feed.specs.declared.Feed.{Feed}
-use Rattle.feed.specs.declared.Fed.{Fed}
-use Rattle.feed.specs.declared.Asked.{Asked}
 use Rattle.feed.specs.Feed.{piece_check, Stored, stored, stored_unless, add_of, ask_check, Reply, reply, reply_unless, ask_of}
 use Rattle.host.specs.Hosts.{hosted}
 use Rattle.host.specs.Exports.{as_told}
-use Rattle.host.specs.Feeds.{bit_of, number_of, state_of, host_fed, count_told, fed_as, host_feed, host_asked, host_ask}
-use Rattle.host.specs.Feeds.{asked_as}
+use Rattle.host.specs.Feeds.{bit_of, number_of, state_of, host_asked, asked_as, host_ask}
 
 -- ---- one for one
 
@@ -63,8 +57,8 @@ unfolding add_of
 added_small f held piece h = go (piece_check f (length piece) (length held))
   where
     go : (c : Check) → (stored_unless c f held piece).feed.kept < 2 ^ 62
-    go Fine = omega arith
-    go (Refused r) = h
+    go (Ok _) = omega arith
+    go (Err r) = h
 
 -- an asking keeps as many
 asked_same : (f : Feed) (held room : List ℕ) (table : List Float) → (ask_of f held room table).feed.kept ≡ f.kept
@@ -72,60 +66,46 @@ unfolding ask_of
 asked_same f held room table = go (ask_check (length held))
   where
     go : (c : Check) → (reply_unless c f held room table).feed.kept ≡ f.kept
-    go Fine = refl
-    go (Refused r) = refl
+    go (Ok _) = refl
+    go (Err r) = refl
 
 -- ---- what a host is told
 
-module _ (n : ℕ) (held piece after : List ℕ) (f : Feed) (r : Fed) (e : f ≡ state_of n)
-    (is : stored r after ≡ add_of f held piece) where
-  pub fed_small : f.kept < 2 ^ 62 → r.feed.kept < 2 ^ 62
+module _ (n : ℕ) (held piece after : List ℕ) (f g : Feed) (told : Count) (e : f ≡ state_of n)
+    (is : stored g told after ≡ add_of f held piece) where
+  pub fed_small : f.kept < 2 ^ 62 → g.kept < 2 ^ 62
   fed_small h =
       let small = added_small f held piece h in
-      let same : r.feed.kept ≡ (add_of f held piece).feed.kept = ap (λ (a : Stored). a.feed.kept) is in
+      let same : g.kept ≡ (add_of f held piece).feed.kept = ap (λ (a : Stored). a.feed.kept) is in
       omega arith
 
-  told : (code number : ℕ) → number ≡ number_of r.feed → code ≡ count_told r.answer
-      → host_fed code number after ≡ host_feed n held piece
-  unfolding host_feed
-  told code number k c =
-      (λ i. host_fed (c i) (k i) after) ∙ ap fed_as is ∙ ap (λ (g : Feed). fed_as (add_of g held piece)) e
-
-  pub fed-refused : (code number : ℕ) (why : Refusal) → number ≡ number_of r.feed → r.answer ≡ count.Refused why
-      → code ≡ code_of (Refused why) → host_fed code number after ≡ host_feed n held piece
-  fed-refused code number why k a c = told code number k (c ∙ ap count_told (sym a))
-
-  pub fed-taken : (number many : ℕ) → number ≡ number_of r.feed → r.answer ≡ count.Is many
-      → host_fed 0 number after ≡ host_feed n held piece
-  fed-taken number many k a = told 0 number k (ap count_told (sym a))
-
-module _ (n : ℕ) (held room after : List ℕ) (rest : List Float) (f : Feed) (r : Asked) (e : f ≡ state_of n)
-    (is : reply r after rest ≡ ask_of f held room (replicate entry_limit zero64)) where
-  pub asked_small : f.kept < 2 ^ 62 → r.feed.kept < 2 ^ 62
+module _ (n : ℕ) (held room after : List ℕ) (rest : List Float) (f g : Feed) (told : Answer Outcome) (e : f ≡ state_of n)
+    (is : reply g told after rest ≡ ask_of f held room (replicate entry_limit zero64)) where
+  pub asked_small : f.kept < 2 ^ 62 → g.kept < 2 ^ 62
   asked_small h =
-      let same : r.feed.kept ≡ f.kept = ap (λ (a : Reply). a.feed.kept) is ∙ asked_same f held room _ in
+      let same : g.kept ≡ f.kept = ap (λ (a : Reply). a.feed.kept) is ∙ asked_same f held room _ in
       omega arith
 
-  heard : (number moves bits : ℕ) → number ≡ number_of r.feed
-      → host_asked number (as_told r.answer after moves bits) ≡ host_ask n held room moves bits
+  heard : (number moves bits : ℕ) → number ≡ number_of g
+      → host_asked number (as_told told after moves bits) ≡ host_ask n held room moves bits
   unfolding host_ask
   heard number moves bits k =
-      ap (λ (m : ℕ). host_asked m (as_told r.answer after moves bits)) k
+      ap (λ (m : ℕ). host_asked m (as_told told after moves bits)) k
       ∙ ap (λ (a : Reply). asked_as a moves bits) is
-      ∙ ap (λ (g : Feed). asked_as (ask_of g held room (replicate entry_limit zero64)) moves bits) e
+      ∙ ap (λ (x : Feed). asked_as (ask_of x held room (replicate entry_limit zero64)) moves bits) e
 
-  pub asked_refused : (code number moves bits : ℕ) (why : Refusal) → number ≡ number_of r.feed
-      → r.answer ≡ answer.Refused why → code ≡ code_of (Refused why)
+  pub asked_refused : (code number moves bits : ℕ) (why : Refusal) → number ≡ number_of g
+      → told ≡ Err why → code ≡ code_of (Err why)
       → host_asked number (hosted code after moves bits) ≡ host_ask n held room moves bits
   asked_refused code number moves bits why k a c =
       ap (λ (m : ℕ). host_asked number (hosted m after moves bits)) c
-      ∙ ap (λ (t : Toured). host_asked number (as_told t after moves bits)) (sym a)
+      ∙ ap (λ (t : Answer Outcome). host_asked number (as_told t after moves bits)) (sym a)
       ∙ heard number moves bits k
 
-  pub asked_done : (number moves bits word : ℕ) (o : Outcome) → number ≡ number_of r.feed → r.answer ≡ answer.Done o
+  pub asked_done : (number moves bits word : ℕ) (o : Outcome) → number ≡ number_of g → told ≡ Ok o
       → word ≡ to_bits binary64 o.length
       → host_asked number (hosted 0 after o.moves word) ≡ host_ask n held room moves bits
   asked_done number moves bits word o k a w =
       ap (λ (m : ℕ). host_asked number (hosted 0 after o.moves m)) w
-      ∙ ap (λ (t : Toured). host_asked number (as_told t after moves bits)) (sym a)
+      ∙ ap (λ (t : Answer Outcome). host_asked number (as_told t after moves bits)) (sym a)
       ∙ heard number moves bits k

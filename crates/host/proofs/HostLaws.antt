@@ -1,42 +1,29 @@
 -- Hosts: with a table of its own the library tells a host what the tour's question answers. Assumes nothing.
+use Rattle.std.specs.Prelude.{Err, Ok}
 use Rattle.std.proofs.Common.{◌≡◌, ℕ, List, length, sym, ap, ◌∙◌, arith}
 use lib.Ieee.{Float, to_bits, binary64}
-use Rattle.answer.specs.declared.Check.TheVariants.{Refused}
+use Rattle.answer.specs.Answer.{Answer}
 use Rattle.answer.specs.declared.Refusal.{Refusal}
 use Rattle.answer.specs.Code.{code_of}
 use Rattle.table.specs.Distances.{entry_limit}
 use Rattle.solve.specs.declared.Outcome.{Outcome}
-use Rattle.questions.specs.declared.Local.{Local}
-use Rattle.questions.specs.declared.Located.{Located}
-use Rattle.questions.specs.declared.Located.TheVariants as located
-use Rattle.tour.specs.declared.Toured.{Toured}
-use Rattle.tour.specs.declared.Toured.TheVariants as answer
 use Rattle.tour.specs.Tour.{Left, left, tour_of}
-use Rattle.host.specs.Hosts.{pointed, host_place, hosted, host_tour}
+use Rattle.host.specs.Hosts.{hosted, host_tour}
 use Rattle.host.specs.Exports.{as_told}
 use Rattle.host.proofs.Exports.{toured_so}
 
 -- what the tour's door left behind is what a host is told
-module _ (s room : List ℕ) (table : List Float) (whole : length table ≡ entry_limit) (told : Toured) (after : List ℕ)
+module _ (s room : List ℕ) (table : List Float) (whole : length table ≡ entry_limit) (told : Answer Outcome) (after : List ℕ)
     (rest : List Float) (is : left told after rest ≡ tour_of s room table) (moves bits : ℕ) where
   as_told_lem : as_told told after moves bits ≡ host_tour s room moves bits
   as_told_lem =
       ap (λ (l : Left). as_told l.answer l.room moves bits) is
       ∙ sym (toured_so s room table moves bits (omega arith))
 
-  pub host_refused : (r : Refusal) (code : ℕ) → told ≡ answer.Refused r → code ≡ code_of (Refused r)
+  pub host_refused : (r : Refusal) (code : ℕ) → told ≡ Err r → code ≡ code_of (Err r)
       → hosted code after moves bits ≡ host_tour s room moves bits
   host_refused r code e f = rw f (rw e at as_told_lem)
 
-  pub host_done : (o : Outcome) (word : ℕ) → told ≡ answer.Done o → word ≡ to_bits binary64 o.length
+  pub host_done : (o : Outcome) (word : ℕ) → told ≡ Ok o → word ≡ to_bits binary64 o.length
       → hosted 0 after o.moves word ≡ host_tour s room moves bits
   host_done o word e f = rw f (rw e at as_told_lem)
-
--- a candidate's place, as a host is told
-pub place_told-refused : (l told : Located) (contour within : ℕ) (r : Refusal) (code : ℕ) → told ≡ l
-    → told ≡ located.Refused r → code ≡ code_of (Refused r) → pointed code contour within ≡ host_place l contour within
-place_told-refused l told contour within r code e f g = rw (← e, f, g)
-
-pub place_told : (l told : Located) (contour within : ℕ) (p : Local) → told ≡ l → told ≡ located.At p
-    → pointed 0 p.contour p.within ≡ host_place l contour within
-place_told l told contour within p e f = rw (← e, f)

@@ -1,4 +1,5 @@
 -- A card in pieces, as hosts feed it. Assumes nothing.
+use Rattle.std.specs.Prelude.{Err, Ok}
 use Rattle.std.proofs.Common.{◌≡◌, ℕ, ◌+◌, ◌*◌, ◌/◌, ◌%◌, ◌^◌, ◌<◌, ◌≤◌, eqb, List, ◌++◌, length, take, replicate, sym, refl, ap, ◌∙◌, le_trans, arith}
 use lib.Ieee.{Float}
 use lib.ListN.{length-replicate}
@@ -6,8 +7,8 @@ use Rattle.answer.specs.Room.{placed}
 use Rattle.fields.specs.Limits.{card_bytes}
 use Rattle.points.specs.Numbers.{zero64}
 use Rattle.table.specs.Distances.{entry_limit}
-use Rattle.tour.specs.declared.Toured.{Toured}
-use Rattle.tour.specs.declared.Toured.TheVariants as answer
+use Rattle.answer.specs.Answer.{Answer}
+use Rattle.solve.specs.declared.Outcome.{Outcome}
 use Rattle.tour.specs.Tour.{Left, tour_of}
 use Rattle.feed.specs.declared.Feed.{Feed}
 use Rattle.feed.specs.Feed.{ended, add_of, Reply, ask_of}
@@ -83,14 +84,14 @@ module _ {s : List ℕ} {f : Feed} {was : List ℕ} (w : Whole s f was) where
         (sym (toured_so s room own moves bits (rw length-replicate (omega arith))))
 
 -- what is told of an answer stays, told over again
-told_again : (t : Toured) (room : List ℕ) (moves bits : ℕ)
+told_again : (t : Answer Outcome) (room : List ℕ) (moves bits : ℕ)
     → let a = as_told t room moves bits in as_told t room a.moves a.bits ≡ a
-told_again (answer.Done o) room moves bits = refl
-told_again (answer.Refused r) room moves bits = refl
+told_again (Ok o) room moves bits = refl
+told_again (Err r) room moves bits = refl
 
-room_told : (t : Toured) (room : List ℕ) (moves bits : ℕ) → (as_told t room moves bits).room ≡ room
-room_told (answer.Done o) room moves bits = refl
-room_told (answer.Refused r) room moves bits = refl
+room_told : (t : Answer Outcome) (room : List ℕ) (moves bits : ℕ) → (as_told t room moves bits).room ≡ room
+room_told (Ok o) room moves bits = refl
+room_told (Err r) room moves bits = refl
 
 -- the tour asked for again, in its room and with its numbers
 tour-told_again : (s room : List ℕ) (moves bits : ℕ)

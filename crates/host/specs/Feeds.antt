@@ -1,8 +1,6 @@
 -- What a host is told of a card in pieces, and how it holds the state: as one number. Assumes nothing.
-use Rattle.std.specs.Prelude.{ℕ, ◌+◌, ◌*◌, ◌/◌, ◌%◌, Bool, true, false, List, replicate, ◌==◌}
-use Rattle.answer.specs.declared.Count.{Count}
-use Rattle.answer.specs.declared.Count.TheVariants as count
-use Rattle.answer.specs.declared.Check.TheVariants as check
+use Rattle.std.specs.Prelude.{ℕ, ◌+◌, ◌*◌, ◌/◌, ◌%◌, Bool, true, false, List, replicate, ◌==◌, Err, Ok}
+use Rattle.answer.specs.Answer.{Count}
 use Rattle.answer.specs.Code.{code_of}
 use Rattle.points.specs.Numbers.{zero64}
 use Rattle.table.specs.Distances.{entry_limit}
@@ -35,8 +33,8 @@ host_fed answer state held = record { answer = answer; state = state; held = hel
 
 -- 0, or the refusal; how many bytes are held the state's number says
 abbrev pub count_told : Count → ℕ
-count_told (count.Is k) = 0
-count_told (count.Refused r) = code_of (check.Refused r)
+count_told (Ok k) = 0
+count_told (Err r) = code_of (Err r)
 
 -- a piece, as a host is told of it
 abbrev pub fed_as : Stored → HostFed

@@ -2,29 +2,38 @@
 use mathlib.Core.Bool.{Bool, true, false, not, cond, ◌&&◌}
 use mathlib.Core.List.{List}
 use mathlib.Core.Path.{◌≡◌, refl, sym, ap, ◌∙◌}
-use Prim.Native.Nat.{ℕ, zero, suc, ◌+◌, ◌*◌, ◌-◌, ◌^◌, ◌≤◌, ◌<◌}
-use native.Mathlib.Nat.{sub-zero}
+use Prim.Native.Nat.{ℕ, zero, suc, ◌+◌, ◌-◌, ◌≤◌, ◌<◌}
 use native.Mathlib.Omega.{arith}
 use borrow.Author.Tests.{lt-ltb, le-leb, lt-leb}
 use lib.Dec.{ltb, leb}
-use lib.Ieee.{Float}
 use lib.ListN.{length}
 use Rattle.closure.specs.Limits.{contour_limit}
 use Rattle.table.proofs.EachLaws.{onwards, arrive}
 use Rattle.table.specs.Each.{each}
-use Rattle.improve.specs.Code.{unpaired, going, state_of, Reached}
-use Rattle.improve.specs.Search.{Chart, State, length_in, turn, reversal, row, pass, repeated, begun, worthwhile}
+use Rattle.improve.specs.Code.{Reached}
+use Rattle.improve.specs.Search.{Chart, State, turn, reversal, row, fresh, pass, repeated, begun, worthwhile}
 use Rattle.improve.specs.Search.{searched, searched_within}
-use Rattle.improve.specs.declared.Progress.{Progress}
-use Rattle.improve.proofs.IdleLaws.{each_idle, halt}
-use Rattle.improve.proofs.TrialLaws.{ended, row_idle, reversal_idle, turns_read, goes_on}
+use Rattle.improve.proofs.IdleLaws.{each_idle}
+use Rattle.improve.proofs.TrialLaws.{row_idle}
+
+-- ---- a pass
+
+module _ (chart : Chart) (limit n : ℕ) (s after : State) where
+  -- the limit has ended the search among the turns
+  pub turns_cut : after ≡ each (turn chart limit) n 0 (fresh s) → after.cut ≡ true → after ≡ pass chart limit n s
+  unfolding pass
+  turns_cut e c =
+      sym (each_idle _ (row_idle chart limit n) (n - 1) 0 after c)
+      ∙ ap (each (row chart limit n) (n - 1) 0) e
+
+  -- the turns are over, and what the rows make of the state they came to is the pass
+  pub turns_done : (p : ℕ) (turned : State)
+      → onwards (turn chart limit) n p turned ≡ each (turn chart limit) n 0 (fresh s) → n ≤ p
+      → after ≡ each (row chart limit n) (n - 1) 0 turned → after ≡ pass chart limit n s
+  unfolding pass
+  turns_done p turned so_far h e = e ∙ ap (each (row chart limit n) (n - 1) 0) (arrive _ _ _ _ _ so_far h)
 
 -- ---- the passes
-
--- the first pass begins with the length of the tour handed in
-pub repeat_begin : (chart : Chart) (limit n most : ℕ) (tour : List ℕ) (cost : Float) → cost ≡ length_in chart tour
-    → repeated chart limit n (most - 0) (going tour cost true 0) ≡ repeated chart limit n most (begun chart tour)
-repeat_begin chart limit n most tour cost e = rw (sub-zero most, e)
 
 -- a search that has ended, or whose last pass accepted nothing, is over
 pub repeat_cut : (chart : Chart) (limit n k : ℕ) (s : State) → s.cut ≡ true → repeated chart limit n k s ≡ s
@@ -41,99 +50,40 @@ unfolding repeated
 repeat_quiet chart limit n zero s e = refl
 repeat_quiet chart limit n (suc k) s e = rw e
 
-module _ (chart : Chart) (limit n most done : ℕ) (tour : List ℕ) (cost : Float) (moves : ℕ) (whole : State)
-    (so_far : repeated chart limit n (most - done) (going tour cost true moves) ≡ whole) where
+module _ (chart : Chart) (limit n most done : ℕ) (s whole : State)
+    (so_far : repeated chart limit n (most - done) s ≡ whole) where
   -- no pass is left
-  pub repeat_over : most ≤ done → going tour cost true moves ≡ whole
+  pub repeat_over : most ≤ done → s ≡ whole
   unfolding repeated
   repeat_over h = let left : most - done ≡ zero = omega arith in rw left at so_far
 
-  module _ (h : done < most) where
+  module _ (h : done < most) (after : State) (passed : after ≡ pass chart limit n s) where
     -- one pass more
-    repeat_more : (s : State)
-        → each (row chart limit n) (n - 1) 0 (each (turn chart limit) n 0 (going tour cost false moves)) ≡ s
-        → repeated chart limit n (most - (done + 1)) s ≡ whole
-    unfolding repeated pass
-    repeat_more s e =
+    pub repeat_more : s.better ≡ true → s.cut ≡ false → repeated chart limit n (most - (done + 1)) after ≡ whole
+    unfolding repeated
+    repeat_more b c =
         let left : most - done ≡ suc (most - (done + 1)) = omega arith in
-        let q : repeated chart limit n (most - (done + 1))
-        (each (row chart limit n) (n - 1) 0 (each (turn chart limit) n 0 (going tour cost false moves))) ≡ whole =
-        rw left at so_far in
-        rw (← e) q
+        let goes : (s.better && not s.cut) ≡ true = rw (b, c) in
+        let q : repeated chart limit n (most - (done + 1)) (pass chart limit n s) ≡ whole =
+        rw (left, goes) at so_far in
+        rw passed q
 
-    module _ (after : List ℕ) (r : Progress) (read : state_of after r
-        ≡ each (turn (unpaired chart) limit) n 0 (going tour cost false moves)) where
-      turned : state_of after r ≡ each (turn chart limit) n 0 (going tour cost false moves)
-      turned = read ∙ turns_read chart limit n (going tour cost false moves)
+    -- it was the last, since the limit ended the search or it accepted nothing
+    pub last_cut : s.better ≡ true → s.cut ≡ false → after.cut ≡ true → after ≡ whole
+    last_cut b c e = sym (repeat_cut chart limit n (most - (done + 1)) after e) ∙ repeat_more b c
 
-      -- left among the turns
-      pub cut_in_turns : r.cut ≡ true → state_of after r ≡ whole
-      cut_in_turns c =
-          let e : each (row chart limit n) (n - 1) 0 (state_of after r) ≡ state_of after r =
-          each_idle _ (row_idle chart limit n) (n - 1) 0 (state_of after r) c in
-          sym (repeat_cut chart limit n (most - (done + 1)) (state_of after r) c)
-          ∙ repeat_more (state_of after r) (ap (each (row chart limit n) (n - 1) 0) (sym turned) ∙ e)
-
-      module _ (goes : r.cut ≡ false) where
-        -- the turns are over and the reversals begin
-        after_turns : (s : State) → s ≡ each (row chart limit n) (n - 1) 0
-            (going after r.cost r.better r.moves)
-            → each (row chart limit n) (n - 1) 0 (each (turn chart limit) n 0 (going tour cost false moves)) ≡ s
-        after_turns s e = ap (each (row chart limit n) (n - 1) 0) (goes_on after r _ turned goes) ∙ sym e
-
-        -- left among the reversals
-        pub cut_in_rows : (held : List ℕ) (c : Float) (b : Bool) (m : ℕ) (i j : ℕ) (held' : List ℕ) (c' : Float)
-            (b' : Bool) (m' : ℕ)
-            → onwards (row chart limit n) (n - 1) i (going held c b m)
-            ≡ each (row chart limit n) (n - 1) 0 (going after r.cost r.better r.moves)
-            → i < n - 1
-            → onwards (reversal chart limit i) n j (going held' c' b' m')
-            ≡ each (reversal chart limit i) (n - (i + 2)) (i + 2) (going held c b m)
-            → j < n
-            → reversal chart limit i j (going held' c' b' m') ≡ ended held' c' b' m'
-            → ended held' c' b' m' ≡ whole
-        unfolding row
-        cut_in_rows held c b m i j held' c' b' m' rows hi cells hj stops =
-            let one : ended held' c' b' m' ≡ row chart limit n i (going held c b m) =
-            halt _ n j _ _ _ (reversal_idle chart limit i) cells hj stops refl in
-            let all : ended held' c' b' m' ≡ each (row chart limit n) (n - 1) 0
-            (going after r.cost r.better r.moves) =
-            halt _ (n - 1) i _ _ _ (row_idle chart limit n) rows hi (sym one) refl in
-            sym (repeat_cut chart limit n (most - (done + 1)) (ended held' c' b' m') refl)
-            ∙ repeat_more _ (after_turns _ all)
-
-        module _ (held : List ℕ) (c : Float) (m i : ℕ) (hi : n - 1 ≤ i) where
-          -- the pass is over, and accepted something
-          pub pass_again : (b : Bool) → onwards (row chart limit n) (n - 1) i (going held c b m)
-              ≡ each (row chart limit n) (n - 1) 0 (going after r.cost r.better r.moves)
-              → b ≡ true → repeated chart limit n (most - (done + 1)) (going held c true m) ≡ whole
-          pass_again b rows e = repeat_more _ (after_turns _ (rw (← e) (arrive _ _ _ _ _ rows hi)))
-
-          -- or it accepted nothing
-          pub pass_quiet : (b : Bool) → onwards (row chart limit n) (n - 1) i (going held c b m)
-              ≡ each (row chart limit n) (n - 1) 0 (going after r.cost r.better r.moves)
-              → b ≡ false → going held c b m ≡ whole
-          pass_quiet b rows e =
-              sym (repeat_quiet chart limit n (most - (done + 1)) (going held c b m) e)
-              ∙ repeat_more _ (after_turns _ (arrive _ _ _ _ _ rows hi))
+    pub last_quiet : s.better ≡ true → s.cut ≡ false → after.better ≡ false → after ≡ whole
+    last_quiet b c e = sym (repeat_quiet chart limit n (most - (done + 1)) after e) ∙ repeat_more b c
 
 -- a row is its reversals
 pub row_is : (chart : Chart) (limit n i : ℕ) (s after : State)
-    → after ≡ each (reversal chart limit i) (n - (i + 2)) (i + 2) s → row chart limit n i s ≡ after
+    → after ≡ each (reversal chart limit i) (n - (i + 2)) (i + 2) s → after ≡ row chart limit n i s
 unfolding row
-row_is chart limit n i s after e = sym e
+row_is chart limit n i s after e = e
 
 -- the trials and the tour of the state that was reached
 pub reached : (s whole : State) → s ≡ whole → Reached s.moves s.tour whole
 reached s whole e = record { counted = ap (λ (x : State). x.moves) e; held = ap (λ (x : State). x.tour) e }
-
--- the count of trials stays far below what its type holds: passes are counted in 32 bits, and a pass has under 2^17
--- trials
-pub moves_fit : (done passes before turned i rows j cells n : ℕ) → done < passes → passes < 2 ^ 32 → n ≤ 255
-    → i + 1 < n → j < n
-    → before ≤ 131072 * done → turned ≤ before + 65280 → rows ≤ turned + 256 * i → cells + i + 2 ≤ rows + j
-    → cells + 1 < 2 ^ 64
-moves_fit done passes before turned i rows j cells n a b c d e f g h k = omega arith
 
 -- ---- whether there is anything to do
 

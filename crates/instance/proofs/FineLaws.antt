@@ -1,11 +1,11 @@
 -- On a card that is fine nothing is cut off: all contours are gathered, each with all its vertices and at least one
 -- candidate. Assumes nothing.
+use Rattle.std.specs.Prelude.{Ok}
 use mathlib.Core.Path.{◌≡◌, refl, sym, ap, ◌∙◌}
 use mathlib.Core.List.{List}
 use Prim.Native.Nat.{ℕ, ◌≤◌, ◌<◌, ◌+◌, min}
 use native.Mathlib.Omega.{arith}
 use lib.ListN.{length, take}
-use Rattle.answer.specs.declared.Check.TheVariants.{Fine}
 use Rattle.candidates.specs.Generate.{blank}
 use Rattle.candidates.proofs.CountLaws.{count_some}
 use Rattle.closure.specs.Limits.{contour_limit}
@@ -18,7 +18,7 @@ use Rattle.instance.specs.Room.{held_at, instance_of}
 use Rattle.answer.proofs.RoomLaws.{padded_front}
 use Rattle.instance.proofs.GatherLaws.{all_held, gathered_within, owners-length, firsts-length, vertices-length}
 
-module _ (s : List ℕ) (fine : check_of s ≡ Fine) where
+module _ (s : List ℕ) (fine : check_of s ≡ Ok tt) where
   pub held_all : held_of s ≡ contours_of s
   held_all =
       let a = accepted s fine in

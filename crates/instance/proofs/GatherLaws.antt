@@ -3,20 +3,20 @@ use mathlib.Core.Path.{◌≡◌, refl, sym, ap, ◌∙◌}
 use mathlib.Core.Bool.{Bool, true, false, cond, ◌&&◌}
 use mathlib.Core.List.{List, [], ◌∷◌, ◌++◌}
 use Prim.Native.Nat.{ℕ, zero, suc, ◌+◌, ◌*◌, ◌-◌, ◌<◌, ◌≤◌, min}
-use native.Mathlib.Nat.{suc-mul, mul-le-mul_right, mul-le-mul}
+use native.Mathlib.Nat.{suc-mul, mul-le-mul_right}
 use native.Mathlib.Numerals.{add-one}
 use native.Mathlib.Omega.{arith}
 use lib.Dec.{ltb, leb}
-use lib.ListN.{length, get_or, take, replicate, set, length-append, length-take, length-replicate, get_or-replicate}
+use lib.ListN.{length, take, drop, replicate, set, length-append, length-take, length-drop, length-replicate}
 use lib.Ieee.{Float}
-use lib.Seq.{paste, paste-suc, take_all, take-append_seam}
-use borrow.Author.Tests.{lt-ltb, le-leb, lt-leb, le-ltb, ltb-true, leb-true}
+use borrow.Rule.Slice.PartMut.{put_mid}
+use lib.Seq.{paste, take_all, take-take, take-append_seam}
+use Rattle.std.proofs.lemmas.Slice.{put_mid-paste}
+use borrow.Author.Tests.{lt-ltb, le-leb, ltb-true, leb-true}
 use Rattle.candidates.specs.declared.Candidate.{Candidate}
-use Rattle.candidates.specs.Generate.{blank, candidates_of, filled}
+use Rattle.candidates.specs.Generate.{blank, candidates_of, Candidates, filled}
 use Rattle.candidates.proofs.CountLaws.{count_within, filled-length}
-use Rattle.candidates.specs.declared.Candidates.{Candidates}
 use Rattle.instance.specs.declared.Instance.{Instance}
-use Rattle.instance.specs.declared.Outline.{Outline}
 use Rattle.closure.specs.Limits.{contour_limit}
 use Rattle.fields.specs.Limits.{per_contour_limit, candidate_limit, vertex_limit}
 use Rattle.fields.specs.Layout.{contours_of, per_contour_of, exterior_of, interior_of, asks_grid, vertex_count_of, type_of}
@@ -32,32 +32,15 @@ use Rattle.instance.specs.Gather.{vertices_of, outline_of, way_of, offers_of, ga
 use Rattle.instance.specs.Gather.{held_of}
 use Rattle.answer.specs.Room.{padded}
 use Rattle.answer.proofs.RoomLaws.{padded-length, padded_front, padded-paste, padded-one, padded-two}
-use Rattle.instance.specs.Room.{flat, outlined, held_at, joined, Roomy, instance_of}
+use Rattle.instance.specs.Room.{flat, Outline, outlined, held_at, joined, Roomy, instance_of}
 use Rattle.instance.proofs.RoomLaws.{points-flat, flat-length, flat_more}
 
 -- ---- how many contours
 
 module _ (s : List ℕ) (n c : ℕ) (e : n ≡ contours_of s) (f : c ≡ per_contour_of s) where
-  pub too_many_contours : contour_limit < n → 0 ≡ held_of s
-  too_many_contours h = rw (← e, ← f, lt-leb n contour_limit h)
-
-  pub none_wanted : n ≤ contour_limit → c < 1 → 0 ≡ held_of s
-  none_wanted h g = rw (← e, ← f, le-leb n contour_limit h, le-ltb 0 c (omega arith))
-
-  pub too_many_each : n ≤ contour_limit → 1 ≤ c → per_contour_limit < c → 0 ≡ held_of s
-  too_many_each h g k = rw (← e, ← f, le-leb n contour_limit h, lt-ltb 0 c g, lt-leb c per_contour_limit k)
-
-  pub too_many_candidates : n ≤ contour_limit → 1 ≤ c → c ≤ per_contour_limit → candidate_limit < n * c → 0 ≡ held_of s
-  too_many_candidates h g k l =
-      rw (← e, ← f, le-leb n contour_limit h, lt-ltb 0 c g, le-leb c per_contour_limit k, lt-leb (n * c) candidate_limit l)
-
   pub all_held : n ≤ contour_limit → 1 ≤ c → c ≤ per_contour_limit → n * c ≤ candidate_limit → n ≡ held_of s
   all_held h g k l =
       rw (← e, ← f, le-leb n contour_limit h, lt-ltb 0 c g, le-leb c per_contour_limit k, le-leb (n * c) candidate_limit l)
-
--- a product of so few fits
-pub few : (n c : ℕ) → n ≤ contour_limit → c ≤ per_contour_limit → n * c ≤ contour_limit * per_contour_limit
-few n c h g = mul-le-mul {n₂ = contour_limit} {m₂ = per_contour_limit} h g
 
 -- what is known where contour k is among those held
 pub record Among (n c k : ℕ) : Type 0 where
@@ -146,6 +129,11 @@ module _ (s : List ℕ) (k : ℕ) where
   flat-vertices : (j : ℕ) → length (flat (vertices_of s k j)) ≡ 2 * j
   flat-vertices j = flat-length (vertices_of s k j) ∙ ap (λ (i : ℕ). 2 * i) (vertices-length j)
 
+  -- there is room for all of them
+  pub outline_few : (o : Outline) → o ≡ outlined (outline_of s k) → o.count ≤ 2 * vertex_limit
+  unfolding outlined outline_of
+  outline_few o is = rw (is, flat-vertices (min (vertex_count_of s k) vertex_limit)) (omega arith)
+
   pub numbers_none : replicate (2 * vertex_limit) zero64 ≡ numbers_at 0
   unfolding vertices_of flat
   numbers_none = refl
@@ -160,7 +148,7 @@ module _ (s : List ℕ) (k : ℕ) where
       (omega arith))
 
   pub numbers_all : (j : ℕ) (l : List Float) → l ≡ numbers_at j → j ≡ min (vertex_count_of s k) vertex_limit
-      → record { numbers = l; count = 2 * j } ≡ outlined (outline_of s k)
+      → record { items = l; count = 2 * j } ≡ outlined (outline_of s k)
   unfolding outlined outline_of
   numbers_all j l e f = rw (e, ← flat-vertices j, f)
 
@@ -236,55 +224,47 @@ roomy s k held found h e f =
 -- ---- a contour's numbers, lent
 
 module _ (ps : List Point) (o : Outline) (is : o ≡ outlined ps) where
-  pub outline_lent : take o.count o.numbers ≡ flat ps
+  pub outline_lent : take o.count o.items ≡ flat ps
   unfolding outlined
   outline_lent = rw is (padded_front (2 * vertex_limit) zero64 (flat ps) (length (flat ps)) refl)
-
-  pub outline_count : o.count ≡ length (take o.count o.numbers)
-  unfolding outlined
-  outline_count = ap (λ (x : Outline). x.count) is ∙ sym (ap length outline_lent)
-
-  pub outline_within : o.count ≤ length o.numbers
-  outline_within = let e = outline_count in let l = length-take o.count o.numbers in omega arith
 
 pub offers_are : (s : List ℕ) (k : ℕ) (o : Outline) (kind : ContourType) (exterior interior : CutDirectionPreference)
     (c : ℕ) (grid : Bool) (r : Candidates)
     → o ≡ outlined (outline_of s k) → kind ≡ as_type (type_of s k) → exterior ≡ as_preference (exterior_of s)
     → interior ≡ as_preference (interior_of s) → c ≡ per_contour_of s → grid ≡ asks_grid s
-    → r ≡ filled (candidates_of grid (direction_of kind exterior interior) (points (take o.count o.numbers)) c)
+    → r ≡ filled (candidates_of grid (direction_of kind exterior interior) (points (take o.count o.items)) c)
     → r ≡ filled (offers_of s k)
 unfolding offers_of
 offers_are s k o kind exterior interior c grid r is e f g h i t =
-    let ps : points (take o.count o.numbers) ≡ outline_of s k =
+    let ps : points (take o.count o.items) ≡ outline_of s k =
     ap points (outline_lent (outline_of s k) o is) ∙ points-flat (outline_of s k) in
     t ∙ rw (ps, e, f, g, h, i)
 
 -- ---- one contour's candidates, copied
 
 module _ (held : Instance) (found : Candidates) (k : ℕ) (r : Roomy held found k) where
-  pub item_copied : (j : ℕ) (z : Candidate) (l : List Candidate) → j < found.count
-      → l ≡ paste held.items held.count found.items j
-      → set l (held.count + j) (get_or found.items j z) ≡ paste held.items held.count found.items (j + 1)
-  item_copied j z l h e =
-      let a = r.room in
-      let w = r.few in
-      rw (e, add-one j) (paste-suc held.items held.count found.items j z (rw r.items_whole (omega arith))
-      (rw r.whole (omega arith)))
+  pub items_copied : (l : List Candidate) → l ≡ take found.count found.items
+      → put_mid held.count (held.count + found.count - held.count) held.items l
+      ≡ paste held.items held.count found.items found.count
+  items_copied l e =
+      put_mid-paste held.count _ held.items l (take found.count found.items) found.count e (omega arith)
+      (omega (arith, r.few, r.whole, length-take found.count found.items))
+      ∙ rw (take-take found.count found.count found.items (omega arith))
 
-  pub owner_noted : (j : ℕ) (l : List ℕ) → j < found.count
-      → l ≡ paste held.owner held.count (replicate found.count k) j
-      → set l (held.count + j) k ≡ paste held.owner held.count (replicate found.count k) (j + 1)
-  owner_noted j l h e =
-      let a = r.room in
-      let same : get_or (replicate found.count k) j 0 ≡ k = get_or-replicate found.count j k 0 h in
-      rw (e, add-one j) (ap (λ (x : ℕ). set (paste held.owner held.count (replicate found.count k) j)
-      (held.count + j) x) (sym same)
-      ∙ paste-suc held.owner held.count (replicate found.count k) j 0 (rw r.owner_whole (omega arith))
-      (rw length-replicate h))
+  pub owner_filled : (l : List ℕ)
+      → l ≡ replicate (length (take (held.count + found.count - held.count) (drop held.count held.owner))) k
+      → put_mid held.count (held.count + found.count - held.count) held.owner l
+      ≡ paste held.owner held.count (replicate found.count k) found.count
+  owner_filled l e =
+      let many = length-take (held.count + found.count - held.count) (drop held.count held.owner) in
+      let n : length (take (held.count + found.count - held.count) (drop held.count held.owner)) ≡ found.count =
+      omega (arith, many, length-drop held.count held.owner, r.room, r.owner_whole) in
+      put_mid-paste held.count _ held.owner l (replicate found.count k) found.count (rw n at e) (omega arith)
+      (sym (length-replicate found.count k))
 
-  pub all_copied : (j : ℕ) (items : List Candidate) (owner : List ℕ) → j ≡ found.count
-      → items ≡ paste held.items held.count found.items j
-      → owner ≡ paste held.owner held.count (replicate found.count k) j
+  pub all_copied : (items : List Candidate) (owner : List ℕ)
+      → items ≡ paste held.items held.count found.items found.count
+      → owner ≡ paste held.owner held.count (replicate found.count k) found.count
       → record {
         items = items;
         owner = owner;
@@ -293,4 +273,4 @@ module _ (held : Instance) (found : Candidates) (k : ℕ) (r : Roomy held found 
         count = held.count + found.count;
       } ≡ joined held found k
   unfolding joined
-  all_copied j items owner e f g = rw (f, g, e)
+  all_copied items owner f g = rw (f, g)

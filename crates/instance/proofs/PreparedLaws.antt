@@ -1,4 +1,5 @@
 -- What an accepted card hands to the search: each part that is lent is what the definition reads. Assumes nothing.
+use Rattle.std.specs.Prelude.{None, Ok}
 use mathlib.Core.Path.{◌≡◌, refl, sym, ap, ◌∙◌}
 use mathlib.Core.List.{List, append-nil}
 use Prim.Native.Nat.{ℕ, ◌+◌, ◌*◌, ◌≤◌}
@@ -9,8 +10,6 @@ use lib.ListN.{length, take, drop, length-take}
 use lib.Seq.{take_at, drop-length}
 use lib.Ieee.{Float}
 use borrow.Author.Tests.{le-leb, le-ltb}
-use Rattle.answer.specs.declared.Found.TheVariants.{Absent}
-use Rattle.answer.specs.declared.Check.TheVariants.{Fine}
 use Rattle.answer.specs.declared.Point.{Point}
 use Rattle.candidates.specs.declared.Candidate.{Candidate}
 use Rattle.closure.specs.Limits.{contour_limit, pair_limit}
@@ -46,7 +45,7 @@ front_is n room l e k =
 -- ---- what is gathered
 
 -- each part of what is gathered of an accepted card
-pub held_on : (s : List ℕ) → check_of s ≡ Fine → (all : Instance) → all ≡ instance_of s → HeldOn s all
+pub held_on : (s : List ℕ) → check_of s ≡ Ok tt → (all : Instance) → all ≡ instance_of s → HeldOn s all
 held_on s fine all is =
     let count : all.count ≡ count_on s = ap (λ (a : Instance). a.count) is ∙ count_is s fine in
     let contours : all.contours ≡ contours_of s = ap (λ (a : Instance). a.contours) is ∙ contours_is s fine in
@@ -110,22 +109,22 @@ unfolding prepared_of
 prepared_is s a h d n = rw (n, d, h, a)
 
 -- the pairs' positions stand at the front of theirs
-pairs-on : (s : List ℕ) → check_of s ≡ Fine → Front (named_of s).count (named_of s).positions (pairs_on s)
+pairs-on : (s : List ℕ) → check_of s ≡ Ok tt → Front (named_of s).count (named_of s).positions (pairs_on s)
 unfolding named_within check_within
 pairs-on s fine =
     let a = accepted s fine in
-    let ten : refuse_at 10 (name_fault s) ≡ Fine = is_fine (stages_within today s) fine 10 (lit< tt) in
-    let known : name_fault s ≡ Absent = fine_absent 10 (name_fault s) ten in
-    let all : named_of s ≡ named_as Absent (pairs_on s) =
+    let ten : refuse_at 10 (name_fault s) ≡ Ok tt = is_fine (stages_within today s) fine 10 (lit< tt) in
+    let known : name_fault s ≡ None = fine_absent 10 (name_fault s) ten in
+    let all : named_of s ≡ named_as None (pairs_on s) =
     rw (le-ltb contour_limit (contours_of s) a.few_contours, le-ltb pair_limit (pairs_of s) a.few_pairs, known) in
     record {
-      front = named_front Absent (pairs_on s) all;
-      whole = named_whole Absent (pairs_on s) all;
-      within = named_within_lem Absent (pairs_on s) all;
+      front = named_front None (pairs_on s) all;
+      whole = named_whole None (pairs_on s) all;
+      within = named_within_lem None (pairs_on s) all;
     }
 
 -- each part of what is prepared of an accepted card
-pub prepared_on : (s : List ℕ) → check_of s ≡ Fine → (p : Prepared) → p ≡ prepared_of s → PreparedOn s p
+pub prepared_on : (s : List ℕ) → check_of s ≡ Ok tt → (p : Prepared) → p ≡ prepared_of s → PreparedOn s p
 unfolding prepared_of
 prepared_on s fine p is =
     let all = instance_of s in

@@ -2,14 +2,13 @@
 use Rattle.std.specs.Prelude.{◌≡◌, List, [], ◌∷◌, ℕ, ◌+◌, ◌*◌, ◌<◌, ◌≤◌, length, replicate, set, Float}
 use Rattle.std.proofs.Math.Seq.{paste}
 use Rattle.answer.specs.declared.Point.{Point}
-use Rattle.answer.specs.Room.{padded}
-use Rattle.candidates.specs.declared.Candidates.{Candidates}
+use Rattle.answer.specs.declared.Listed.{Listed}
+use Rattle.answer.specs.Room.{padded, listed}
 use Rattle.points.specs.Numbers.{zero64}
-use Rattle.candidates.specs.Generate.{blank}
+use Rattle.candidates.specs.Generate.{blank, Candidates}
 use Rattle.closure.specs.Limits.{contour_limit}
 use Rattle.fields.specs.Limits.{candidate_limit, vertex_limit, per_contour_limit}
 use Rattle.instance.specs.declared.Instance.{Instance}
-use Rattle.instance.specs.declared.Outline.{Outline}
 use Rattle.instance.specs.Gather.{gathered, owners, firsts, held_of}
 
 -- points as numbers, two each
@@ -18,8 +17,11 @@ flat [] = []
 flat (p ∷ more) = p.x ∷ p.y ∷ flat more
 
 -- a contour's numbers in their room
+abbrev pub Outline : Type 0
+Outline = Listed Float (2 * vertex_limit)
+
 unfoldable pub outlined : List Point → Outline
-outlined ps = record { numbers = padded (2 * vertex_limit) zero64 (flat ps); count = length (flat ps) }
+outlined ps = listed (2 * vertex_limit) zero64 (flat ps)
 
 -- the first k contours' candidates in their rooms
 unfoldable pub held_at : List ℕ → ℕ → Instance

@@ -3,16 +3,15 @@
 // head asks for more than can be held has no contours here.
 #![tactic(auto)]
 
-ghost use Rattle.std.specs.Prelude.{◌≡◌, [], min};
-ghost use Rattle.fields.specs.Limits.{vertex_limit};
+ghost use Rattle.std.specs.Prelude.{◌≡◌, []};
 ghost use Rattle.table.specs.Distances.{homed};
 ghost use Rattle.candidates.specs.Generate.{filled};
 ghost use Rattle.instance.specs.Gather.{outline_of, offers_of, held_of};
 ghost use Rattle.instance.specs.Room.{outlined, held_at, joined, Roomy, instance_of};
 ghost use Rattle.instance.specs.Prepared.{no_distances, prepared_of};
 
-use answer::{CutDirection, Point};
-use candidates::{Candidate, Candidates};
+use answer::{Listed, Point};
+use candidates::{BLANK, Candidate, Candidates};
 use card::SEATS;
 use closure::CONTOURS;
 use fields::{CANDIDATES, PER_CONTOUR, VERTICES};
@@ -24,7 +23,8 @@ const NUMBERS: usize = 2 * VERTICES;
 const FIRSTS: usize = CONTOURS + 1;
 
 // What is held of a card: the first `count` items are its candidates, each with the contour that it belongs to, and of `first` the
-// first `contours` are the numbers of the contours' first candidates, with the count after them.
+// first `contours` are the numbers of the contours' first candidates, with the count after them. (No `Listed`: two arrays share a count,
+// and that of the third is one more than the contours.)
 #[derive(Clone, Copy)]
 pub struct Instance {
     pub items: [Candidate; CANDIDATES],
@@ -35,7 +35,7 @@ pub struct Instance {
 }
 
 // What every door reads of a card: what is held of it, the distances of its candidates from home, and of `pairs` the first `seats` are
-// its pairs as positions of contours, before and after in turn.
+// its pairs as positions of contours, before and after in turn. (No `Listed`, as in card's Named.)
 #[derive(Clone, Copy)]
 pub struct Prepared {
     pub all: Instance,
@@ -44,38 +44,22 @@ pub struct Prepared {
     pub seats: usize,
 }
 
-// A contour's vertices, two numbers each: the first `count` of the numbers.
-#[derive(Clone, Copy)]
-struct Outline {
-    numbers: [f64; NUMBERS],
-    count: usize,
-}
+// A contour's vertices, two numbers each.
+type Outline = Listed<f64, NUMBERS>;
 
-// As many vertices as there are, or as can be held.
-fn most(v: usize) -> usize
-    ensures { result ≡ min v vertex_limit }
-{
-    if v < VERTICES {
-        return v;
-    }
-    VERTICES
-}
-
-// Contour k's vertices.
+// Contour k's vertices, as many as there are or can be held.
 fn outline_of(card: &[u8], k: usize) -> Outline
     ensures { result ≡ outlined (outline_of card.now k) }
 {
-    let v = most(fields::vertices(card, k));
+    let v = fields::vertices(card, k).min(VERTICES);
     let mut numbers = [0.0; NUMBERS];
-    let mut j = 0;
-    while j < v {
+    for j in 0..v {
         let p = fields::vertex(card, k, j);
         numbers[2 * j] = p.x;
         numbers[2 * j + 1] = p.y;
-        j += 1;
     }
-    Outline {
-        numbers,
+    Listed {
+        items: numbers,
         count: 2 * v,
     }
 }
@@ -85,30 +69,22 @@ fn offers(card: &[u8], k: usize) -> Candidates
     ensures { result ≡ filled (offers_of card.now k) }
 {
     let o = outline_of(card, k);
-    let numbers = o.numbers;
-    let end = o.count;
-    let kind = fields::contour_type(card, k);
-    let exterior = fields::exterior(card);
-    let interior = fields::interior(card);
-    let c = fields::per_contour(card);
-    let grid = fields::asks_grid(card);
-    candidates::candidates_of(&numbers[..end], c, grid, kind, exterior, interior)
+    candidates::candidates_of(
+        &o.items[..o.count],
+        fields::per_contour(card),
+        fields::asks_grid(card),
+        fields::contour_type(card, k),
+        fields::exterior(card),
+        fields::interior(card),
+    )
 }
 
 // No contours.
 fn none() -> Instance
     ensures { result ≡ held_at [] 0 }
 {
-    let blank = Candidate {
-        x: 0.0,
-        y: 0.0,
-        end_x: 0.0,
-        end_y: 0.0,
-        vertex: 0,
-        direction: CutDirection::Ccw,
-    };
     Instance {
-        items: [blank; CANDIDATES],
+        items: [BLANK; CANDIDATES],
         owner: [0; CANDIDATES],
         first: [0; FIRSTS],
         contours: 0,
@@ -124,22 +100,16 @@ fn joined(held: Instance, found: Candidates, k: usize) -> Instance
     let mut items = held.items;
     let mut owner = held.owner;
     let mut first = held.first;
-    let from = held.count;
-    let more = found.items;
-    let end = found.count;
-    let mut j = 0;
-    while j < end {
-        items[from + j] = more[j];
-        owner[from + j] = k as u8;
-        j += 1;
-    }
-    first[k + 1] = (from + end) as u8;
+    let count = held.count + found.count;
+    items[held.count..count].copy_from_slice(&found.items[..found.count]);
+    owner[held.count..count].fill(k as u8);
+    first[k + 1] = count as u8;
     Instance {
         items,
         owner,
         first,
         contours: k + 1,
-        count: from + end,
+        count,
     }
 }
 
@@ -149,31 +119,20 @@ fn held(card: &[u8]) -> usize
 {
     let n = fields::contours(card);
     let c = fields::per_contour(card);
-    if n > CONTOURS {
-        return 0;
+    if n <= CONTOURS && 0 < c && c <= PER_CONTOUR && n * c <= CANDIDATES {
+        n
+    } else {
+        0
     }
-    if c < 1 {
-        return 0;
-    }
-    if c > PER_CONTOUR {
-        return 0;
-    }
-    if n * c > CANDIDATES {
-        return 0;
-    }
-    n
 }
 
 // All of a card's candidates.
 pub fn gather(card: &[u8]) -> Instance
     ensures { result ≡ instance_of card.now }
 {
-    let n = held(card);
     let mut all = none();
-    let mut k = 0;
-    while k < n {
+    for k in 0..held(card) {
         all = joined(all, offers(card, k), k);
-        k += 1;
     }
     all
 }
@@ -183,8 +142,7 @@ fn homes_of(all: Instance, home: Point) -> [f64; CANDIDATES]
     ensures { result ≡ homed all.items all.count home no_distances }
 {
     let mut homes = [0.0; CANDIDATES];
-    let items = all.items;
-    table::fill_home(&mut homes, items, all.count, home);
+    table::fill_home(&mut homes, all.items, all.count, home);
     homes
 }
 
@@ -195,12 +153,12 @@ pub fn prepare(card: &[u8]) -> Prepared
     let all = gather(card);
     let homes = homes_of(all, fields::home(card));
     let named = card::pair_places(card);
+    // By a name: the borrow checker does not cover an array moved from field to field.
     let pairs = named.positions;
-    let seats = named.count;
     Prepared {
         all,
         homes,
         pairs,
-        seats,
+        seats: named.count,
     }
 }

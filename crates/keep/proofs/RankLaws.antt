@@ -1,18 +1,26 @@
 -- Last ranks as the loops find them, in a table filled entry by entry or for one id at a time. Assumes nothing.
-use mathlib.Core.Bool.{Bool, true, false, cond, not}
+use mathlib.Core.Bool.{Bool, true, false, cond, not, ◌&&◌}
 use mathlib.Core.Path.{◌≡◌, refl, sym, ap, ◌∙◌}
 use mathlib.Core.Logic.{⊎_elim}
-use mathlib.Core.List.{List, [], ◌∷◌}
-use Prim.Native.Nat.{ℕ, zero, suc, ◌+◌, ◌≤◌, ◌<◌}
+use mathlib.Core.List.{List, [], ◌∷◌, ◌++◌, map, reverse}
+use Prim.Native.Nat.{ℕ, zero, suc, ◌+◌, ◌-◌, ◌/◌, ◌≤◌, ◌<◌}
 use native.Mathlib.Numerals.{add-one}
 use native.Mathlib.Omega.{arith}
 use lib.Dec.{eqb, ltb}
-use borrow.Author.Tests.{eq-eqb, ne_eqb, lt-ltb}
+use borrow.Author.Tests.{eq-eqb, ne_eqb, lt-ltb, le-ltb, ltb-false}
 use lib.ListN.{length, get_or, set, drop, replicate, length-set, get_or-replicate, drop_of_length-le}
 use lib.Seq.{drop-cons, get_or-set_same, get_or-set_other}
-use Rattle.closure.specs.Pairs.{paired, every}
-use Rattle.closure.proofs.PairLaws.{same_or, pair_at, WalkPart, walk-on, walk-told, every-on, every_off}
-use Rattle.keep.specs.Keep.{last_rank, kept_at, kept_in, keeps_pairs, ready_by, ready_in}
+use Rattle.std.specs.Simd.{first_chunks}
+use Rattle.std.specs.Prelude.{Option, Some, None, IfSome}
+use Rattle.std.specs.List.{position_or_len}
+use Rattle.std.specs.Option.{MatchOption, IsSomeAnd}
+use Rattle.std.proofs.lemmas.Grind.{reverse_onto}
+use Rattle.std.proofs.lemmas.List.{length-reverse}
+use Rattle.std.proofs.lemmas.List.Folds.{position_or_len_push}
+use Rattle.std.proofs.lemmas.List.Sums.{prefix_len-le-length}
+use Rattle.closure.specs.Pairs.{pair_of, paired, every}
+use Rattle.closure.proofs.PairLaws.{same_or, chunks_are}
+use Rattle.keep.specs.Keep.{last_rank, kept_at, kept_in, keeps_pairs}
 use Rattle.keep.specs.Code.{latest, RanksOf}
 
 -- what the loops find is the last rank in what is left, where x is there, and else what was met before
@@ -77,17 +85,7 @@ pub ranks_all : (order : List ℕ) (i : ℕ) (p q : List ℕ) → length order �
 unfolding latest
 ranks_all order i p q all part = record { told = λ x h. rw (drop_of_length-le order all) at (part.left x h) }
 
--- ---- two last ranks that keep a pair
-
-pub kept-absent : (b a : ℕ) → a ≡ 0 → true ≡ kept_at b a
-kept-absent b a e = rw (eq-eqb a 0 e) (sym (mathlib.Core.Bool.or-true (eqb b 0)))
-
-pub kept_there : (b a : ℕ) → (a ≡ 0 → ⊥) → ltb b a ≡ kept_at b a
-kept_there b a d = ⊎_elim
-    (λ (z : b ≡ 0). rw (lt-ltb b a (omega arith), eq-eqb b 0 z))
-    (λ (w : b ≡ 0 → ⊥). rw (ne_eqb b 0 w, ne_eqb a 0 d)) (same_or b 0)
-
--- ---- the answer for a pair of the list
+-- ---- the answer for the pairs of the list
 
 -- a table that was zero at first holds the last rank of a number of the list
 pub table_rank : (order ranks : List ℕ) (x y : ℕ) → RanksOf order (replicate 256 0) ranks → x ≡ y → x < 256 →
@@ -96,64 +94,87 @@ table_rank order ranks x y table e h =
     table.told x h ∙ ap (λ (z : ℕ). latest x 0 z order) (get_or-replicate 256 x 0 0 h)
     ∙ latest_last x order ∙ ap (last_rank order) e
 
-pub keeps_is : (order pairs : List ℕ) → every (kept_in order) (paired pairs) ≡ keeps_pairs order pairs
-unfolding keeps_pairs
-keeps_is order pairs = refl
+-- so where all numbers of the list are bytes, what it says of all pairs is what the order says
+all_ranks : (order ranks pairs : List ℕ) → RanksOf order (replicate 256 0) ranks
+    → ((i : ℕ) → get_or pairs i 0 < 256)
+    → every (λ p. kept_at (get_or ranks p.before 0) (get_or ranks p.after 0)) (paired pairs) ≡ keeps_pairs order pairs
+unfolding paired every keeps_pairs kept_in
+all_ranks order ranks [] table bytes = refl
+all_ranks order ranks (b ∷ []) table bytes = refl
+all_ranks order ranks (b ∷ (a ∷ more)) table bytes =
+    rw (table_rank order ranks b b table refl (bytes 0), table_rank order ranks a a table refl (bytes 1))
+    (ap (λ (all : Bool). kept_at (last_rank order b) (last_rank order a) && all)
+    (all_ranks order ranks more table (λ i. bytes (suc (suc i)))))
 
-module _ (order pairs : List ℕ) (at b a : ℕ) (r : Bool) (eb : b ≡ last_rank order (get_or pairs at 0))
-    (ea : a ≡ last_rank order (get_or pairs (at + 1) 0))
-    (more : at + 1 < length pairs) (part : WalkPart (every (kept_in order)) pairs at) (is : r ≡ kept_at b a) where
-  kept_answer : kept_in order (pair_at pairs at) ≡ r
-  unfolding kept_in
-  kept_answer = sym (is ∙ rw (eb, ea))
+pub table_keeps : (order ranks pairs : List ℕ) (chunks : List (List ℕ))
+    → chunks ≡ first_chunks 2 (length pairs / 2) pairs
+    → RanksOf order (replicate 256 0) ranks → ((i : ℕ) → get_or pairs i 0 < 256)
+    → every (λ p. kept_at (get_or ranks p.before 0) (get_or ranks p.after 0)) (map pair_of chunks)
+    ≡ keeps_pairs order pairs
+table_keeps order ranks pairs chunks are table bytes =
+    rw (chunks_are pairs chunks are) (all_ranks order ranks pairs table bytes)
 
-  pub pair_kept : r ≡ true → WalkPart (every (kept_in order)) pairs (at + 2)
-  pair_kept t = walk-on (every (kept_in order)) pairs at more part (every-on (kept_in order) _ _ (kept_answer ∙ t))
+-- ---- the last rank of one id, looked for from the back
 
-  pub pair_broken : r ≡ false → false ≡ keeps_pairs order pairs
-  pair_broken t =
-      walk-told (every (kept_in order)) pairs at more part false (every_off (kept_in order) _ _ (kept_answer ∙ t))
-      ∙ keeps_is order pairs
+abbrev is_id : ℕ → ℕ → Bool
+is_id id x = eqb x id
 
--- ---- what a pair asks of the flags
+-- how far from the back it is decides the last rank
+back_step : (b : Bool) (p n later : ℕ) → p ≤ n → later ≡ n - p →
+    cond (ltb 0 later) (suc later) (cond b 1 0) ≡ suc n - cond (eqb p n) (n + cond b 0 1) p
+back_step b p n later h e = ⊎_elim
+    (λ (s : p ≡ n). rw (eq-eqb p n s, le-ltb 0 later (omega arith)) (last b))
+    (λ (d : p ≡ n → ⊥). rw (ne_eqb p n d, lt-ltb 0 later (omega arith)) (omega arith)) (same_or p n)
+  where
+    last : (b : Bool) → cond b 1 0 ≡ suc n - (n + cond b 0 1)
+    last true = omega arith
+    last false = omega arith
 
-pub ready_other : (visited : List ℕ) (b a k : ℕ) → (a ≡ k → ⊥)
-    → true ≡ ready_by visited k (record { before = b; after = a })
-unfolding ready_by
-ready_other visited b a k d = rw (ne_eqb a k d)
+rank_back : (id : ℕ) (ids : List ℕ) → last_rank ids id ≡ length ids - position_or_len (is_id id) (reverse ids)
+unfolding last_rank
+rank_back id [] = refl
+rank_back id (x ∷ more) =
+    let at : position_or_len (is_id id) (reverse more ++ x ∷ [])
+    ≡ cond (eqb (position_or_len (is_id id) (reverse more)) (length (reverse more)))
+    (length (reverse more) + cond (eqb x id) 0 1) (position_or_len (is_id id) (reverse more)) =
+    position_or_len_push (is_id id) (reverse more) x in
+    rw (reverse_onto more x [], at, length-reverse more)
+    (back_step (eqb x id) (position_or_len (is_id id) (reverse more)) (length more) (last_rank more id)
+    (rw (← length-reverse more) (prefix_len-le-length (λ y. not (eqb y id)) (reverse more))) (rank_back id more))
 
-pub ready_flag : (visited : List ℕ) (b a k w f : ℕ) → a ≡ k → w ≡ b → f ≡ get_or visited w 0
-    → not (eqb f 0) ≡ ready_by visited k (record { before = b; after = a })
-unfolding ready_by
-ready_flag visited b a k w f e p q = rw (eq-eqb a k e, q, p)
+-- a place from the front as one from the back
+abbrev pub from_back : ℕ → Option ℕ → Option ℕ
+from_back n None = None
+from_back n (Some i) = Some (n - 1 - i)
 
-pub ready_is : (visited pairs : List ℕ) (k : ℕ) → every (ready_by visited k) (paired pairs) ≡ ready_in visited pairs k
-unfolding ready_in
-ready_is visited pairs k = refl
+pub turned : {A : Type 0} (n len : ℕ) (r : Option ℕ) (o : Option A) (C : A → Type 0)
+    → MatchOption o (r ≡ None) (λ x. IsSomeAnd r (λ i. i + 1 + len ≡ n) × C x)
+    → MatchOption o (from_back n r ≡ None) (λ x. (from_back n r ≡ Some len) × C x)
+turned n len r None C m = ap (from_back n) m
+turned n len None (Some x) C m = absurd m.0
+turned n len (Some i) (Some x) C m = (ap Some (let e : i + 1 + len ≡ n = m.0 in omega arith), m.1)
 
--- ---- the last rank of one id, by walking the ids
+-- what is there only where a test is passed
+pub some_is : (t : Bool) (v x : ℕ) → Some x ≡ cond t (Some v) None → (t ≡ true) × (x ≡ v)
+some_is true v x e = (refl, cc)
+some_is false v x e = absurd (let z : ◌≡◌ {A = ℕ} 0 1 = cc in omega arith)
 
--- going on from entry i with what was met gives what the whole list gives
-pub record LatestPart (id : ℕ) (ids : List ℕ) (i met : ℕ) : Type 0 where
-  pub within : i ≤ length ids
-  pub left : latest id i met (drop i ids) ≡ last_rank ids id
+pub none_is : (t : Bool) (v : ℕ) → None ≡ cond t (Some v) None → t ≡ false
+none_is true v e = absurd (let z : ◌≡◌ {A = ℕ} 0 1 = cc in omega arith)
+none_is false v e = refl
 
-pub latest-none : (id : ℕ) (ids : List ℕ) → LatestPart id ids 0 0
-latest-none id ids = record { within = omega arith; left = latest_last id ids }
-
-module _ (id : ℕ) (ids : List ℕ) (i met : ℕ) (more : i < length ids) (part : LatestPart id ids i met) where
-  latest-walk : latest id (suc i) (cond (eqb (get_or ids i 0) id) (suc i) met) (drop (suc i) ids) ≡ last_rank ids id
-  latest-walk =
-      sym (latest-step id i met (get_or ids i 0) (drop (suc i) ids)) ∙ (rw (drop-cons ids i 0 more) at part.left)
-
-  pub latest_here : get_or ids i 0 ≡ id → LatestPart id ids (i + 1) (i + 1)
-  latest_here e =
-      rw (add-one i) (record { within = omega arith; left = rw (eq-eqb (get_or ids i 0) id e) at latest-walk })
-
-  pub latest_other : (get_or ids i 0 ≡ id → ⊥) → LatestPart id ids (i + 1) met
-  latest_other d =
-      rw (add-one i) (record { within = omega arith; left = rw (ne_eqb (get_or ids i 0) id d) at latest-walk })
-
-pub latest_all : (id : ℕ) (ids : List ℕ) (i met : ℕ) → length ids ≤ i → LatestPart id ids i met → met ≡ last_rank ids id
-unfolding latest
-latest_all id ids i met all part = rw (drop_of_length-le ids all) at part.left
+-- the place of the last one, and so its rank
+pub rank_told : (id : ℕ) (ids : List ℕ) (r : Option ℕ) (rank : ℕ) → IfSome r (λ i. i < length ids)
+    → from_back (length ids) r ≡ cond (ltb (position_or_len (is_id id) (reverse ids)) (length (reverse ids)))
+    (Some (position_or_len (is_id id) (reverse ids))) None
+    → MatchOption r (rank ≡ 0) (λ i. rank ≡ i + 1) → rank ≡ last_rank ids id
+rank_told id ids None rank h e m =
+    let p = position_or_len (is_id id) (reverse ids) in
+    let f = none_is (ltb p (length (reverse ids))) p e in
+    let l = length-reverse ids in
+    let q = ltb-false p (length (reverse ids)) f in
+    m ∙ sym (rank_back id ids ∙ omega arith)
+rank_told id ids (Some i) rank h e m =
+    let p = position_or_len (is_id id) (reverse ids) in
+    let f : length ids - 1 - i ≡ p = (some_is (ltb p (length (reverse ids))) p (length ids - 1 - i) e).1 in
+    m ∙ sym (rank_back id ids ∙ omega (arith, h, f))

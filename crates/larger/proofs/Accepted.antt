@@ -1,5 +1,6 @@
 -- A card whose blocks say what those of a crowded one say is fine, lies on the grid and is answered with a tour.
 -- Assumes nothing.
+use Rattle.std.specs.Prelude.{None, Ok}
 use mathlib.Core.Path.{◌≡◌, refl, sym, ap, ◌∙◌}
 use mathlib.Core.Bool.{Bool, false, true≢false}
 use mathlib.Core.List.{List, [], ◌∷◌, map, map-append}
@@ -11,8 +12,6 @@ use lib.Dec.{T, eqb, eqb-suc-zero}
 use lib.Ieee.{Float}
 use lib.ListN.{length, get_or, replicate, length-map, length-replicate, replicate-append-replicate, get_or-replicate}
 use lib.ListN.{get_or-map}
-use Rattle.answer.specs.declared.Found.TheVariants.{Absent}
-use Rattle.answer.specs.declared.Check.TheVariants.{Fine}
 use Rattle.answer.specs.declared.Point.{Point}
 use Rattle.answer.specs.Lowest.{lowest}
 use Rattle.answer.proofs.LowestLaws.{Nowhere, absent_is}
@@ -39,7 +38,6 @@ use Rattle.card_laws.proofs.Starred.{verdict_computes}
 use Rattle.table.specs.Distances.{absent, pierced}
 use Rattle.instance.specs.Gather.{vertices_of, outline_of, offers_of, gathered}
 use Rattle.instance.specs.Search.{home_on, count_on}
-use Rattle.tour.specs.declared.Toured.TheVariants.{Done}
 use Rattle.tour.specs.Search.{outcome_on}
 use Rattle.tour.specs.Tour.{Left, toured, tour_of}
 use Rattle.tour.proofs.DoorLaws.{tour_fine, rooms_passed}
@@ -57,7 +55,7 @@ pub record Head (s : List ℕ) (n : ℕ) : Type 0 where
   pub check : bad_check s 0 ≡ false
   pub start : bad_start s 0 ≡ false
   pub spare : bad_spare s 0 ≡ false
-  pub fields : head_fault s ≡ Absent
+  pub fields : head_fault s ≡ None
 
 -- what all blocks say
 pub record Known (s : List ℕ) (n : ℕ) : Type 0 where
@@ -93,14 +91,14 @@ module _ (s : List ℕ) (n : ℕ) (known : Known s n) where
 
   -- ---- the stages, one by one
 
-  length_fine : length_fault s ≡ Absent
+  length_fine : length_fault s ≡ None
   unfolding length_fault_within
   length_fine =
       let whole : block_bytes * suc n % block_bytes ≡ 0 = omega arith in
       let short = le-ltb card_bytes (block_bytes * suc n) (omega arith) in
       rw (long, ne_eqb (block_bytes * suc n) 0 (λ e. omega arith), whole, short)
 
-  checks_fine : check_fault s ≡ Absent
+  checks_fine : check_fault s ≡ None
   unfolding check_fault
   checks_fine = rw blocks (absent_is _ _ (no_block (bad_check s) head.check (λ k h. rw (says k h).check_is)))
 
@@ -109,19 +107,19 @@ module _ (s : List ℕ) (n : ℕ) (known : Known s n) where
       no_block (bad_start s) head.start
       (λ k h. rw (head.version, head.contours, eqb-suc-zero k, le-leb (suc k) n h, (says k h).start_is))
 
-  start_fine : start_fault s 1 ≡ Absent
+  start_fine : start_fault s 1 ≡ None
   unfolding start_fault
   start_fine = absent_is (bad_start s) 1 (λ b h. starts_due b (omega arith))
 
-  starts_fine : start_fault s (blocks_of s) ≡ Absent
+  starts_fine : start_fault s (blocks_of s) ≡ None
   unfolding start_fault
   starts_fine = rw blocks (absent_is (bad_start s) (suc n) starts_due)
 
-  count_fine : count_fault s ≡ Absent
+  count_fine : count_fault s ≡ None
   unfolding count_fault
   count_fine = rw (blocks, head.contours, head.pairs, eq-eqb (suc n) (1 + n + 0) (omega arith))
 
-  contours_fine : contour_fault s ≡ Absent
+  contours_fine : contour_fault s ≡ None
   unfolding contour_fault
   contours_fine =
       rw head.contours
@@ -133,11 +131,11 @@ module _ (s : List ℕ) (n : ℕ) (known : Known s n) where
       rw (head.contours, head.version, eqb-suc-zero k, le-leb (suc k) n h, e)
       (rw ((says k h).count_is, (says k h).spare_is))
 
-  spare_fine : spare_fault s ≡ Absent
+  spare_fine : spare_fault s ≡ None
   unfolding spare_fault
   spare_fine = rw blocks (absent_is _ _ (no_block (bad_spare s) head.spare spare_zero))
 
-  far_fine : far_fault s ≡ Absent
+  far_fine : far_fault s ≡ None
   unfolding far_fault far_vertex lowest
   far_fine =
       rw (head.contours, add-one)
@@ -150,15 +148,15 @@ module _ (s : List ℕ) (n : ℕ) (known : Known s n) where
       rw (absent_is (λ i. eqb (id_of s i) (id_of s k)) k
       (λ i g. ne_eqb (id_of s i) (id_of s k) (λ e. omega (arith, (says k h).id_is, (says i (omega arith)).id_is))))
 
-  ids_fine : repeat_fault s ≡ Absent
+  ids_fine : repeat_fault s ≡ None
   unfolding repeat_fault
   ids_fine = rw head.contours (absent_is (repeats s) n none-repeats)
 
-  names_fine : name_fault s ≡ Absent
+  names_fine : name_fault s ≡ None
   unfolding name_fault lowest
   names_fine = rw head.pairs
 
-  tags_fine : tag_fault s ≡ Absent
+  tags_fine : tag_fault s ≡ None
   unfolding tag_fault lowest
   tags_fine = rw head.pairs
 
@@ -166,13 +164,13 @@ module _ (s : List ℕ) (n : ℕ) (known : Known s n) where
   unfolding seats_of
   no_pairs = (unruled s).as_written (λ k h. no_parts s head.version k) ∙ ap (seats_of s) head.pairs
 
-  cycle_fine : cycle_fault s ≡ Absent
+  cycle_fine : cycle_fault s ≡ None
   unfolding cycle_fault_within
   cycle_fine =
       let seen = min (contours_of s) contour_limit in rw no_pairs ((absent_exactly seen []).1 (λ i h. no_way seen))
 
   -- the card is accepted
-  pub fine : check_of s ≡ Fine
+  pub fine : check_of s ≡ Ok tt
   unfolding check_within
   fine =
       rw (length_fine, checks_fine, start_fine, head.fields, count_fine, starts_fine, contours_fine, spare_fine)
@@ -213,8 +211,8 @@ module _ (s : List ℕ) (n : ℕ) (known : Known s n) where
 
   -- in rooms that are large enough the answer is a tour, which need not be computed
   pub answered : (room : List ℕ) (table : List Float) → n ≤ length room → n * n ≤ length table
-      → (tour_of s room table).answer ≡ Done (outcome_on s)
+      → (tour_of s room table).answer ≡ Ok (outcome_on s)
   answered room table h g =
       ap (λ (l : Left). l.answer)
-      (sym (tour_fine s room table Fine (sym fine) (toured s room table) refl
+      (sym (tour_fine s room table (Ok tt) (sym fine) (toured s room table) refl
       (rooms_passed s room table n n (sym head.contours) (sym counted) (toured s room table) h g refl)))

@@ -1,4 +1,5 @@
 -- Where the blocks of a crowded card stand, and what its contours' blocks say. Assumes nothing.
+use Rattle.std.specs.Prelude.{None}
 use mathlib.Core.Path.{◌≡◌, refl, sym, ap, ◌∙◌}
 use mathlib.Core.Bool.{true, not}
 use mathlib.Core.List.{List, [], ◌++◌, append-nil}
@@ -8,7 +9,6 @@ use native.Mathlib.Omega.{arith}
 use borrow.Author.Tests.{not-false}
 use lib.ListN.{length, drop, length-append}
 use lib.Seq.{drop-append-add, drop-drop, get_or-drop}
-use Rattle.answer.specs.declared.Found.TheVariants.{Absent}
 use Rattle.answer.specs.Lowest.{lowest}
 use Rattle.answer.proofs.LowestLaws.{is_absent}
 use Rattle.block.specs.Field.{byte_at, u16_at, u32_at, u64_at}
@@ -96,7 +96,7 @@ pub record Says (s : List ℕ) (k : ℕ) : Type 0 where
   pub y_is : u64_at s (vertex_offset k 0 + 8) ≡ 0
 
 -- the checks alone are computed block by block
-checks : (rest : List ℕ) → lowest (λ k. not (checked (contour_block (suc k) ++ rest) 0)) contour_limit ≡ Absent
+checks : (rest : List ℕ) → lowest (λ k. not (checked (contour_block (suc k) ++ rest) 0)) contour_limit ≡ None
 unfolding verdict_computes
 checks rest = refl
 

@@ -1,5 +1,6 @@
 -- Of the crowded cards heads and checks are computed, all else goes by law; the one with many pairs is fine by its
 -- bytes. What the limits from before say of each follows from Before. Assumes nothing.
+use Rattle.std.specs.Prelude.{Ok}
 use mathlib.Core.Path.{◌≡◌, refl, sym}
 use mathlib.Core.List.{List, ◌++◌}
 use Prim.Native.Nat.{ℕ, suc, ◌+◌, ◌*◌, ◌≤◌, ◌<◌}
@@ -7,7 +8,6 @@ use native.Mathlib.Nat.{le_of_eq}
 use lib.Dec.{lit≤, lit<}
 use lib.Ieee.{binary64, of_bits}
 use lib.ListN.{length, length-replicate}
-use Rattle.answer.specs.declared.Check.TheVariants.{Fine}
 use Rattle.block.specs.Block.{block_bytes}
 use Rattle.closure.specs.Limits.{contour_limit}
 use Rattle.fields.specs.Layout.{contours_of, pairs_of}
@@ -93,7 +93,7 @@ as_many_as_today = longer most known_most (lit< tt)
 
 -- ---- many pairs, and job 41
 
-repeated_fine : check_of repeated ≡ Fine
+repeated_fine : check_of repeated ≡ Ok tt
 unfolding verdict_computes
 repeated_fine = refl
 
@@ -120,7 +120,7 @@ few_pairs : pairs_of (written job41) ≤ before.pairs
 unfolding verdict_computes
 few_pairs = lit≤ tt
 
-job41-taken : check_within before (written job41) ≡ Fine
+job41-taken : check_within before (written job41) ≡ Ok tt
 job41-taken = (limits.reads (written job41) examples.job41_fine).not_larger few_contours few_pairs
 
 pub claim : Claim

@@ -1,4 +1,5 @@
 -- No list is longer than its page. Assumes nothing.
+use Rattle.std.specs.Prelude.{Err, Ok}
 use mathlib.Core.Path.{◌≡◌, refl, ap, ◌∙◌}
 use mathlib.Core.List.{List, [], ◌∷◌, ◌++◌}
 use Prim.Native.Nat.{ℕ, zero, suc, ◌+◌, ◌*◌, ◌/◌, ◌%◌, ◌^◌, ◌≤◌, ◌<◌, min}
@@ -9,8 +10,7 @@ use lib.Dec.{lit≤}
 use lib.Ieee.{to_bits, binary64}
 use lib.ListN.{length, take, length-append}
 use borrow.Author.Tests.{lt-ltb, le-ltb}
-use Rattle.answer.specs.declared.Check.{Check}
-use Rattle.answer.specs.declared.Check.TheVariants.{Fine, Refused}
+use Rattle.answer.specs.Answer.{Check}
 use Rattle.answer.specs.declared.CutDirection.{CutDirection}
 use Rattle.answer.specs.declared.CutDirection.TheVariants.{Ccw, Cw}
 use Rattle.answer.specs.declared.Refusal.{Refusal}
@@ -179,7 +179,7 @@ refusal_short r =
 
 -- ---- the list
 
-tour_short : (s : List ℕ) → OfBytes s → check_of s ≡ Fine → length (tour_lines s (tour_on s) (outcome_on s)) ≤ longest
+tour_short : (s : List ℕ) → OfBytes s → check_of s ≡ Ok tt → length (tour_lines s (tour_on s) (outcome_on s)) ≤ longest
 unfolding tour_lines
 tour_short s of_bytes fine =
     let few = (accepted s fine).few_contours in
@@ -199,8 +199,8 @@ unfolding list_of
 list_fits s of_bytes = go (check_of s) refl
   where
     go : (c : Check) → check_of s ≡ c → length (list_unless c s) ≤ longest
-    go Fine e = tour_short s of_bytes e
-    go (Refused r) e = let l = refusal_short r in omega arith
+    go (Ok _) e = tour_short s of_bytes e
+    go (Err r) e = let l = refusal_short r in omega arith
 
 -- a page that is long enough holds all of a text
 all_laid : (text held : List ℕ) → length text ≤ length held → take (length text) (over text held) ≡ text

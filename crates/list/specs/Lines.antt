@@ -1,9 +1,8 @@
 -- The list of a card s, line by line. Assumes nothing.
-use Rattle.std.specs.Prelude.{List, [], ◌∷◌, ◌++◌, ℕ}
+use Rattle.std.specs.Prelude.{List, [], ◌∷◌, ◌++◌, ℕ, Err, Ok}
 use Rattle.std.specs.Float.Ieee.{to_bits}
 use Rattle.std.specs.Float.{binary64}
-use Rattle.answer.specs.declared.Check.{Check}
-use Rattle.answer.specs.declared.Check.TheVariants.{Fine, Refused}
+use Rattle.answer.specs.Answer.{Check}
 use Rattle.answer.specs.declared.CutDirection.{CutDirection}
 use Rattle.answer.specs.declared.CutDirection.TheVariants.{Ccw, Cw}
 use Rattle.answer.specs.declared.Refusal.{Refusal}
@@ -59,8 +58,8 @@ unfoldable pub refusal_line : Refusal → List ℕ
 refusal_line r = bytes "REFUSED " ++ decimal_of r.number ++ (bytes " AT " ++ decimal_of r.place) ++ bytes "\n"
 
 abbrev pub list_unless : Check → List ℕ → List ℕ
-list_unless Fine s = tour_lines s (tour_on s) (outcome_on s)
-list_unless (Refused r) s = refusal_line r
+list_unless (Ok _) s = tour_lines s (tour_on s) (outcome_on s)
+list_unless (Err r) s = refusal_line r
 
 -- the list of any bytes
 unfoldable pub list_of : List ℕ → List ℕ

@@ -1,21 +1,21 @@
 -- What the questions and the exports answer of twins. Assumes nothing.
+use Rattle.std.specs.Prelude.{Err, Ok}
 use mathlib.Core.Path.{◌≡◌, refl}
 use mathlib.Core.List.{List, [], ◌∷◌}
 use Prim.Native.Nat.{ℕ, ◌+◌, ◌-◌}
 use lib.Dec.{leb, ltb}
 use lib.Ieee.{binary64, to_bits}
 use lib.ListN.{length, get_or}
-use Rattle.answer.specs.declared.Check.{Check}
-use Rattle.answer.specs.declared.Check.TheVariants.{Fine, Refused}
+use Rattle.answer.specs.Answer.{Check, unless}
 use Rattle.answer.specs.Lowest.{refuse_if}
 use Rattle.answer.specs.Stage.{first_refusal}
-use Rattle.answer.specs.Count.{count_unless}
-use Rattle.answer.specs.Room.{placed}
+use Rattle.answer.specs.Room.{placed, listed}
+use Rattle.closure.specs.Limits.{contour_limit}
 use Rattle.candidates.specs.Generate.{blank}
 use Rattle.improve.specs.Search.{length_in}
-use Rattle.questions.specs.Order.{order_check, measured_unless, evaluated}
-use Rattle.questions.specs.Index.{number_check, picked_unless, picked_of, located_unless, located_of, local_check, global_of}
-use Rattle.questions.specs.Nearest.{nearest_in, nearest_on, stops_unless, nearest_of}
+use Rattle.questions.specs.Order.{order_check, evaluated}
+use Rattle.questions.specs.Index.{number_check, picked_of, located_of, local_check, global_of}
+use Rattle.questions.specs.Nearest.{nearest_in, nearest_on, nearest_of}
 use Rattle.host.specs.Hosts.{hosted, host_check, hosted_unless, host_tour}
 use Rattle.parts.specs.Twins.{Twins}
 use Rattle.parts.proofs.ReadLaws.{same_contours}
@@ -31,7 +31,7 @@ module _ (s t : List ℕ) (w : Twins s t) where
   same_evaluated order = λ i.
       let t_same = length (same_candidates s t w i) in
       let check = order_check (same_contours s t w i) (same_owners-on s t w i) t_same order in
-      measured_unless (first_refusal (same_verdict s t w i ∷ check ∷ [])) (length_in (same_chart s t w i) order)
+      unless (first_refusal (same_verdict s t w i ∷ check ∷ [])) (length_in (same_chart s t w i) order)
 
   same_number : (a : ℕ) → number_check s a ≡ number_check t a
   unfolding number_check
@@ -40,33 +40,34 @@ module _ (s t : List ℕ) (w : Twins s t) where
 
   pub same_picked : (a : ℕ) → picked_of s a ≡ picked_of t a
   unfolding picked_of
-  same_picked a = λ i. picked_unless (same_number a i) (get_or (same_candidates s t w i) a blank)
+  same_picked a = λ i. unless (same_number a i) (get_or (same_candidates s t w i) a blank)
 
   pub same_located : (a : ℕ) → located_of s a ≡ located_of t a
   unfolding located_of
   same_located a = λ i.
       let k = get_or (same_owners-on s t w i) a 0 in
-      located_unless (same_number a i) (record { contour = k; within = a - get_or (same_firsts-on s t w i) k 0 })
+      unless (same_number a i) (record { contour = k; within = a - get_or (same_firsts-on s t w i) k 0 })
 
   pub same_global : (k j : ℕ) → global_of s k j ≡ global_of t k j
   unfolding global_of local_check
   same_global k j = λ i.
       let first = same_firsts-on s t w i in
       let size = get_or first (k + 1) 0 - get_or first k 0 in
-      count_unless (first_refusal (same_verdict s t w i
+      unless (first_refusal (same_verdict s t w i
       ∷ first_refusal (refuse_if (leb (same_contours s t w i) k) 15 k ∷ refuse_if (leb size j) 15 j ∷ []) ∷ []))
       (get_or first k 0 + j)
 
   pub same_nearest : nearest_of s ≡ nearest_of t
   unfolding nearest_of nearest_on
-  same_nearest = λ i. stops_unless (same_verdict s t w i) (nearest_in (same_chart s t w i) (same_contours s t w i))
+  same_nearest = λ i.
+      unless (same_verdict s t w i) (listed contour_limit 0 (nearest_in (same_chart s t w i) (same_contours s t w i)))
 
   -- ---- the exports
 
   same_hosted : (c : Check) (room : List ℕ) (moves bits : ℕ)
       → hosted_unless c s room moves bits ≡ hosted_unless c t room moves bits
-  same_hosted (Refused r) room moves bits = refl
-  same_hosted Fine room moves bits = λ i.
+  same_hosted (Err r) room moves bits = refl
+  same_hosted (Ok _) room moves bits = λ i.
       let out = same_outcome s t w i in
       hosted 0 (placed (same_end s t w i).tour room) out.moves (to_bits binary64 out.length)
 

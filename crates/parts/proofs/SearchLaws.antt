@@ -1,4 +1,5 @@
 -- What is prepared and searched on twins, the tour and the list. Assumes nothing.
+use Rattle.std.specs.Prelude.{Err, None, Ok, Some}
 use mathlib.Core.Path.{◌≡◌, refl, ◌∙◌}
 use mathlib.Core.Bool.{cond, ◌||◌}
 use mathlib.Core.List.{List, [], ◌∷◌, ◌++◌}
@@ -7,10 +8,7 @@ use native.Mathlib.Omega.{arith}
 use lib.Dec.{ltb, eqb}
 use lib.Ieee.{Float}
 use lib.ListN.{length, drop, get_or, replicate}
-use Rattle.answer.specs.declared.Found.{Found}
-use Rattle.answer.specs.declared.Found.TheVariants.{At, Absent}
-use Rattle.answer.specs.declared.Check.{Check}
-use Rattle.answer.specs.declared.Check.TheVariants.{Fine, Refused}
+use Rattle.answer.specs.Answer.{Check, Found}
 use Rattle.answer.specs.Lowest.{refuse_if}
 use Rattle.answer.specs.Room.{placed, padded}
 use Rattle.answer.specs.Stage.{first_refusal}
@@ -28,7 +26,6 @@ use Rattle.instance.specs.Room.{held_at, instance_of}
 use Rattle.instance.specs.Search.{home_on, candidates_on, owners_on, firsts_on, table_on, chart_on}
 use Rattle.instance.specs.Prepared.{no_distances, prepared_of}
 use Rattle.solve.specs.Solve.{end_in, outcome_in}
-use Rattle.tour.specs.declared.Toured.TheVariants as answer
 use Rattle.tour.specs.Search.{end_on, end_within, outcome_on}
 use Rattle.tour.specs.Tour.{left, room_check, tour_check, tour_check_within, toured_unless, tour_of, tour_within}
 use Rattle.text.specs.Text.{bytes, decimal_of}
@@ -100,14 +97,14 @@ module _ (s t : List ℕ) (w : Twins s t) where
       }
 
   same_known : (f : Found) → known_before s f ≡ known_before t f
-  same_known (At q) = same_seats s t w q
-  same_known Absent = same_pairs-on s t w
+  same_known (Some q) = same_seats s t w q
+  same_known None = same_pairs-on s t w
 
   same_named : named_of s ≡ named_of t
   unfolding named_within
   same_named = λ i.
       let many = ltb contour_limit (n_same i) || ltb pair_limit (same_pairs s t w i) in
-      let stop = cond many (At 0) (same_name_fault s t w i) in
+      let stop = cond many (Some 0) (same_name_fault s t w i) in
       named_as stop (same_known stop i)
 
   pub same_prepared : prepared_of s ≡ prepared_of t
@@ -157,7 +154,7 @@ module _ (s t : List ℕ) (w : Twins s t) where
   same_tour room table = λ i.
       let c = length (same_candidates i) in
       toured_unless (same_check (length room) (length table) i)
-      (left (answer.Done (same_outcome i)) (placed (same_end i).tour room) (same_table i ++ drop (c * c) table))
+      (left (Ok (same_outcome i)) (placed (same_end i).tour room) (same_table i ++ drop (c * c) table))
       room table
 
   -- ---- the list
@@ -176,8 +173,8 @@ module _ (s t : List ℕ) (w : Twins s t) where
 
   same_lines : (c : Check) → list_unless c s ≡ list_unless c t
   unfolding tour_lines head_line
-  same_lines (Refused r) = refl
-  same_lines Fine = λ i.
+  same_lines (Err r) = refl
+  same_lines (Ok _) = λ i.
       bytes "JOB " ++ decimal_of (same_job s t w i) ++ (bytes " CONTOURS " ++ decimal_of (n_same i)) ++ bytes "\n"
       ++ same_stops (same_end i).tour i ++ outcome_lines (same_outcome i)
 

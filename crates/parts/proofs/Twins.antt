@@ -1,7 +1,8 @@
 -- Twins are answered alike. Assumes nothing.
 use mathlib.Core.Path.{ap}
 use Rattle.answer.specs.Code.{code_of}
-use Rattle.questions.specs.declared.Located.{Located}
+use Rattle.answer.specs.Answer.{Answer}
+use Rattle.questions.specs.declared.Local.{Local}
 use Rattle.host.specs.Hosts.{host_place}
 use Rattle.parts.specs.Twins.{Claim}
 use Rattle.parts.proofs.VerdictLaws.{same_verdict}
@@ -22,5 +23,5 @@ claim s t w = record {
   write_list_lem = same_list s t w;
   jl_check_lem = ap code_of (same_verdict s t w);
   jl_tour_lem = same_host_tour s t w;
-  jl_place_lem = λ a contour within. ap (λ (l : Located). host_place l contour within) (same_located s t w a);
+  jl_place_lem = λ a contour within. ap (λ (l : Answer Local). host_place l contour within) (same_located s t w a);
 }

@@ -1,4 +1,5 @@
 -- The verdict on twins, stage by stage. Assumes nothing.
+use Rattle.std.specs.Prelude.{None, Ok, Some, is_some}
 use mathlib.Core.Path.{◌≡◌, refl, sym, ap, ◌∙◌, subst}
 use mathlib.Core.Bool.{Bool, true, false, not, cond, ◌||◌, ◌&&◌}
 use mathlib.Core.List.{List, [], ◌∷◌, ◌++◌}
@@ -9,10 +10,7 @@ use native.Mathlib.Omega.{arith}
 use lib.Dec.{eqb, ltb, leb, lit≤}
 use lib.ListN.{get_or}
 use borrow.Author.Tests.{eq-eqb, ne_eqb, leb-true, leb-false, ltb-true, ltb-false}
-use Rattle.answer.specs.declared.Found.{Found}
-use Rattle.answer.specs.declared.Found.TheVariants.{At, Absent}
-use Rattle.answer.specs.declared.Check.{Check}
-use Rattle.answer.specs.declared.Check.TheVariants.{Fine}
+use Rattle.answer.specs.Answer.{Check, Found}
 use Rattle.answer.specs.Lowest.{lowest, refuse_at}
 use Rattle.answer.specs.Stage.{or_else, first_refusal}
 use Rattle.answer.proofs.LowestLaws.{absent_is, is_absent, lowest_same}
@@ -26,7 +24,7 @@ use Rattle.fields.specs.Limits.{card_bytes, per_contour_limit, candidate_limit, 
 use Rattle.fields.specs.Layout.{blocks_of, payload, version_of, contours_of, vertex_count_of}
 use Rattle.fields.specs.Layout.{home_offset, vertex_offset, pair_offset, before_id_of, after_id_of}
 use Rattle.fields.specs.Layout.{head_size, contour_size, vertex_size, pair_size, part_offset}
-use Rattle.card.specs.Stages.{found_if, is_at, outside, length_fault, length_fault_within, check_fault, kind_due, is_version}
+use Rattle.card.specs.Stages.{found_if, outside, length_fault, length_fault_within, check_fault, kind_due, is_version}
 use Rattle.card.specs.Stages.{bad_start}
 use Rattle.card.specs.Stages.{start_fault, head_fault, head_fault_within, count_fault, bad_contour, contour_fault, used_in}
 use Rattle.card.specs.Stages.{spare_end, bad_spare}
@@ -43,12 +41,12 @@ use Rattle.parts.proofs.ReadLaws.{same_exterior, same_interior, is_two_lem, is_o
 use Rattle.parts.proofs.ReadLaws.{same_tag, same_count, same_type, same_filler, at-vertex, same_word}
 
 -- where every check is the one due, none is at fault
-checks_due : (s : List ℕ) → ChecksDue s → check_fault s ≡ Absent
+checks_due : (s : List ℕ) → ChecksDue s → check_fault s ≡ None
 unfolding check_fault checked
 checks_due s due = absent_is _ (blocks_of s) (λ b h. ap not (eq-eqb _ _ (due b h)))
 
 -- a card that stage 6 lets pass has no contour of more than 30 vertices
-few_vertices : (s : List ℕ) → contour_fault s ≡ Absent → (k : ℕ) → k < contours_of s → vertex_count_of s k ≤ vertex_limit
+few_vertices : (s : List ℕ) → contour_fault s ≡ None → (k : ℕ) → k < contours_of s → vertex_count_of s k ≤ vertex_limit
 unfolding contour_fault
 few_vertices s none k h =
     ltb-false _ _ (or-none (ltb (vertex_count_of s k) 1) _ (or-none (outside 1 vertex_limit (vertex_count_of s k)) _
@@ -217,10 +215,10 @@ module _ (s t : List ℕ) (w : Twins s t) where
   same_far_place few zero h = far s t home_offset (at_home s t w)
   same_far_place few (suc k) h =
       let v : vertex_count_of s k ≤ vertex_limit = few k (omega arith) in
-      ap is_at (lowest_same (vertex_count_of s k) _ _ (λ j g. far s t _ (at-vertex s t w k j (omega arith)))
+      ap is_some (lowest_same (vertex_count_of s k) _ _ (λ j g. far s t _ (at-vertex s t w k j (omega arith)))
       ∙ ap (lowest (λ j. far_point t (vertex_offset k j))) (same_count s t w k))
 
-  same_far_fault : contour_fault s ≡ Absent → far_fault s ≡ far_fault t
+  same_far_fault : contour_fault s ≡ None → far_fault s ≡ far_fault t
   unfolding far_fault
   same_far_fault none =
       lowest_same (contours_of s + 1) _ _ (same_far_place (few_vertices s none))
@@ -234,7 +232,7 @@ module _ (s t : List ℕ) (w : Twins s t) where
 
   same_repeat_fault : repeat_fault s ≡ repeat_fault t
   unfolding repeat_fault
-  same_repeat_fault = λ i. lowest (λ k. is_at (same_seek k (same_id s t w k i) i)) (n_same i)
+  same_repeat_fault = λ i. lowest (λ k. is_some (same_seek k (same_id s t w k i) i)) (n_same i)
 
   -- the contour that a pair's word names, as an id
   same_position : (q o : ℕ) → o + 4 ≤ 16
@@ -249,7 +247,7 @@ module _ (s t : List ℕ) (w : Twins s t) where
 
   pub same_name_fault : name_fault s ≡ name_fault t
   unfolding name_fault
-  same_name_fault = λ i. lowest (λ q. not (is_at (first q i)) || not (is_at (second q i))) (same_pairs s t w i)
+  same_name_fault = λ i. lowest (λ q. not (is_some (first q i)) || not (is_some (second q i))) (same_pairs s t w i)
 
   same_tag_fault : tag_fault s ≡ tag_fault t
   unfolding tag_fault
@@ -277,10 +275,10 @@ module _ (s t : List ℕ) (w : Twins s t) where
   -- ---- all
 
   -- what comes after stage 6 counts only where that finds nothing
-  after_six : (f g : Found) (x y : Check) → f ≡ g → (f ≡ Absent → x ≡ y)
+  after_six : (f g : Found) (x y : Check) → f ≡ g → (f ≡ None → x ≡ y)
       → or_else (refuse_at 6 f) x ≡ or_else (refuse_at 6 g) y
-  after_six (At p) g x y e h = ap (λ (z : Found). or_else (refuse_at 6 z) y) e
-  after_six Absent g x y e h = λ i. or_else (refuse_at 6 (e i)) (h refl i)
+  after_six (Some p) g x y e h = ap (λ (z : Found). or_else (refuse_at 6 z) y) e
+  after_six None g x y e h = λ i. or_else (refuse_at 6 (e i)) (h refl i)
 
   pub same_verdict : check_of s ≡ check_of t
   unfolding check_within first_refusal
@@ -297,7 +295,7 @@ module _ (s t : List ℕ) (w : Twins s t) where
       (or_else (refuse_at 9 (same_repeat_fault j))
       (or_else (refuse_at 10 (same_name_fault j))
       (or_else (refuse_at 11 (same_tag_fault j))
-      (or_else (refuse_at 12 (same_cycle_fault j)) Fine)))))) i))))))
+      (or_else (refuse_at 12 (same_cycle_fault j)) (Ok tt))))))) i))))))
     where
       all_starts : start_fault s (blocks_of s) ≡ start_fault t (blocks_of t)
       all_starts = same_start_fault (blocks_of s) (omega arith) ∙ (λ i. start_fault t (same_blocks s t w i))

@@ -1,5 +1,6 @@
 -- The twins that there are, computed: one test over all places of the file, and one over blocks or contours for each
 -- other premise. Assumes nothing.
+use Rattle.std.specs.Prelude.{None, Ok}
 use mathlib.Mathlib.Data.Bool.Basic.{eq-false_of_not-eq-true, and_elim_left, and_elim_right}
 use mathlib.Core.Path.{◌≡◌, refl, sym, ap, ◌∙◌}
 use mathlib.Core.Logic.{◌⊎◌, inl, inr, ⊎_elim}
@@ -11,8 +12,6 @@ use native.Mathlib.Omega.{arith}
 use lib.Dec.{eqb, leb, ltb}
 use lib.ListN.{length}
 use borrow.Author.Tests.{eqb-true, leb-true, ltb-true, not-false}
-use Rattle.answer.specs.declared.Found.TheVariants.{Absent}
-use Rattle.answer.specs.declared.Check.TheVariants.{Fine}
 use Rattle.answer.specs.Lowest.{lowest}
 use Rattle.answer.proofs.LowestLaws.{is_absent}
 use Rattle.answer.proofs.Truth.{or_cases}
@@ -55,7 +54,7 @@ like_at n a (x ∷ s) (y ∷ t) e (suc i) o =
     (ap (own_at n) (suc-add a i ∙ sym (add-suc a i)) ∙ o)
 
 -- a test that fails nowhere below n
-everywhere : (f : ℕ → Bool) (n : ℕ) → lowest (λ k. not (f k)) n ≡ Absent → (k : ℕ) → k < n → f k ≡ true
+everywhere : (f : ℕ → Bool) (n : ℕ) → lowest (λ k. not (f k)) n ≡ None → (k : ℕ) → k < n → f k ≡ true
 everywhere f n e k h = not-false (f k) (is_absent (λ k. not (f k)) n e k h)
 
 -- what is computed of two files
@@ -63,15 +62,15 @@ record Computed (s t : List ℕ) : Type 0 where
   some_block : ltb 0 (blocks_of s) ≡ true
   as_long : length t ≡ length s
   like : like_from (contours_of s) 0 s t ≡ true
-  two : lowest (λ b. not (eqb (byte_at s (block_bytes * b + 1)) 2)) (blocks_of s) ≡ Absent
-  one : lowest (λ b. not (eqb (byte_at t (block_bytes * b + 1)) 1)) (blocks_of t) ≡ Absent
-  checks : (check_fault s ≡ Absent) × (check_fault t ≡ Absent)
+  two : lowest (λ b. not (eqb (byte_at s (block_bytes * b + 1)) 2)) (blocks_of s) ≡ None
+  one : lowest (λ b. not (eqb (byte_at t (block_bytes * b + 1)) 1)) (blocks_of t) ≡ None
+  checks : (check_fault s ≡ None) × (check_fault t ≡ None)
   no_grid : grid_of s ≡ 0
-  no_part : lowest (λ k. not (eqb (part_of s k) 0)) (contours_of s) ≡ Absent
-  zeros : lowest (λ k. not (zeros_at t (payload (k + 1) + part_offset) 8)) (contours_of s) ≡ Absent
+  no_part : lowest (λ k. not (eqb (part_of s k) 0)) (contours_of s) ≡ None
+  zeros : lowest (λ k. not (zeros_at t (payload (k + 1) + part_offset) 8)) (contours_of s) ≡ None
 
 module _ (s t : List ℕ) (c : Computed s t) where
-  checked_all : (u : List ℕ) → check_fault u ≡ Absent → ChecksDue u
+  checked_all : (u : List ℕ) → check_fault u ≡ None → ChecksDue u
   unfolding check_fault checked
   checked_all u e b h = eqb-true _ _ (everywhere (λ b. checked u (block_bytes * b)) (blocks_of u) e b h)
 
@@ -127,7 +126,7 @@ computed = record {
   zeros = refl;
 }
 
-fine : check_of second ≡ Fine
+fine : check_of second ≡ Ok tt
 unfolding verdict_computes
 fine = refl
 

@@ -1,10 +1,9 @@
 -- Job 41 as a card of version 2, its pair forgotten and its contours of one part or another: what the rule binds, and
 -- what it leaves free. Assumes nothing.
-use Rattle.std.specs.Prelude.{◌≡◌, List, [], ◌∷◌, ℕ, pos}
+use Rattle.std.specs.Prelude.{◌≡◌, List, [], ◌∷◌, ℕ, pos, Err, Ok}
 use Rattle.std.specs.Float.{binary64}
 use Rattle.std.specs.Float.Ieee.{of_int}
 use Rattle.answer.specs.declared.ContourType.TheVariants.{Interior}
-use Rattle.answer.specs.declared.Check.TheVariants.{Fine, Refused}
 use Rattle.card.specs.Verdict.{check_of}
 use Rattle.card.specs.Names.{pairs_on}
 use Rattle.card_laws.specs.Card.{Card, Contour, Pair, card_of}
@@ -35,7 +34,7 @@ interleaved =
 -- read back, the card is itself
 pub record HoleFirst : Type 0 where
   pub read_back : card_of (written (holes [])) ≡ holes []
-  pub fine : check_of (written (holes [])) ≡ Fine
+  pub fine : check_of (written (holes [])) ≡ Ok tt
   pub bound : pairs_on (written (holes [])) ≡ 2 ∷ 1 ∷ []
   pub tour_is : tour_on (written (holes [])) ≡ 2 ∷ 1 ∷ 0 ∷ []
   pub tour_long : (outcome_on (written (holes []))).length ≡ of_int binary64 (pos 24)
@@ -52,7 +51,7 @@ doubled = written (parted (in_part 5 1 seven ∷ in_part 5 1 nine ∷ in_part 5 
 
 -- only the first waits: the second goes before the hole
 pub record FirstWaits : Type 0 where
-  pub fine : check_of doubled ≡ Fine
+  pub fine : check_of doubled ≡ Ok tt
   pub bound : pairs_on doubled ≡ 2 ∷ 0 ∷ []
   pub tour_is : tour_on doubled ≡ 1 ∷ 2 ∷ 0 ∷ []
 
@@ -65,7 +64,7 @@ loose = written (parted (in_part 0 1 seven ∷ in_part 0 1 nine ∷ in_part 0 1 
 
 -- nothing waits: the nearest goes first
 pub record Unbound (s : List ℕ) : Type 0 where
-  pub fine : check_of s ≡ Fine
+  pub fine : check_of s ≡ Ok tt
   pub unbound : pairs_on s ≡ []
   pub tour_is : tour_on s ≡ 1 ∷ 2 ∷ 0 ∷ []
 
@@ -76,4 +75,4 @@ pub record Claim : Type 0 where
   pub first-waits : FirstWaits
   pub other_copy_lem : Unbound other_copy
   pub no_part : Unbound loose
-  pub told_otherwise : verdict_on (holes (waits 9 2 ∷ [])) ≡ Refused (record { number = 12; place = 1 })
+  pub told_otherwise : verdict_on (holes (waits 9 2 ∷ [])) ≡ Err (record { number = 12; place = 1 })

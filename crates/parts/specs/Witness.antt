@@ -1,7 +1,6 @@
 -- There are twins: a fine card of version 2 with an outline, a hole that a written pair puts first and no part, and
 -- the same card of version 1. Assumes nothing.
-use Rattle.std.specs.Prelude.{◌≡◌, List, [], ◌∷◌, ℕ}
-use Rattle.answer.specs.declared.Check.TheVariants.{Fine}
+use Rattle.std.specs.Prelude.{◌≡◌, List, [], ◌∷◌, ℕ, Ok}
 use Rattle.fields.specs.Layout.{copy_of}
 use Rattle.card.specs.Verdict.{check_of}
 use Rattle.card_laws.specs.Card.{Card}
@@ -24,5 +23,5 @@ first = written (plate 1 0)
 
 pub record Witness : Type 0 where
   pub are_twins : Twins second first
-  pub is_fine : check_of second ≡ Fine
+  pub is_fine : check_of second ≡ Ok tt
   pub has_copy : copy_of second 0 ≡ 7

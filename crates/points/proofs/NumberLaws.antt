@@ -1,6 +1,6 @@
 -- What comparisons tell of a number: whether it can be a coordinate. Assumes nothing.
 use mathlib.Core.Path.{◌≡◌, refl, sym, subst}
-use mathlib.Core.Bool.{true, false, false≢true}
+use mathlib.Core.Bool.{Bool, true, false, not, false≢true}
 use Prim.Native.Nat.{◌*◌, ◌≤◌, ◌<◌}
 use native.Mathlib.Nat.{mul-one, lt_of_not-le}
 use borrow.Author.Tests.{lt-ltb, le-ltb}
@@ -50,3 +50,11 @@ under_is (fin true m e) p =
     let h : b < a = lt_of_not-le (λ l. subst T p (tested true b true a l)) in
     lt-ltb b (m * up e) (rw mul-one at h)
 under_is (fin false m e) p = absurd (subst T p (tested true (largest * down e) false (m * up e * 1) tt))
+
+-- both sides at once, as the code asks
+pub up_to_is : (x : Float) → le (neg limit64) x ≡ true → not (le x limit64) ≡ bad_number x
+up_to_is x q = go (le x limit64) (λ p. within_is x p q) (above_is x)
+  where
+    go : (b : Bool) → (b ≡ true → bad_number x ≡ false) → (b ≡ false → bad_number x ≡ true) → not b ≡ bad_number x
+    go true good bad = sym (good refl)
+    go false good bad = sym (bad refl)

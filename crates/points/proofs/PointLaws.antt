@@ -3,8 +3,10 @@ use mathlib.Core.Path.{◌≡◌, refl, ap, ◌∙◌}
 use mathlib.Core.List.{List, [], ◌∷◌}
 use Prim.Native.Nat.{ℕ, zero, suc, ◌+◌, ◌*◌, ◌/◌, ◌≤◌, ◌<◌, suc-le-suc}
 use native.Mathlib.Nat.{not-suc-le-zero, le_of_suc-le-suc, zero-lt-suc}
+use native.Mathlib.Decide.{dec_lt}
 use native.Mathlib.Numerals.{add-one}
 use native.Mathlib.Omega.{arith}
+use lib.Arith.{lt_of_le-ne}
 use lib.ListN.{length, get_or, get_or-eq_default}
 use lib.Ieee.{Float, nan}
 use Rattle.answer.specs.declared.Point.{Point}
@@ -106,6 +108,17 @@ module _ (d : List Float) where
 
   pub edge_past : (i : ℕ) → length d / 2 ≤ i → get_or (edges (points d)) i no_ends ≡ no_ends
   edge_past i h = get_or-eq_default (edges (points d)) no_ends (rw (edges-length, points-length) h)
+
+  -- from vertex i, not the last, to the next one; from no vertex to none
+  pub edge_on : (i n : ℕ) → (n ≡ length d / 2 → ⊥) → (i < length d / 2 → n ≡ i + 1) → i ≤ n
+      → get_or (edges (points d)) i no_ends ≡ ends (get_or (points d) i nowhere) (get_or (points d) n nowhere)
+  edge_on i n m h g = elim (dec_lt i (length d / 2)) [
+    | yes y ↦
+        let e = h y in
+        let l : i + 1 ≤ length d / 2 = omega arith in
+        rw e (edge_next i (lt_of_le-ne l (λ z. m (e ∙ z))))
+    | no k ↦ rw (edge_past i (omega arith), point-past i (omega arith), point-past n (omega arith))
+  ]
 
   pub edges_count : length (edges (points d)) ≡ length d / 2
   edges_count = edges-length (points d) ∙ points-length d

@@ -3,7 +3,7 @@ use Rattle.std.specs.Prelude.{Bool, true, ◌||◌, List, ℕ, ◌*◌, ◌^◌,
 use Rattle.std.specs.Float.{nan, inf, fin}
 use Rattle.std.specs.Float.Ieee.{up, down}
 use Rattle.answer.specs.declared.Point.{Point}
-use Rattle.answer.specs.declared.Found.{Found}
+use Rattle.answer.specs.Answer.{Found}
 use Rattle.answer.specs.Lowest.{lowest}
 use Rattle.points.specs.Points.{points, nowhere}
 

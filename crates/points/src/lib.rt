@@ -8,7 +8,7 @@ ghost use Rattle.points.specs.Bad.{bad_number, bad_point, first_bad};
 ghost use Rattle.points.specs.Distance.{distance_sq_of, distance_of};
 ghost use Rattle.points.specs.Along.{along_of};
 
-use answer::{Found, Point};
+use answer::Point;
 
 // The largest size of a coordinate, in millimetres.
 pub const LARGEST: f64 = 1048576.0;
@@ -30,22 +30,14 @@ pub struct Ends {
 pub fn bad_number(x: f64) -> bool
     ensures { result ≡ bad_number x }
 {
-    if x <= LARGEST {
-        if -LARGEST <= x {
-            return false;
-        }
-    }
-    true
+    !(-LARGEST <= x && x <= LARGEST)
 }
 
 // Whether a point has such a number.
 pub fn bad_point(p: Point) -> bool
     ensures { result ≡ bad_point p }
 {
-    if bad_number(p.x) {
-        return true;
-    }
-    bad_number(p.y)
+    bad_number(p.x) || bad_number(p.y)
 }
 
 // Point k of a flat list of numbers, two to a point. Past the last whole point it is no place at all.
@@ -53,14 +45,15 @@ pub fn point_at(numbers: &[f64], k: usize) -> Point
     ensures { result ≡ get_or (points numbers.now) k nowhere }
 {
     if k < numbers.len() / 2 {
-        return Point {
+        Point {
             x: numbers[2 * k],
             y: numbers[2 * k + 1],
-        };
-    }
-    Point {
-        x: 0.0 / 0.0,
-        y: 0.0 / 0.0,
+        }
+    } else {
+        Point {
+            x: f64::NAN,
+            y: f64::NAN,
+        }
     }
 }
 
@@ -68,39 +61,19 @@ pub fn point_at(numbers: &[f64], k: usize) -> Point
 pub fn edge_at(numbers: &[f64], i: usize) -> Ends
     ensures { result ≡ get_or (edges (points numbers.now)) i no_ends }
 {
-    let start = point_at(numbers, i);
-    if i < numbers.len() / 2 {
-        let next = i + 1;
-        if next < numbers.len() / 2 {
-            return Ends {
-                start,
-                finish: point_at(numbers, next),
-            };
-        }
-        return Ends {
-            start,
-            finish: point_at(numbers, 0),
-        };
-    }
+    let next = i.saturating_add(1);
+    let next = if next == numbers.len() / 2 { 0 } else { next };
     Ends {
-        start,
-        finish: start,
+        start: point_at(numbers, i),
+        finish: point_at(numbers, next),
     }
 }
 
 // The first bad one of the first `count` points of a flat list of numbers.
-pub fn first_bad(numbers: &[f64], count: usize) -> Found
+pub fn first_bad(numbers: &[f64], count: usize) -> Option<usize>
     ensures { result ≡ first_bad numbers.now count }
 {
-    let mut k = 0;
-    while k < count {
-        let p = point_at(numbers, k);
-        if bad_point(p) {
-            return Found::At(k);
-        }
-        k += 1;
-    }
-    Found::Absent
+    (0..count).find(|&k| bad_point(point_at(numbers, k)))
 }
 
 // The squared distance of two points.

@@ -4,7 +4,7 @@
 #![tactic(auto)]
 
 ghost use Rattle.std.specs.Prelude.{◌≡◌, [], length};
-ghost use Rattle.probe.specs.Told.{root_code, root_or, length_code, length_or, closest_code, nearest_or, count_code, count_or, verdict_code, kind_of, preference_of, way_of, asked_of, nth_of, place_of, fine_or};
+ghost use Rattle.probe.specs.Told.{answer_code, value_or, closest_code, nearest_or, verdict_code, way_of, asked_of, nth_of, place_of, told_or};
 ghost use Rattle.root.specs.Root.{sqrt_of, root_of};
 ghost use Rattle.points.specs.Points.{point};
 ghost use Rattle.points.specs.Distance.{distance_of};
@@ -26,32 +26,32 @@ ghost use Rattle.start.specs.Code.{ground_of, Written};
 ghost use Rattle.improve.specs.Search.{searched};
 ghost use Rattle.improve.specs.Code.{Reached, chart_of};
 
-use answer::{Check, ContourType, Count, CutDirection, CutDirectionPreference, Point};
-use candidates::{Candidate, Candidates, Offered};
+use answer::{ContourType, CutDirection, CutDirectionPreference, Listed, Point, Refusal};
+use candidates::{Candidate, Candidates};
 use closure::{CONTOURS, PAIRS};
-use cost::{Closest, Measured};
-use hierarchy::{Ids, Verdict};
-use root::Rooted;
+use cost::Nearest;
+use improve::Chart;
+use table::Distances;
 
-// Tells a root.
-fn tell_root(a: Rooted, out: &mut f64) -> u64
-    ensures value { result ≡ root_code a }
-    ensures out_after { out.new ≡ root_or a out.old }
+// Tells what was asked for, or the refusal.
+fn tell<T: Copy>(a: Result<T, Refusal>, out: &mut T) -> u64
+    ensures value { result ≡ answer_code a }
+    ensures out_after { out.new ≡ value_or a out.old }
 {
     match a {
-        Rooted::Is(x) => {
+        Ok(x) => {
             *out = x;
             0
         }
-        Rooted::Refused(r) => answer::code(Check::Refused(r)),
+        Err(refusal) => answer::code(Err(refusal)),
     }
 }
 
 pub fn probe_root(x: f64, out: &mut f64) -> u64
-    ensures value { result ≡ root_code (root_of x) }
-    ensures out_after { out.new ≡ root_or (root_of x) out.old }
+    ensures value { result ≡ answer_code (root_of x) }
+    ensures out_after { out.new ≡ value_or (root_of x) out.old }
 {
-    tell_root(root::root(x), out)
+    tell(root::root(x), out)
 }
 
 pub fn probe_sqrt(x: f64) -> f64
@@ -60,35 +60,21 @@ pub fn probe_sqrt(x: f64) -> f64
     root::sqrt(x)
 }
 
-// Tells a length.
-fn tell_length(a: Measured, out: &mut f64) -> u64
-    ensures value { result ≡ length_code a }
-    ensures out_after { out.new ≡ length_or a out.old }
-{
-    match a {
-        Measured::Is(x) => {
-            *out = x;
-            0
-        }
-        Measured::Refused(r) => answer::code(Check::Refused(r)),
-    }
-}
-
 pub fn probe_distance(ax: f64, ay: f64, bx: f64, by: f64, out: &mut f64) -> u64
-    ensures value { result ≡ length_code (point_distance_of (point ax ay) (point bx by)) }
-    ensures out_after { out.new ≡ length_or (point_distance_of (point ax ay) (point bx by)) out.old }
+    ensures value { result ≡ answer_code (point_distance_of (point ax ay) (point bx by)) }
+    ensures out_after { out.new ≡ value_or (point_distance_of (point ax ay) (point bx by)) out.old }
 {
-    tell_length(
+    tell(
         cost::point_distance(Point { x: ax, y: ay }, Point { x: bx, y: by }),
         out,
     )
 }
 
 pub fn probe_distance_sq(ax: f64, ay: f64, bx: f64, by: f64, out: &mut f64) -> u64
-    ensures value { result ≡ length_code (point_distance_sq_of (point ax ay) (point bx by)) }
-    ensures out_after { out.new ≡ length_or (point_distance_sq_of (point ax ay) (point bx by)) out.old }
+    ensures value { result ≡ answer_code (point_distance_sq_of (point ax ay) (point bx by)) }
+    ensures out_after { out.new ≡ value_or (point_distance_sq_of (point ax ay) (point bx by)) out.old }
 {
-    tell_length(
+    tell(
         cost::point_distance_sq(Point { x: ax, y: ay }, Point { x: bx, y: by }),
         out,
     )
@@ -109,21 +95,27 @@ pub fn probe_between(ax: f64, ay: f64, bx: f64, by: f64) -> f64
 }
 
 pub fn probe_rapid(x: f64, y: f64, legs: &[f64], out: &mut f64) -> u64
-    ensures value { result ≡ length_code (total_rapid_of (point x y) legs.now) }
-    ensures out_after { out.new ≡ length_or (total_rapid_of (point x y) legs.now) out.old }
+    ensures value { result ≡ answer_code (total_rapid_of (point x y) legs.now) }
+    ensures out_after { out.new ≡ value_or (total_rapid_of (point x y) legs.now) out.old }
 {
-    tell_length(cost::total_rapid_distance(Point { x, y }, legs), out)
+    tell(cost::total_rapid_distance(Point { x, y }, legs), out)
 }
 
 pub fn probe_sequence_cost(total: f64, count: usize, weight: f64, out: &mut f64) -> u64
-    ensures value { result ≡ length_code (sequence_cost_of total count weight) }
-    ensures out_after { out.new ≡ length_or (sequence_cost_of total count weight) out.old }
+    ensures value { result ≡ answer_code (sequence_cost_of total count weight) }
+    ensures out_after { out.new ≡ value_or (sequence_cost_of total count weight) out.old }
 {
-    tell_length(cost::sequence_cost(total, count, weight), out)
+    tell(cost::sequence_cost(total, count, weight), out)
 }
 
 // Tells a closest place: 1 where there is none.
-fn tell_closest(a: Closest, x: &mut f64, y: &mut f64, t: &mut f64, vertex: &mut usize) -> u64
+fn tell_closest(
+    a: Result<Option<Nearest>, Refusal>,
+    x: &mut f64,
+    y: &mut f64,
+    t: &mut f64,
+    vertex: &mut usize,
+) -> u64
     ensures value { result ≡ closest_code a }
     ensures x_after { x.new ≡ nearest_or a (λ n. n.point.x) x.old }
     ensures y_after { y.new ≡ nearest_or a (λ n. n.point.y) y.old }
@@ -131,16 +123,15 @@ fn tell_closest(a: Closest, x: &mut f64, y: &mut f64, t: &mut f64, vertex: &mut 
     ensures vertex_after { vertex.new ≡ nearest_or a (λ n. n.vertex) vertex.old }
 {
     match a {
-        Closest::At(n) => {
-            let p = n.point;
-            *x = p.x;
-            *y = p.y;
+        Ok(Some(n)) => {
+            *x = n.point.x;
+            *y = n.point.y;
             *t = n.t;
             *vertex = n.vertex;
             0
         }
-        Closest::Nowhere => 1,
-        Closest::Refused(r) => answer::code(Check::Refused(r)),
+        Ok(None) => 1,
+        Err(r) => answer::code(Err(r)),
     }
 }
 
@@ -168,39 +159,20 @@ pub fn probe_closest(
     )
 }
 
-// Tells a number of things.
-fn tell_count(a: Count, out: &mut usize) -> u64
-    ensures value { result ≡ count_code a }
-    ensures out_after { out.new ≡ count_or a out.old }
-{
-    match a {
-        Count::Is(x) => {
-            *out = x;
-            0
-        }
-        Count::Refused(r) => answer::code(Check::Refused(r)),
-    }
-}
-
 pub fn probe_num_contours(contours: usize, pairs: &[u32], out: &mut usize) -> u64
-    ensures value { result ≡ count_code (num_contours contours pairs.now) }
-    ensures out_after { out.new ≡ count_or (num_contours contours pairs.now) out.old }
+    ensures value { result ≡ answer_code (num_contours contours pairs.now) }
+    ensures out_after { out.new ≡ value_or (num_contours contours pairs.now) out.old }
 {
-    tell_count(hierarchy::num_contours(contours, pairs), out)
+    tell(hierarchy::num_contours(contours, pairs), out)
 }
 
 // Tells yes as 1 and no as 0.
-fn tell_verdict(a: Verdict) -> u64
+fn tell_verdict(a: Result<bool, Refusal>) -> u64
     ensures { result ≡ verdict_code a }
 {
     match a {
-        Verdict::Is(yes) => {
-            if yes {
-                return 1;
-            }
-            0
-        }
-        Verdict::Refused(r) => answer::code(Check::Refused(r)),
+        Ok(yes) => u64::from(yes),
+        Err(r) => answer::code(Err(r)),
     }
 }
 
@@ -223,38 +195,40 @@ pub fn probe_precedences(
     ids: &mut [u32; 2 * PAIRS],
     count: &mut usize,
 ) -> u64
-    ensures value { result ≡ code_of (precedences_of contours pairs.now).check }
-    ensures ids_after { ids.new ≡ fine_or (precedences_of contours pairs.now).check (precedences_of contours pairs.now).ids ids.old }
-    ensures count_after { count.new ≡ fine_or (precedences_of contours pairs.now).check (precedences_of contours pairs.now).count count.old }
+    ensures value { result ≡ answer_code (precedences_of contours pairs.now) }
+    ensures ids_after { ids.new ≡ told_or (precedences_of contours pairs.now) (λ l. l.ids) ids.old }
+    ensures count_after { count.new ≡ told_or (precedences_of contours pairs.now) (λ l. l.count) count.old }
 {
-    let a = hierarchy::precedences(contours, pairs);
-    let check = a.check;
-    match check {
-        Check::Fine => {
-            let list = a.ids;
-            *ids = list;
-            *count = a.count;
+    match hierarchy::precedences(contours, pairs) {
+        Ok(list) => {
+            // Here and below an array goes through a name of its own: stored straight from the field, it is not proved (the borrow check).
+            let numbers = list.ids;
+            *ids = numbers;
+            *count = list.count;
             0
         }
-        Check::Refused(_) => answer::code(check),
+        Err(r) => answer::code(Err(r)),
     }
 }
 
-// Tells ids, and how many.
-fn tell_ids(found: Ids, ids: &mut [u32; PAIRS], count: &mut usize) -> u64
-    ensures value { result ≡ code_of found.check }
-    ensures ids_after { ids.new ≡ fine_or found.check found.ids ids.old }
-    ensures count_after { count.new ≡ fine_or found.check found.count count.old }
+// Tells a list, and how many there are.
+fn tell_listed<const N: usize>(
+    found: Result<Listed<u32, N>, Refusal>,
+    items: &mut [u32; N],
+    count: &mut usize,
+) -> u64
+    ensures value { result ≡ answer_code found.entry }
+    ensures items_after { items.new ≡ told_or found.entry (λ l. l.items) items.old }
+    ensures count_after { count.new ≡ told_or found.entry (λ l. l.count) count.old }
 {
-    let check = found.check;
-    match check {
-        Check::Fine => {
-            let list = found.ids;
-            *ids = list;
-            *count = found.count;
+    match found {
+        Ok(list) => {
+            let all = list.items;
+            *items = all;
+            *count = list.count;
             0
         }
-        Check::Refused(_) => answer::code(check),
+        Err(r) => answer::code(Err(r)),
     }
 }
 
@@ -265,11 +239,11 @@ pub fn probe_predecessors(
     ids: &mut [u32; PAIRS],
     count: &mut usize,
 ) -> u64
-    ensures value { result ≡ code_of (predecessors_of contours pairs.now id).check }
-    ensures ids_after { ids.new ≡ fine_or (predecessors_of contours pairs.now id).check (predecessors_of contours pairs.now id).ids ids.old }
-    ensures count_after { count.new ≡ fine_or (predecessors_of contours pairs.now id).check (predecessors_of contours pairs.now id).count count.old }
+    ensures value { result ≡ answer_code (predecessors_of contours pairs.now id) }
+    ensures ids_after { ids.new ≡ told_or (predecessors_of contours pairs.now id) (λ l. l.items) ids.old }
+    ensures count_after { count.new ≡ told_or (predecessors_of contours pairs.now id) (λ l. l.count) count.old }
 {
-    tell_ids(hierarchy::predecessors(contours, pairs, id), ids, count)
+    tell_listed(hierarchy::predecessors(contours, pairs, id), ids, count)
 }
 
 pub fn probe_successors(
@@ -279,37 +253,14 @@ pub fn probe_successors(
     ids: &mut [u32; PAIRS],
     count: &mut usize,
 ) -> u64
-    ensures value { result ≡ code_of (successors_of contours pairs.now id).check }
-    ensures ids_after { ids.new ≡ fine_or (successors_of contours pairs.now id).check (successors_of contours pairs.now id).ids ids.old }
-    ensures count_after { count.new ≡ fine_or (successors_of contours pairs.now id).check (successors_of contours pairs.now id).count count.old }
+    ensures value { result ≡ answer_code (successors_of contours pairs.now id) }
+    ensures ids_after { ids.new ≡ told_or (successors_of contours pairs.now id) (λ l. l.items) ids.old }
+    ensures count_after { count.new ≡ told_or (successors_of contours pairs.now id) (λ l. l.count) count.old }
 {
-    tell_ids(hierarchy::successors(contours, pairs, id), ids, count)
+    tell_listed(hierarchy::successors(contours, pairs, id), ids, count)
 }
 
-// The type of a contour by its number on a card.
-fn kind_of(x: u8) -> ContourType
-    ensures { result ≡ kind_of x }
-{
-    if x == 0 {
-        return ContourType::Exterior;
-    }
-    ContourType::Interior
-}
-
-// A preference by its number on a card.
-fn preference_of(x: u8) -> CutDirectionPreference
-    ensures { result ≡ preference_of x }
-{
-    if x == 0 {
-        return CutDirectionPreference::Ccw;
-    }
-    if x == 1 {
-        return CutDirectionPreference::Cw;
-    }
-    CutDirectionPreference::Auto
-}
-
-// A direction as a number.
+// A direction as the number that hosts know it by. (No `From`: neither type is of this crate.)
 fn way_of(d: CutDirection) -> u64
     ensures { result ≡ way_of d }
 {
@@ -323,24 +274,27 @@ fn way_of(d: CutDirection) -> u64
 fn nth(found: Candidates, k: usize) -> Candidate
     ensures { result ≡ nth_of found k }
 {
-    let items = found.items;
-    if k < 8 {
-        return items[k];
-    }
-    items[0]
+    found.items[if k < 8 { k } else { 0 }]
 }
 
 // The candidates of a contour, asked by numbers as on a card.
-fn offered(numbers: &[f64], c: usize, grid: u8, kind: u8, exterior: u8, interior: u8) -> Offered
+fn offered(
+    numbers: &[f64],
+    c: usize,
+    grid: u8,
+    kind: u8,
+    exterior: u8,
+    interior: u8,
+) -> Result<Candidates, Refusal>
     ensures { result ≡ asked_of numbers.now c grid kind exterior interior }
 {
     candidates::contour_candidates(
         numbers,
         c,
         grid == 1,
-        kind_of(kind),
-        preference_of(exterior),
-        preference_of(interior),
+        ContourType::from(kind),
+        CutDirectionPreference::from(exterior),
+        CutDirectionPreference::from(interior),
     )
 }
 
@@ -358,27 +312,22 @@ pub fn probe_candidate(
     way: &mut u64,
     count: &mut usize,
 ) -> u64
-    ensures value { result ≡ code_of (asked_of numbers.now c grid kind exterior interior).check }
-    ensures place_after { place.new ≡ fine_or (asked_of numbers.now c grid kind exterior interior).check (place_of (nth_of (asked_of numbers.now c grid kind exterior interior).found k)) place.old }
-    ensures vertex_after { vertex.new ≡ fine_or (asked_of numbers.now c grid kind exterior interior).check (nth_of (asked_of numbers.now c grid kind exterior interior).found k).vertex vertex.old }
-    ensures way_after { way.new ≡ fine_or (asked_of numbers.now c grid kind exterior interior).check (way_of (nth_of (asked_of numbers.now c grid kind exterior interior).found k).direction) way.old }
-    ensures count_after { count.new ≡ fine_or (asked_of numbers.now c grid kind exterior interior).check (asked_of numbers.now c grid kind exterior interior).found.count count.old }
+    ensures value { result ≡ answer_code (asked_of numbers.now c grid kind exterior interior) }
+    ensures place_after { place.new ≡ told_or (asked_of numbers.now c grid kind exterior interior) (λ found. place_of (nth_of found k)) place.old }
+    ensures vertex_after { vertex.new ≡ told_or (asked_of numbers.now c grid kind exterior interior) (λ found. (nth_of found k).vertex) vertex.old }
+    ensures way_after { way.new ≡ told_or (asked_of numbers.now c grid kind exterior interior) (λ found. way_of (nth_of found k).direction) way.old }
+    ensures count_after { count.new ≡ told_or (asked_of numbers.now c grid kind exterior interior) (λ found. found.count) count.old }
 {
-    let a = offered(numbers, c, grid, kind, exterior, interior);
-    let check = a.check;
-    match check {
-        Check::Fine => {
-            let found = a.found;
+    match offered(numbers, c, grid, kind, exterior, interior) {
+        Ok(found) => {
             *count = found.count;
             let n = nth(found, k);
-            let four = [n.x, n.y, n.end_x, n.end_y];
-            *place = four;
+            *place = [n.x, n.y, n.end_x, n.end_y];
             *vertex = n.vertex;
-            let direction = n.direction;
-            *way = way_of(direction);
+            *way = way_of(n.direction);
             0
         }
-        Check::Refused(_) => answer::code(check),
+        Err(r) => answer::code(Err(r)),
     }
 }
 
@@ -388,21 +337,15 @@ pub fn probe_topological_sort(
     positions: &mut [u32; CONTOURS],
     count: &mut usize,
 ) -> u64
-    ensures value { result ≡ code_of (topological_sort contours pairs.now).check }
-    ensures positions_after { positions.new ≡ fine_or (topological_sort contours pairs.now).check (topological_sort contours pairs.now).positions positions.old }
-    ensures count_after { count.new ≡ fine_or (topological_sort contours pairs.now).check (topological_sort contours pairs.now).count count.old }
+    ensures value { result ≡ answer_code (topological_sort contours pairs.now) }
+    ensures positions_after { positions.new ≡ told_or (topological_sort contours pairs.now) (λ l. l.items) positions.old }
+    ensures count_after { count.new ≡ told_or (topological_sort contours pairs.now) (λ l. l.count) count.old }
 {
-    let a = hierarchy::topological_sort(contours, pairs);
-    let check = a.check;
-    match check {
-        Check::Fine => {
-            let list = a.positions;
-            *positions = list;
-            *count = a.count;
-            0
-        }
-        Check::Refused(_) => answer::code(check),
-    }
+    tell_listed(
+        hierarchy::topological_sort(contours, pairs),
+        positions,
+        count,
+    )
 }
 
 pub fn probe_check(card: &[u8]) -> u64
@@ -411,10 +354,23 @@ pub fn probe_check(card: &[u8]) -> u64
     answer::code(card::check(card))
 }
 
+// The distances as the search takes them.
+fn distances<'a>(home: &'a [f64], table: &'a [f64], t: u8) -> Distances<'a>
+    ensures home_is { result.home.now ≡ home.now }
+    ensures table_is { result.table.now ≡ table.now }
+    ensures count_is { result.count ≡ t }
+{
+    Distances {
+        home,
+        table,
+        count: t,
+    }
+}
+
 pub fn probe_evaluate(home: &[f64], table: &[f64], t: u8, tour: &[u8]) -> f64
     ensures { result ≡ length_of home.now table.now t tour.now }
 {
-    table::evaluate_solution(home, table, t, tour)
+    distances(home, table, t).evaluate_solution(tour)
 }
 
 pub fn probe_improve(
@@ -431,7 +387,13 @@ pub fn probe_improve(
     ensures { Reached result tour.new
         (searched (chart_of home.now table.now t owner.now first.now pairs.now) passes limit tour.old) }
 {
-    improve::improve(home, table, t, owner, first, pairs, tour, passes, limit)
+    let chart = Chart {
+        distances: distances(home, table, t),
+        owner,
+        first,
+        pairs,
+    };
+    improve::improve(&chart, tour, passes, limit)
 }
 
 pub fn probe_start(
@@ -445,14 +407,14 @@ pub fn probe_start(
     ensures { let n = length tour.old in
         Written (nearest (ground_of home.now table.now t first.now pairs.now) n) tour.old result tour.new }
 {
-    start::nn_constrained(home, table, t, first, pairs, tour)
+    start::nn_constrained(&distances(home, table, t), first, pairs, tour)
 }
 
 pub fn probe_solve_nn(home: &[f64], table: &[f64], t: u8, first: &[u8], tour: &mut [u8]) -> usize
     ensures { let n = length tour.old in
         Written (nearest (ground_of home.now table.now t first.now []) n) tour.old result tour.new }
 {
-    start::solve_nn(home, table, t, first, tour)
+    start::solve_nn(&distances(home, table, t), first, tour)
 }
 
 // The distances from home and between the candidates of a card, and how many candidates there are.
@@ -462,9 +424,7 @@ pub fn probe_distances(card: &[u8], home: &mut [f64], table: &mut [f64], count: 
     ensures count_after { count.new ≡ (instance_of card.now).count }
 {
     let all = instance::gather(card);
-    let items = all.items;
-    let owner = all.owner;
-    table::fill_home(home, items, all.count, fields::home(card));
-    table::fill_table(table, items, all.count, &owner);
+    table::fill_home(home, all.items, all.count, fields::home(card));
+    table::fill_table(table, all.items, all.count, &all.owner);
     *count = all.count;
 }

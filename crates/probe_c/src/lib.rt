@@ -2,7 +2,7 @@
 #![tactic(auto)]
 
 ghost use Rattle.std.specs.Prelude.{◌≡◌, [], length};
-ghost use Rattle.probe.specs.Told.{root_code, root_or, length_code, length_or, closest_code, nearest_or, count_code, count_or, verdict_code, way_of, asked_of, nth_of, place_of, fine_or};
+ghost use Rattle.probe.specs.Told.{answer_code, value_or, closest_code, nearest_or, verdict_code, way_of, asked_of, nth_of, place_of, told_or};
 ghost use Rattle.root.specs.Root.{sqrt_of, root_of};
 ghost use Rattle.points.specs.Points.{point};
 ghost use Rattle.points.specs.Distance.{distance_of};
@@ -28,8 +28,8 @@ use closure::{CONTOURS, PAIRS};
 
 #[unsafe(no_mangle)]
 pub extern "C" fn probe_root(x: f64, out: &mut f64) -> u64
-    ensures value { result ≡ root_code (root_of x) }
-    ensures out_after { out.new ≡ root_or (root_of x) out.old }
+    ensures value { result ≡ answer_code (root_of x) }
+    ensures out_after { out.new ≡ value_or (root_of x) out.old }
 {
     probe::probe_root(x, out)
 }
@@ -43,16 +43,16 @@ pub extern "C" fn probe_sqrt(x: f64) -> f64
 
 #[unsafe(no_mangle)]
 pub extern "C" fn probe_distance(ax: f64, ay: f64, bx: f64, by: f64, out: &mut f64) -> u64
-    ensures value { result ≡ length_code (point_distance_of (point ax ay) (point bx by)) }
-    ensures out_after { out.new ≡ length_or (point_distance_of (point ax ay) (point bx by)) out.old }
+    ensures value { result ≡ answer_code (point_distance_of (point ax ay) (point bx by)) }
+    ensures out_after { out.new ≡ value_or (point_distance_of (point ax ay) (point bx by)) out.old }
 {
     probe::probe_distance(ax, ay, bx, by, out)
 }
 
 #[unsafe(no_mangle)]
 pub extern "C" fn probe_distance_sq(ax: f64, ay: f64, bx: f64, by: f64, out: &mut f64) -> u64
-    ensures value { result ≡ length_code (point_distance_sq_of (point ax ay) (point bx by)) }
-    ensures out_after { out.new ≡ length_or (point_distance_sq_of (point ax ay) (point bx by)) out.old }
+    ensures value { result ≡ answer_code (point_distance_sq_of (point ax ay) (point bx by)) }
+    ensures out_after { out.new ≡ value_or (point_distance_sq_of (point ax ay) (point bx by)) out.old }
 {
     probe::probe_distance_sq(ax, ay, bx, by, out)
 }
@@ -75,16 +75,16 @@ pub extern "C" fn probe_between(ax: f64, ay: f64, bx: f64, by: f64) -> f64
 
 #[unsafe(no_mangle)]
 pub extern "C" fn probe_rapid(x: f64, y: f64, legs: &[f64], out: &mut f64) -> u64
-    ensures value { result ≡ length_code (total_rapid_of (point x y) legs.now) }
-    ensures out_after { out.new ≡ length_or (total_rapid_of (point x y) legs.now) out.old }
+    ensures value { result ≡ answer_code (total_rapid_of (point x y) legs.now) }
+    ensures out_after { out.new ≡ value_or (total_rapid_of (point x y) legs.now) out.old }
 {
     probe::probe_rapid(x, y, legs, out)
 }
 
 #[unsafe(no_mangle)]
 pub extern "C" fn probe_sequence_cost(total: f64, count: usize, weight: f64, out: &mut f64) -> u64
-    ensures value { result ≡ length_code (sequence_cost_of total count weight) }
-    ensures out_after { out.new ≡ length_or (sequence_cost_of total count weight) out.old }
+    ensures value { result ≡ answer_code (sequence_cost_of total count weight) }
+    ensures out_after { out.new ≡ value_or (sequence_cost_of total count weight) out.old }
 {
     probe::probe_sequence_cost(total, count, weight, out)
 }
@@ -110,8 +110,8 @@ pub extern "C" fn probe_closest(
 
 #[unsafe(no_mangle)]
 pub extern "C" fn probe_num_contours(contours: usize, pairs: &[u32], out: &mut usize) -> u64
-    ensures value { result ≡ count_code (num_contours contours pairs.now) }
-    ensures out_after { out.new ≡ count_or (num_contours contours pairs.now) out.old }
+    ensures value { result ≡ answer_code (num_contours contours pairs.now) }
+    ensures out_after { out.new ≡ value_or (num_contours contours pairs.now) out.old }
 {
     probe::probe_num_contours(contours, pairs, out)
 }
@@ -138,9 +138,9 @@ pub extern "C" fn probe_precedences(
     ids: &mut [u32; 2 * PAIRS],
     count: &mut usize,
 ) -> u64
-    ensures value { result ≡ code_of (precedences_of contours pairs.now).check }
-    ensures ids_after { ids.new ≡ fine_or (precedences_of contours pairs.now).check (precedences_of contours pairs.now).ids ids.old }
-    ensures count_after { count.new ≡ fine_or (precedences_of contours pairs.now).check (precedences_of contours pairs.now).count count.old }
+    ensures value { result ≡ answer_code (precedences_of contours pairs.now) }
+    ensures ids_after { ids.new ≡ told_or (precedences_of contours pairs.now) (λ l. l.ids) ids.old }
+    ensures count_after { count.new ≡ told_or (precedences_of contours pairs.now) (λ l. l.count) count.old }
 {
     probe::probe_precedences(contours, pairs, ids, count)
 }
@@ -153,9 +153,9 @@ pub extern "C" fn probe_predecessors(
     ids: &mut [u32; PAIRS],
     count: &mut usize,
 ) -> u64
-    ensures value { result ≡ code_of (predecessors_of contours pairs.now id).check }
-    ensures ids_after { ids.new ≡ fine_or (predecessors_of contours pairs.now id).check (predecessors_of contours pairs.now id).ids ids.old }
-    ensures count_after { count.new ≡ fine_or (predecessors_of contours pairs.now id).check (predecessors_of contours pairs.now id).count count.old }
+    ensures value { result ≡ answer_code (predecessors_of contours pairs.now id) }
+    ensures ids_after { ids.new ≡ told_or (predecessors_of contours pairs.now id) (λ l. l.items) ids.old }
+    ensures count_after { count.new ≡ told_or (predecessors_of contours pairs.now id) (λ l. l.count) count.old }
 {
     probe::probe_predecessors(contours, pairs, id, ids, count)
 }
@@ -168,9 +168,9 @@ pub extern "C" fn probe_successors(
     ids: &mut [u32; PAIRS],
     count: &mut usize,
 ) -> u64
-    ensures value { result ≡ code_of (successors_of contours pairs.now id).check }
-    ensures ids_after { ids.new ≡ fine_or (successors_of contours pairs.now id).check (successors_of contours pairs.now id).ids ids.old }
-    ensures count_after { count.new ≡ fine_or (successors_of contours pairs.now id).check (successors_of contours pairs.now id).count count.old }
+    ensures value { result ≡ answer_code (successors_of contours pairs.now id) }
+    ensures ids_after { ids.new ≡ told_or (successors_of contours pairs.now id) (λ l. l.items) ids.old }
+    ensures count_after { count.new ≡ told_or (successors_of contours pairs.now id) (λ l. l.count) count.old }
 {
     probe::probe_successors(contours, pairs, id, ids, count)
 }
@@ -190,11 +190,11 @@ pub extern "C" fn probe_candidate(
     way: &mut u64,
     count: &mut usize,
 ) -> u64
-    ensures value { result ≡ code_of (asked_of numbers.now c grid kind exterior interior).check }
-    ensures place_after { place.new ≡ fine_or (asked_of numbers.now c grid kind exterior interior).check (place_of (nth_of (asked_of numbers.now c grid kind exterior interior).found k)) place.old }
-    ensures vertex_after { vertex.new ≡ fine_or (asked_of numbers.now c grid kind exterior interior).check (nth_of (asked_of numbers.now c grid kind exterior interior).found k).vertex vertex.old }
-    ensures way_after { way.new ≡ fine_or (asked_of numbers.now c grid kind exterior interior).check (way_of (nth_of (asked_of numbers.now c grid kind exterior interior).found k).direction) way.old }
-    ensures count_after { count.new ≡ fine_or (asked_of numbers.now c grid kind exterior interior).check (asked_of numbers.now c grid kind exterior interior).found.count count.old }
+    ensures value { result ≡ answer_code (asked_of numbers.now c grid kind exterior interior) }
+    ensures place_after { place.new ≡ told_or (asked_of numbers.now c grid kind exterior interior) (λ found. place_of (nth_of found k)) place.old }
+    ensures vertex_after { vertex.new ≡ told_or (asked_of numbers.now c grid kind exterior interior) (λ found. (nth_of found k).vertex) vertex.old }
+    ensures way_after { way.new ≡ told_or (asked_of numbers.now c grid kind exterior interior) (λ found. way_of (nth_of found k).direction) way.old }
+    ensures count_after { count.new ≡ told_or (asked_of numbers.now c grid kind exterior interior) (λ found. found.count) count.old }
 {
     probe::probe_candidate(
         numbers, c, grid, kind, exterior, interior, k, place, vertex, way, count,
@@ -208,9 +208,9 @@ pub extern "C" fn probe_topological_sort(
     positions: &mut [u32; CONTOURS],
     count: &mut usize,
 ) -> u64
-    ensures value { result ≡ code_of (topological_sort contours pairs.now).check }
-    ensures positions_after { positions.new ≡ fine_or (topological_sort contours pairs.now).check (topological_sort contours pairs.now).positions positions.old }
-    ensures count_after { count.new ≡ fine_or (topological_sort contours pairs.now).check (topological_sort contours pairs.now).count count.old }
+    ensures value { result ≡ answer_code (topological_sort contours pairs.now) }
+    ensures positions_after { positions.new ≡ told_or (topological_sort contours pairs.now) (λ l. l.items) positions.old }
+    ensures count_after { count.new ≡ told_or (topological_sort contours pairs.now) (λ l. l.count) count.old }
 {
     probe::probe_topological_sort(contours, pairs, positions, count)
 }

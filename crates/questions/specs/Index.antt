@@ -1,22 +1,15 @@
 -- Index questions on a card s: its own refusals come first. Assumes nothing.
 use Rattle.std.specs.Prelude.{List, [], ◌∷◌, ℕ, ◌+◌, ◌-◌, leb, get_or}
-use Rattle.answer.specs.declared.Check.{Check}
-use Rattle.answer.specs.declared.Check.TheVariants.{Fine, Refused}
+use Rattle.answer.specs.Answer.{Answer, Check, Count, unless}
 use Rattle.answer.specs.Stage.{first_refusal}
 use Rattle.answer.specs.Lowest.{refuse_if}
 use Rattle.candidates.specs.declared.Candidate.{Candidate}
 use Rattle.candidates.specs.Generate.{blank}
-use Rattle.answer.specs.declared.Count.{Count}
-use Rattle.answer.specs.Count.{count_unless}
 use Rattle.fields.specs.Layout.{contours_of}
 use Rattle.card.specs.Verdict.{check_of}
 use Rattle.instance.specs.declared.Instance.{Instance}
 use Rattle.instance.specs.Search.{candidates_on, count_on, owners_on, firsts_on}
-use Rattle.questions.specs.declared.Picked.{Picked}
-use Rattle.questions.specs.declared.Picked.TheVariants as picked
 use Rattle.questions.specs.declared.Local.{Local}
-use Rattle.questions.specs.declared.Located.{Located}
-use Rattle.questions.specs.declared.Located.TheVariants as located
 
 -- 15: a candidate number that no candidate has
 unfoldable pub number_check : List ℕ → ℕ → Check
@@ -24,12 +17,8 @@ unfolding first_refusal
 number_check s a = first_refusal (check_of s ∷ refuse_if (leb (count_on s) a) 15 a ∷ [])
 
 -- `candidate`: the candidate with this number
-abbrev pub picked_unless : Check → Candidate → Picked
-picked_unless Fine q = picked.Is q
-picked_unless (Refused r) q = picked.Refused r
-
-unfoldable pub picked_of : List ℕ → ℕ → Picked
-picked_of s a = picked_unless (number_check s a) (get_or (candidates_on s) a blank)
+unfoldable pub picked_of : List ℕ → ℕ → Answer Candidate
+picked_of s a = unless (number_check s a) (get_or (candidates_on s) a blank)
 
 -- the contour of candidate a, and its number within that contour
 abbrev pub place_on : List ℕ → ℕ → Local
@@ -40,13 +29,9 @@ abbrev pub place_in : Instance → ℕ → Local
 place_in all a = record { contour = get_or all.owner a 0; within = a - get_or all.first (get_or all.owner a 0) 0 }
 
 -- `global_to_local`
-abbrev pub located_unless : Check → Local → Located
-located_unless Fine p = located.At p
-located_unless (Refused r) p = located.Refused r
-
-unfoldable pub located_of : List ℕ → ℕ → Located
+unfoldable pub located_of : List ℕ → ℕ → Answer Local
 unfolding number_check
-located_of s a = located_unless (number_check s a) (place_on s a)
+located_of s a = unless (number_check s a) (place_on s a)
 
 -- how many candidates contour k has
 abbrev pub size_on : List ℕ → ℕ → ℕ
@@ -60,4 +45,4 @@ local_check s k j = first_refusal (refuse_if (leb (contours_of s) k) 15 k ∷ re
 -- `local_to_global`: the number over the whole card of candidate j of contour k
 unfoldable pub global_of : List ℕ → ℕ → ℕ → Count
 unfolding first_refusal local_check
-global_of s k j = count_unless (first_refusal (check_of s ∷ local_check s k j ∷ [])) (get_or (firsts_on s) k 0 + j)
+global_of s k j = unless (first_refusal (check_of s ∷ local_check s k j ∷ [])) (get_or (firsts_on s) k 0 + j)

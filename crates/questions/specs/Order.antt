@@ -1,15 +1,10 @@
 -- An order handed in, candidate numbers as bytes, owner the contour of each of t candidates: what is wrong with it, and
 -- how long it is on a card s. Assumes nothing.
-use Rattle.std.specs.Prelude.{Bool, not, ◌||◌, List, [], ◌∷◌, ℕ, eqb, leb, Float, length, get_or}
-use Rattle.answer.specs.declared.Found.{Found}
-use Rattle.answer.specs.declared.Check.{Check}
-use Rattle.answer.specs.declared.Check.TheVariants.{Fine, Refused}
+use Rattle.std.specs.Prelude.{Bool, not, ◌||◌, List, [], ◌∷◌, ℕ, eqb, leb, Float, length, get_or, is_some}
+use Rattle.answer.specs.Answer.{Answer, Check, Found, unless}
 use Rattle.answer.specs.Lowest.{lowest, refuse_at, refuse_if}
 use Rattle.answer.specs.Stage.{first_refusal}
-use Rattle.cost.specs.declared.Measured.{Measured}
-use Rattle.cost.specs.declared.Measured.TheVariants as measured
 use Rattle.fields.specs.Layout.{contours_of}
-use Rattle.card.specs.Stages.{is_at}
 use Rattle.card.specs.Verdict.{check_of}
 use Rattle.improve.specs.Search.{Chart, owner_of, length_in}
 use Rattle.instance.specs.Search.{count_on, owners_on, chart_on}
@@ -20,7 +15,7 @@ stop_at owner order p = owner_of owner (get_or order p 0)
 
 -- its contour was met at an earlier position
 abbrev pub met_before : List ℕ → List ℕ → ℕ → Bool
-met_before owner order p = is_at (lowest (λ j. eqb (stop_at owner order j) (stop_at owner order p)) p)
+met_before owner order p = is_some (lowest (λ j. eqb (stop_at owner order j) (stop_at owner order p)) p)
 
 -- a number that no candidate has, or a contour met before
 abbrev pub bad_stop : List ℕ → ℕ → List ℕ → ℕ → Bool
@@ -39,17 +34,13 @@ order_check n owner t order =
     ∷ [])
 
 -- the length, unless the check refuses
-abbrev pub measured_unless : Check → Float → Measured
-measured_unless Fine x = measured.Is x
-measured_unless (Refused r) x = measured.Refused r
-
 -- an order on what the search reads, over n contours
-abbrev pub measured_in : Chart → ℕ → List ℕ → Measured
-measured_in chart n order = measured_unless (order_check n chart.owner chart.t order) (length_in chart order)
+abbrev pub measured_in : Chart → ℕ → List ℕ → Answer Float
+measured_in chart n order = unless (order_check n chart.owner chart.t order) (length_in chart order)
 
 -- `evaluate`: the card's own refusals come first
-unfoldable pub evaluated : List ℕ → List ℕ → Measured
+unfoldable pub evaluated : List ℕ → List ℕ → Answer Float
 unfolding first_refusal order_check
 evaluated s order =
-    measured_unless (first_refusal (check_of s ∷ order_check (contours_of s) (owners_on s) (count_on s) order ∷ []))
+    unless (first_refusal (check_of s ∷ order_check (contours_of s) (owners_on s) (count_on s) order ∷ []))
     (length_in (chart_on s) order)

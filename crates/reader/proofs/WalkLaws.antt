@@ -6,8 +6,9 @@ use Prim.Native.Nat.{ℕ, suc, ◌+◌, ◌*◌, ◌-◌, ◌≤◌, ◌<◌, mi
 use native.Mathlib.Nat.{add-zero}
 use native.Mathlib.Numerals.{add-one}
 use native.Mathlib.Omega.{arith}
-use lib.ListN.{length, take, drop, set, replicate, length-replicate, length-drop, take-append-drop}
-use lib.Seq.{take-suc-set, drop-set-lt, drop-drop}
+use lib.ListN.{length, take, drop, set, replicate}
+use lib.Seq.{take-suc-set, take_all}
+use Rattle.std.proofs.lemmas.List.{drop-replicate}
 use Rattle.block.specs.Field.{byte_at, u16_at, u32_at, u64_at}
 use Rattle.block.proofs.Readings.{cut_byte, cut_u16, cut_u32, cut_u64}
 use Rattle.fields.specs.Limits.{vertex_limit}
@@ -15,8 +16,9 @@ use Rattle.reader.specs.declared.Width.{Width}
 use Rattle.reader.specs.declared.Width.TheVariants.{One, Two, Four, Eight}
 use Rattle.reader.specs.declared.Field.{Field}
 use Rattle.reader.specs.Fields.{bytes_of, value_at, field_at}
-use Rattle.reader.specs.declared.Walked.{Walked}
-use Rattle.reader.specs.Walk.{walk, eights, walk_end, four_from}
+use Rattle.reader.specs.declared.Reader.{Reader}
+use denote.Bor.{Bor}
+use Rattle.reader.specs.Walk.{walk, eights}
 use Rattle.reader.specs.OnCard.{filled}
 
 -- ---- one field
@@ -31,72 +33,41 @@ cut_value s a Two = at_zero (u16_at s) (min a (length s)) a (cut_u16 s a 0)
 cut_value s a Four = at_zero (u32_at s) (min a (length s)) a (cut_u32 s a 0)
 cut_value s a Eight = at_zero (u64_at s) (min a (length s)) a (cut_u64 s a 0)
 
--- f is the field of width w at place a
-pub record Read (s : List ℕ) (a : ℕ) (w : Width) (f : Field) : Type 0 where
-  pub value_is : f.value ≡ value_at s a w
-  pub after_is : f.after ≡ min (a + bytes_of w) (length s)
+-- ---- a reader
 
--- it was read at the place, or where the place was cut off
-pub read_cut : (s : List ℕ) (a place : ℕ) (w : Width) (f : Field) → place ≡ min a (length s) → f ≡ field_at s place w
-    → Read s a w f
-read_cut s a place w f cut e = record {
-  value_is = ap (λ (x : Field). x.value) e ∙ ap (λ (p : ℕ). value_at s p w) cut ∙ cut_value s a w;
-  after_is = ap (λ (x : Field). x.after) e ∙ omega arith;
+-- a reader of s stands at p, or where p was cut off
+pub record Stands (s : List ℕ) (p : ℕ) (r : Reader) : Type 0 where
+  pub src_is : r.src.now ≡ s
+  pub at_is : min r.at (length s) ≡ min p (length s)
+
+-- it was made and moved there
+pub stands : (src : Bor (List ℕ)) (p at : ℕ) (r₀ r : Reader) → min at (length src.now) ≡ min p (length src.now)
+    → r₀ ≡ record { src = src; at = 0 } → r ≡ record { src = r₀.src; at = at } → Stands src.now p r
+stands src p at r₀ r cut e f = record {
+  src_is = ap (λ (x : Reader). x.src.now) f ∙ ap (λ (x : Reader). x.src.now) e;
+  at_is = ap (λ (x : Reader). min x.at (length src.now)) f ∙ cut;
 }
 
-pub read_at : (s : List ℕ) (a : ℕ) (w : Width) (f : Field) → f ≡ field_at s a w → Read s a w f
-read_at s a w f e = record { value_is = ap (λ (x : Field). x.value) e; after_is = ap (λ (x : Field). x.after) e }
+-- the next field is the one at p, and then the reader stands behind it
+pub record Next (s : List ℕ) (p q : ℕ) (w : Width) (v : ℕ) (r : Reader) : Type 0 where
+  pub value_is : v ≡ value_at s p w
+  pub after_is : r.at ≡ min q (length s)
+  pub there : Stands s q r
 
--- the next field, at the place b
-pub read_on : (s : List ℕ) (a b : ℕ) (w v : Width) (f g : Field) → a + bytes_of w ≡ b → Read s a w f
-    → g ≡ field_at s f.after v → Read s b v g
-read_on s a b w v f g at h e = read_cut s b f.after v g (h.after_is ∙ ap (λ (p : ℕ). min p (length s)) at) e
-
--- ---- four fields
-
--- four fields, with the place after the last alone
-abbrev pub in_four : Field → Field → Field → Field → Walked
-in_four f g h i = record {
-  first = f.value;
-  second = g.value;
-  third = h.value;
-  fourth = i.value;
-  after = i.after;
-}
-
-pub four_is : (s : List ℕ) (at : ℕ) (a b c d : Width) (f g h i : Field) → f ≡ field_at s at a
-    → g ≡ field_at s f.after b → h ≡ field_at s g.after c → i ≡ field_at s h.after d
-    → in_four f g h i ≡ four_from s at a b c d
-unfolding four_from walk walk_end
-four_is s at a b c d f g h i e₀ e₁ e₂ e₃ = rw (e₃, e₂, e₁, e₀)
-
--- r is the four fields of these widths at the places a, b, c and d, and after them comes e
-pub record ReadFour (s : List ℕ) (a b c d e : ℕ) (w x y z : Width) (r : Walked) : Type 0 where
-  pub first_is : r.first ≡ value_at s a w
-  pub second_is : r.second ≡ value_at s b x
-  pub third_is : r.third ≡ value_at s c y
-  pub fourth_is : r.fourth ≡ value_at s d z
-  pub after_is : r.after ≡ min e (length s)
-
--- the first of them was read at the place, or where the place was cut off
-pub read_four_lem : (s : List ℕ) (a b c d e place : ℕ) (w x y z : Width) (r : Walked) → a + bytes_of w ≡ b
-    → b + bytes_of x ≡ c → c + bytes_of y ≡ d → d + bytes_of z ≡ e → Read s a w (field_at s place w)
-    → r ≡ four_from s place w x y z → ReadFour s a b c d e w x y z r
-unfolding four_from walk walk_end
-read_four_lem s a b c d e place w x y z r ab bc cd de r₀ is =
-    let f = field_at s place w in
-    let g = field_at s f.after x in
-    let h = field_at s g.after y in
-    let i = field_at s h.after z in
-    let r₁ = read_on s a b w x f g ab r₀ refl in
-    let r₂ = read_on s b c x y g h bc r₁ refl in
-    let r₃ = read_on s c d y z h i cd r₂ refl in
+pub next_is : (s : List ℕ) (p q : ℕ) (w : Width) (r r' : Reader) (v : ℕ) → p + bytes_of w ≡ q → Stands s p r
+    → v ≡ (field_at r.src.now r.at w).value → r' ≡ record { src = r.src; at = (field_at r.src.now r.at w).after }
+    → Next s p q w v r'
+next_is s p q w r r' v on here e f =
+    let cut = here.at_is in
+    let src : r'.src.now ≡ s = ap (λ (x : Reader). x.src.now) f ∙ here.src_is in
+    let at : r'.at ≡ min (r.at + bytes_of w) (length s) =
+    ap (λ (x : Reader). x.at) f ∙ ap (λ (l : List ℕ). min (r.at + bytes_of w) (length l)) here.src_is in
     record {
-      first_is = ap (λ (v : Walked). v.first) is ∙ r₀.value_is;
-      second_is = ap (λ (v : Walked). v.second) is ∙ r₁.value_is;
-      third_is = ap (λ (v : Walked). v.third) is ∙ r₂.value_is;
-      fourth_is = ap (λ (v : Walked). v.fourth) is ∙ r₃.value_is;
-      after_is = ap (λ (v : Walked). v.after) is ∙ r₃.after_is ∙ ap (λ (p : ℕ). min p (length s)) de;
+      value_is =
+          e ∙ ap (λ (l : List ℕ). value_at l r.at w) here.src_is ∙ sym (cut_value s r.at w)
+          ∙ ap (λ (x : ℕ). value_at s x w) cut ∙ cut_value s p w;
+      after_is = omega arith;
+      there = record { src_is = src; at_is = omega arith };
     }
 
 -- ---- a walk
@@ -126,8 +97,7 @@ unfolding walk
 walk-length s at [] = refl
 walk-length s at (w ∷ ws) = ap suc (walk-length s (field_at s at w).after ws)
 
--- ---- the loop over coordinates: i of them stand in their places, the walk goes on from a place, and the other places
--- are zero
+-- ---- the loop over coordinates: i of them stand in their places, and the walk goes on from a place
 
 walk_eight : (s : List ℕ) (at n m : ℕ) → n ≡ suc m
     → walk s at (eights n) ≡ u64_at s at ∷ walk s (min (at + 8) (length s)) (eights m)
@@ -139,19 +109,11 @@ none_yet s at count =
     let all : count - 0 ≡ count = omega arith in
     rw all
 
--- a place that is still zero is one of the array's
-room : (read : List ℕ) (i : ℕ) → i < 2 * vertex_limit → drop i read ≡ replicate (2 * vertex_limit - i) 0 → i < length read
-room read i h z =
-    let n : length read - i ≡ 2 * vertex_limit - i =
-    sym (length-drop i read) ∙ ap length z ∙ length-replicate (2 * vertex_limit - i) 0 in
-    omega arith
-
-pub one_more : (s read : List ℕ) (count i place : ℕ) (f : Field) (t : List ℕ) → i < count → count ≤ 2 * vertex_limit
-    → f ≡ field_at s place Eight
-    → drop i read ≡ replicate (2 * vertex_limit - i) 0 → take i read ++ walk s place (eights (count - i)) ≡ t
+pub one_more : (s read : List ℕ) (count i place : ℕ) (f : Field) (t : List ℕ) → i < count → length read ≡ count
+    → f ≡ field_at s place Eight → take i read ++ walk s place (eights (count - i)) ≡ t
     → take (i + 1) (set read i f.value) ++ walk s f.after (eights (count - (i + 1))) ≡ t
-one_more s read count i place f t h few e z so =
-    let g = room read i (omega arith) z in
+one_more s read count i place f t h long e so =
+    let g : i < length read = omega arith in
     let left : count - i ≡ suc (count - (i + 1)) = omega arith in
     let rest = walk s (min (place + 8) (length s)) (eights (count - (i + 1))) in
     let took : take (i + 1) (set read i (u64_at s place)) ≡ take i read ++ (u64_at s place ∷ []) =
@@ -159,28 +121,20 @@ one_more s read count i place f t h few e z so =
     rw (e, took, append_assoc (take i read) (u64_at s place ∷ []) rest)
     (ap (λ (l : List ℕ). take i read ++ l) (sym (walk_eight s place (count - i) (count - (i + 1)) left)) ∙ so)
 
-drop-one : (n m : ℕ) → n ≡ suc m → drop {A = ℕ} 1 (replicate n 0) ≡ replicate m 0
-drop-one n m e = rw e
-
-pub rest_zero : (read : List ℕ) (i x : ℕ) → i < 2 * vertex_limit → drop i read ≡ replicate (2 * vertex_limit - i) 0
-    → drop (i + 1) (set read i x) ≡ replicate (2 * vertex_limit - (i + 1)) 0
-rest_zero read i x h e =
-    drop-set-lt (i + 1) read i x (omega arith) ∙ sym (drop-drop 1 i read) ∙ ap (drop 1) e
-    ∙ drop-one (2 * vertex_limit - i) (2 * vertex_limit - (i + 1)) (omega arith)
-
 walk_none : (s : List ℕ) (at n : ℕ) → n ≡ 0 → walk s at (eights n) ≡ []
 unfolding walk
 walk_none s at n e = rw e
 
-pub all_read : (s read : List ℕ) (count i at place : ℕ) → i ≤ count → count ≤ i
+pub all_read : (s read : List ℕ) (count i at place : ℕ) → count ≤ i → length read ≡ count
     → take i read ++ walk s place (eights (count - i)) ≡ walk s at (eights count)
-    → drop i read ≡ replicate (2 * vertex_limit - i) 0 → read ≡ filled (walk s at (eights count))
+    → read ++ drop count (replicate (2 * vertex_limit) 0) ≡ filled (walk s at (eights count))
 unfolding filled
-all_read s read count i at place h g e z =
+all_read s read count i at place h long e =
     let t = walk s at (eights count) in
     let none : walk s place (eights (count - i)) ≡ [] = walk_none s place (count - i) (omega arith) in
-    let n : length t ≡ i = walk-length s at (eights count) ∙ length-replicate count Eight ∙ omega arith in
-    let front : take i read ≡ t =
-    sym (append-nil (take i read)) ∙ ap (λ (l : List ℕ). take i read ++ l) (sym none) ∙ e in
-    sym (take-append-drop i read) ∙ ap (λ (l : List ℕ). l ++ drop i read) front ∙ ap (λ (l : List ℕ). t ++ l) z
+    let front : read ≡ t =
+    sym (append-nil read) ∙ ap (λ (l : List ℕ). read ++ l) (sym none)
+    ∙ ap (λ (l : List ℕ). l ++ walk s place (eights (count - i))) (sym (take_all i read (omega arith))) ∙ e in
+    let n : length t ≡ count = ap length (sym front) ∙ long in
+    rw (drop-replicate {X = ℕ} count (2 * vertex_limit) 0) (ap (λ (l : List ℕ). l ++ replicate (2 * vertex_limit - count) 0) front)
     ∙ ap (λ (m : ℕ). t ++ replicate (2 * vertex_limit - m) 0) (sym n)

@@ -1,13 +1,12 @@
-// The thin reader: a slice and a place in it. Its functions take the struct apart and leave the work to a function on the slice and
-// the number. A field is read at any place: a byte past the end reads 0, and the place after a field is never beyond the end. A reader
-// that goes from field to field walks a card's head, its contours and its pairs, in file order.
+// The thin reader: a slice and a place in it, which each field that is read moves on. A field is read at any place: a byte past the end
+// reads 0, and the place after a field is never beyond the end. A reader walks a card's head, its contours and its pairs, in file order.
 #![tactic(auto)]
 
 ghost use Rattle.std.specs.Prelude.{◌≡◌, ◌+◌, ◌*◌, ◌-◌, ◌≤◌, min, length};
 ghost use Rattle.fields.specs.Limits.{vertex_limit};
 ghost use Rattle.fields.specs.Layout.{grid_of};
 ghost use Rattle.reader.specs.Fields.{field_at};
-ghost use Rattle.reader.specs.Walk.{walk, eights, four_from};
+ghost use Rattle.reader.specs.Walk.{walk, eights};
 ghost use Rattle.reader.specs.OnCard.{filled, head_of, contour_head, group_of, contour_read, pair_read};
 
 use fields::{GRID_AT, PART_AT, PAYLOAD_AT, VERTICES};
@@ -40,25 +39,11 @@ pub struct Field {
 
 // ---- on a slice and a number
 
-// A byte as a number with room to count.
-fn wide(x: u8) -> u64
-    ensures { result ≡ x }
-{
-    x as u64
-}
-
 // The place so many bytes on, or the end.
 fn past(s: &[u8], at: usize, count: usize) -> usize
     ensures { result ≡ min (at + count) (length s.now) }
 {
-    let end = s.len();
-    if end <= at {
-        return end;
-    }
-    if end - at < count {
-        return end;
-    }
-    at + count
+    at.saturating_add(count).min(s.len())
 }
 
 // The field at a place.
@@ -67,15 +52,15 @@ pub fn field_at(s: &[u8], at: usize, width: Width) -> Field
 {
     match width {
         Width::One => Field {
-            value: wide(block::byte_at(s, at)),
+            value: u64::from(block::byte_at(s, at)),
             after: past(s, at, 1),
         },
         Width::Two => Field {
-            value: block::u16_at(s, at) as u64,
+            value: u64::from(block::u16_at(s, at)),
             after: past(s, at, 2),
         },
         Width::Four => Field {
-            value: block::u32_at(s, at) as u64,
+            value: u64::from(block::u32_at(s, at)),
             after: past(s, at, 4),
         },
         Width::Eight => Field {
@@ -89,79 +74,52 @@ pub fn field_at(s: &[u8], at: usize, width: Width) -> Field
 pub fn left_at(s: &[u8], at: usize) -> usize
     ensures { result ≡ length s.now - at }
 {
-    if s.len() <= at {
-        return 0;
-    }
-    s.len() - at
+    s.len().saturating_sub(at)
 }
-
-// ---- on the struct
-
-// A reader at the first byte.
-pub fn new<'a>(src: &'a [u8]) -> Reader<'a>
-    ensures { result ≡ record { src = src.entry; at = 0 } }
-{
-    Reader { src, at: 0 }
-}
-
-// The same slice, at another place.
-pub fn moved<'a>(r: Reader<'a>, at: usize) -> Reader<'a>
-    ensures { result ≡ record { src = r.entry.src; at = at } }
-{
-    Reader { src: r.src, at }
-}
-
-// The next field.
-pub fn next<'a>(r: Reader<'a>, width: Width) -> Field
-    ensures { result ≡ field_at r.entry.src.now r.entry.at width }
-{
-    field_at(r.src, r.at, width)
-}
-
-// How many bytes are left.
-pub fn left<'a>(r: Reader<'a>) -> usize
-    ensures { result ≡ length r.entry.src.now - r.entry.at }
-{
-    left_at(r.src, r.at)
-}
-
-// ---- through the reader, on a slice and a number
 
 // The field that a reader of this slice finds at a place.
 pub fn read_field(s: &[u8], at: usize, width: Width) -> Field
     ensures { result ≡ field_at s.now at width }
 {
-    next(moved(new(s), at), width)
+    let mut r = Reader::new(s).moved(at);
+    Field {
+        value: r.next(width),
+        after: r.at,
+    }
 }
 
-// Four fields' values, and the place after the last.
-#[derive(Clone, Copy)]
-struct Walked {
-    first: u64,
-    second: u64,
-    third: u64,
-    fourth: u64,
-    after: usize,
-}
+// ---- the reader
 
-// Four fields that follow each other, by one reader that goes from field to field.
-fn read_four(s: &[u8], at: usize, a: Width, b: Width, c: Width, d: Width) -> Walked
-    ensures { result ≡ four_from s.now at a b c d }
-{
-    let mut r = moved(new(s), at);
-    let first = next(r, a);
-    r = moved(r, first.after);
-    let second = next(r, b);
-    r = moved(r, second.after);
-    let third = next(r, c);
-    r = moved(r, third.after);
-    let fourth = next(r, d);
-    Walked {
-        first: first.value,
-        second: second.value,
-        third: third.value,
-        fourth: fourth.value,
-        after: fourth.after,
+impl<'a> Reader<'a> {
+    // A reader at the first byte.
+    pub fn new(src: &'a [u8]) -> Reader<'a>
+        ensures { result ≡ record { src = src.entry; at = 0 } }
+    {
+        Reader { src, at: 0 }
+    }
+
+    // The same slice, at another place.
+    pub fn moved(self, at: usize) -> Reader<'a>
+        ensures { result ≡ record { src = self.entry.src; at = at } }
+    {
+        Reader { src: self.src, at }
+    }
+
+    // The next field's value. The reader goes on to the place after it.
+    pub fn next(&mut self, width: Width) -> u64
+        ensures { (result ≡ (field_at self.old.src.now self.old.at width).value)
+            × (self.new ≡ record { src = self.old.src; at = (field_at self.old.src.now self.old.at width).after }) }
+    {
+        let field = field_at(self.src, self.at, width);
+        self.at = field.after;
+        field.value
+    }
+
+    // How many bytes are left.
+    pub fn left(&self) -> usize
+        ensures { result ≡ length self.now.src.now - self.now.at }
+    {
+        left_at(self.src, self.at)
     }
 }
 
@@ -227,35 +185,18 @@ pub struct Pair {
 pub fn read_head(card: &[u8]) -> Head
     ensures { result ≡ head_of card.now }
 {
-    let front = read_four(
-        card,
-        PAYLOAD_AT,
-        Width::Four,
-        Width::Two,
-        Width::Two,
-        Width::Two,
-    );
-    let middle = read_four(
-        card,
-        front.after,
-        Width::Two,
-        Width::Four,
-        Width::Eight,
-        Width::Eight,
-    );
-    let exterior = read_field(card, middle.after, Width::One);
-    let interior = read_field(card, exterior.after, Width::One);
+    let mut r = Reader::new(card).moved(PAYLOAD_AT);
     Head {
-        job: front.first,
-        contours: front.second,
-        pairs: front.third,
-        candidates: front.fourth,
-        passes: middle.first,
-        moves: middle.second,
-        x: middle.third,
-        y: middle.fourth,
-        exterior: exterior.value,
-        interior: interior.value,
+        job: r.next(Width::Four),
+        contours: r.next(Width::Two),
+        pairs: r.next(Width::Two),
+        candidates: r.next(Width::Two),
+        passes: r.next(Width::Two),
+        moves: r.next(Width::Four),
+        x: r.next(Width::Eight),
+        y: r.next(Width::Eight),
+        exterior: r.next(Width::One),
+        interior: r.next(Width::One),
     }
 }
 
@@ -264,26 +205,24 @@ pub fn read_grid(card: &[u8]) -> u64
     ensures { result ≡ grid_of card.now }
 {
     if fields::is_two(card) {
-        let grid = read_field(card, GRID_AT, Width::One);
-        return grid.value;
+        Reader::new(card).moved(GRID_AT).next(Width::One)
+    } else {
+        0
     }
-    0
 }
 
 // Contour k's fields before its vertices: enough for who needs no vertex.
 pub fn contour_head(card: &[u8], k: usize) -> ContourHead
     ensures { result ≡ contour_head card.now k }
 {
-    let at = fields::contour_offset(card, k, 0);
-    let four = read_four(card, at, Width::Four, Width::Four, Width::Two, Width::One);
-    let filler = read_field(card, four.after, Width::One);
+    let mut r = Reader::new(card).moved(fields::contour_offset(card, k, 0));
     ContourHead {
-        id: four.first,
-        tag: four.second,
-        vertices: four.third,
-        kind: four.fourth,
-        filler: filler.value,
-        after: filler.after,
+        id: r.next(Width::Four),
+        tag: r.next(Width::Four),
+        vertices: r.next(Width::Two),
+        kind: r.next(Width::One),
+        filler: r.next(Width::One),
+        after: r.at,
     }
 }
 
@@ -291,10 +230,7 @@ pub fn contour_head(card: &[u8], k: usize) -> ContourHead
 fn kept(vertices: u64) -> usize
     ensures { result ≡ 2 * min vertices vertex_limit }
 {
-    if (VERTICES as u64) < vertices {
-        return COORDINATES;
-    }
-    2 * (vertices as usize)
+    2 * (vertices.min(VERTICES as u64) as usize)
 }
 
 // So many coordinates from a place on.
@@ -302,14 +238,10 @@ fn coordinates(card: &[u8], at: usize, count: usize) -> [u64; COORDINATES]
     requires { count ≤ 2 * vertex_limit }
     ensures { result ≡ filled (walk card.now at (eights count)) }
 {
-    let mut read = [0u64; COORDINATES];
-    let mut place = at;
-    let mut i: usize = 0;
-    while i < count {
-        let f = read_field(card, place, Width::Eight);
-        read[i] = f.value;
-        place = f.after;
-        i += 1;
+    let mut read = [0; COORDINATES];
+    let mut r = Reader::new(card).moved(at);
+    for x in &mut read[..count] {
+        *x = r.next(Width::Eight);
     }
     read
 }
@@ -318,16 +250,15 @@ fn coordinates(card: &[u8], at: usize, count: usize) -> [u64; COORDINATES]
 fn read_group(card: &[u8], k: usize) -> Group
     ensures { result ≡ group_of card.now k }
 {
-    if fields::is_two(card) {
-        let at = fields::contour_offset(card, k, PART_AT);
-        let part = read_field(card, at, Width::Four);
-        let copy = read_field(card, part.after, Width::Four);
-        return Group {
-            part: part.value,
-            copy: copy.value,
-        };
+    if !fields::is_two(card) {
+        return Group { part: 0, copy: 0 };
     }
-    Group { part: 0, copy: 0 }
+    let at = fields::contour_offset(card, k, PART_AT);
+    let mut r = Reader::new(card).moved(at);
+    Group {
+        part: r.next(Width::Four),
+        copy: r.next(Width::Four),
+    }
 }
 
 // Contour k, with its first vertices if it names more than a contour may have.
@@ -353,12 +284,11 @@ pub fn read_contour(card: &[u8], k: usize) -> Contour
 pub fn read_pair(card: &[u8], q: usize) -> Pair
     ensures { result ≡ pair_read card.now q }
 {
-    let at = fields::pair_offset(card, q);
-    let four = read_four(card, at, Width::Four, Width::Four, Width::Four, Width::Four);
+    let mut r = Reader::new(card).moved(fields::pair_offset(card, q));
     Pair {
-        before_id: four.first,
-        before_tag: four.second,
-        after_id: four.third,
-        after_tag: four.fourth,
+        before_id: r.next(Width::Four),
+        before_tag: r.next(Width::Four),
+        after_id: r.next(Width::Four),
+        after_tag: r.next(Width::Four),
     }
 }

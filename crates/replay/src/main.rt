@@ -14,16 +14,16 @@ const ROOM: usize = CARD_BYTES + 1;
 // More cards than there are: the run ends with the file.
 const MOST: usize = 100_000;
 
-// Reads so many bytes to the front of a room, or none where they do not fit; fewer where the file ends or a read fails.
-fn read_some<R: Read>(file: &mut R, room: &mut [u8], count: usize) -> usize
+// Reads until the room is full, the input ends or a read fails, and answers how many bytes it put to the front of the room. (As in
+// `cutlist`: a program cannot cite a program, and as a public function of a library it would need a contract that decides its answer,
+// which no read of the system gives. `read_exact` does not say how many bytes came before the end, and `read_to_end` fills a `Vec`,
+// of which this library has none.)
+fn read_full<R: Read>(input: &mut R, room: &mut [u8]) -> usize
     ensures { result ≤ length room.new }
 {
-    if room.len() < count {
-        return 0;
-    }
     let mut done = 0;
-    while done < count {
-        match file.read(&mut room[done..count]) {
+    while done < room.len() {
+        match input.read(&mut room[done..]) {
             Ok(0) => return done,
             Ok(n) => done += n,
             Err(_) => return done,
@@ -35,13 +35,17 @@ fn read_some<R: Read>(file: &mut R, room: &mut [u8], count: usize) -> usize
 // The list of the next card of the file, if there is one.
 fn next<R: Read>(file: &mut R, out: &Stdout) -> bool {
     let mut size = [0u8; 4];
-    let got = read_some(file, &mut size, 4);
-    if got < 4 {
+    if read_full(file, &mut size) < 4 {
         return false;
     }
     let count = block::u32_at(&size, 0) as usize;
     let mut buffer = [0u8; ROOM];
-    let n = read_some(file, &mut buffer, count);
+    // A length that no card has: the room stays empty.
+    let n = if count <= ROOM {
+        read_full(file, &mut buffer[..count])
+    } else {
+        0
+    };
     list::show_card(&buffer[..n], out);
     true
 }

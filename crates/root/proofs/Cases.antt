@@ -1,4 +1,5 @@
 -- What the definition of the root comes to for each kind of bit pattern. Assumes nothing.
+use Rattle.std.specs.Prelude.{Err, Ok}
 use mathlib.Core.Path.{◌≡◌, refl, sym, ap, ◌∙◌, subst}
 use mathlib.Core.Bool.{Bool, true, false, not, cond, true≢false}
 use Prim.Native.Nat.{ℕ, zero, suc, ◌+◌, ◌-◌, ◌*◌, ◌/◌, ◌%◌, ◌^◌, ◌≤◌, ◌<◌}
@@ -19,7 +20,6 @@ use borrow.Author.Tests.{ne_eqb}
 use Rattle.root.specs.Whole.{halves}
 use Rattle.root.specs.Root.{steps, root_finite, sqrt_of, root_of, no_root}
 use Rattle.root.specs.Steps.{has_root}
-use Rattle.root.specs.declared.Rooted.TheVariants.{Is, Refused}
 use Rattle.root.proofs.Patterns.{of_normal, of_small}
 use Rattle.root.proofs.RootLaws.{plus_real, root_real, root-zero, root_given, root-refused}
 
@@ -148,9 +148,11 @@ zero_by_zero = refl
 
 -- ---- what tests in the code say
 
-pub nan_own : (x : Float) → ne x x ≡ true → x ≡ sqrt_of x
-unfolding sqrt_of
-nan_own x t = rw (differs_from_itself x (subst T (sym t) tt))
+pub nan_own : (x : Float) → true ≡ is_nan x → x ≡ sqrt_of x
+unfolding sqrt_of is_nan
+nan_own nan t = refl
+nan_own (inf s) t = absurd (true≢false t)
+nan_own (fin s m e) t = absurd (true≢false t)
 
 pub no_nan : (x : Float) → ne x x ≡ false → T (not (is_nan x))
 unfolding ne is_nan
@@ -163,38 +165,38 @@ finite_pattern b h = rw (nan_bits_above binary64 b) (le→nltb (2047 * 2 ^ 52) (
 
 -- ---- the root for whoever asks
 
-pub nan-told : (x : Float) → ne x x ≡ true → Refused no_root ≡ root_of x
+pub nan-told : (x : Float) → ne x x ≡ true → Err no_root ≡ root_of x
 nan-told x t = rw (differs_from_itself x (subst T (sym t) tt)) (sym (root-refused nan tt))
 
-pub minus_zero-told : root_of (of_bits binary64 (2 ^ 63)) ≡ Is (of_bits binary64 (2 ^ 63))
+pub minus_zero-told : root_of (of_bits binary64 (2 ^ 63)) ≡ Ok (of_bits binary64 (2 ^ 63))
 unfolding of_bits of_fields odd
-minus_zero-told = root_given (fin true 0 (pos 0)) tt ∙ ap Is (root-zero true)
+minus_zero-told = root_given (fin true 0 (pos 0)) tt ∙ ap Ok (root-zero true)
 
-infinity_told : root_of (of_bits binary64 (2047 * 2 ^ 52)) ≡ Refused no_root
+infinity_told : root_of (of_bits binary64 (2047 * 2 ^ 52)) ≡ Err no_root
 unfolding of_bits of_fields
 infinity_told = root-refused (inf false) tt
 
 -- a root that is given is a number
-no_root_lem : (x : Float) → T (fits binary64 x) → sqrt_of x ≡ nan → root_of x ≡ Refused no_root
+no_root_lem : (x : Float) → T (fits binary64 x) → sqrt_of x ≡ nan → root_of x ≡ Err no_root
 no_root_lem x t q =
     root-refused x (not_T (has_root x) (λ h. subst (λ (z : Float). T (has_root z)) q (root_real x t h)))
 
 pub none_told : (b : ℕ) → 2047 * 2 ^ 52 ≤ b → b < 2 ^ 64 → (b ≡ 2 ^ 63 → ⊥)
-    → root_of (of_bits binary64 b) ≡ Refused no_root
+    → root_of (of_bits binary64 b) ≡ Err no_root
 none_told b h k n = elim (eq-or-lt_of_le h) [
-  | inl e ↦ subst (λ (z : ℕ). root_of (of_bits binary64 z) ≡ Refused no_root) e infinity_told
+  | inl e ↦ subst (λ (z : ℕ). root_of (of_bits binary64 z) ≡ Err no_root) e infinity_told
   | inr l ↦ no_root_lem (of_bits binary64 b) (of_bits-fits binary64 b) (sqrt-none b l k n)
 ]
 
-value_told : (d q k : ℕ) → root_of (odd d false q k 1074) ≡ Is (sqrt_of (odd d false q k 1074))
+value_told : (d q k : ℕ) → root_of (odd d false q k 1074) ≡ Ok (sqrt_of (odd d false q k 1074))
 value_told d q k =
     let x = odd d false q k 1074 in
     root_given x (plus_real x (q * 2 ^ k) (2 ^ 1074) (odd_sign d false q k 1074))
 
-pub root_told : (b : ℕ) → b < 2047 * 2 ^ 52 → root_of (of_bits binary64 b) ≡ Is (sqrt_of (of_bits binary64 b))
+pub root_told : (b : ℕ) → b < 2047 * 2 ^ 52 → root_of (of_bits binary64 b) ≡ Ok (sqrt_of (of_bits binary64 b))
 root_told b h = go (b / 2 ^ 52) refl
   where
-    go : (e : ℕ) → b / 2 ^ 52 ≡ e → root_of (of_bits binary64 b) ≡ Is (sqrt_of (of_bits binary64 b))
+    go : (e : ℕ) → b / 2 ^ 52 ≡ e → root_of (of_bits binary64 b) ≡ Ok (sqrt_of (of_bits binary64 b))
     go zero q =
         let s : b < 2 ^ 52 = omega arith in
         rw (of_small b s) (value_told 53 b 0)

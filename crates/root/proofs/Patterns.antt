@@ -4,11 +4,11 @@ use mathlib.Core.Path.{◌≡◌, refl, sym, ap, ◌∙◌, subst}
 use mathlib.Core.Bool.{Bool, false}
 use Prim.Native.Nat.{ℕ, zero, suc, ◌+◌, ◌-◌, ◌*◌, ◌/◌, ◌%◌, ◌^◌, ◌≤◌, ◌<◌}
 use native.Mathlib.Nat.{le_trans, lt_irrefl, lt_of_lt_of_le, lt_of_le_of_lt, lt_of_not-le, zero-lt-suc, mul_assoc}
-use native.Mathlib.Nat.{mul_comm, mul_left_comm, mod-eq_of_lt, div-eq_of_lt, pow-succ'}
+use native.Mathlib.Nat.{mul-le-mul_right, mul-lt-mul_of_pos_right, mul_comm, mul_left_comm, mod-eq_of_lt, div-eq_of_lt, pow-succ'}
 use native.Mathlib.Omega.{arith}
 use lib.Dec.{leb, ltb, lt→ltb}
 use lib.Arith.{lt→nleb, digits_div, digits_mod}
-use lib.Pow.{pow-add, pow_mono, shl_lt}
+use lib.Pow.{pow-add, pow_mono, pow_pos, shl_lt}
 use lib.Count.{count_trailing_zeros, under}
 use lib.Ieee.{binary64, odd, units, round, of_bits, of_fields}
 use lib.Ieee.Bits.{is_true, is_false}
@@ -142,16 +142,23 @@ root_bits_lem f w h lo hi =
     ∙ sym (root_rounds (evened f w) (evened_low f w) (evened_high f w h) j)
     ∙ ap (λ (x : ℕ). round binary64 false (halves x) (2 ^ 1075)) (sym n)
 
--- ---- moving a leading digit up: f doubles and w falls, and f * 2^w stays
-
-pub moved : (f w : ℕ) → 0 < w → f * 2 * 2 ^ (w - 1) ≡ f * 2 ^ w
-moved f w h =
-    let e : suc (w - 1) ≡ w = omega arith in
-    mul_assoc f 2 (2 ^ (w - 1)) ∙ ap (λ (x : ℕ). f * x) (sym (pow-succ' 2 (w - 1)) ∙ ap (λ (x : ℕ). 2 ^ x) e)
-
--- f has been doubled d times
-pub doubled : (d f : ℕ) → 2 ^ d ≤ f → 2 ^ suc d ≤ f * 2
-doubled d f h = subst (λ (x : ℕ). x ≤ f * 2) (sym (pow-succ' 2 d)) (omega arith)
+-- ---- moving a leading digit up to its place, 53 digits in all: times 2^up, and 2^(1074 - up) is left
 
 pub few : (d k f : ℕ) → 2 ^ d ≤ f → f < 2 ^ k → d < k
 few d k f l h = lt_of_not-le (λ (g : k ≤ d). lt_irrefl f (lt_of_lt_of_le h (le_trans (pow_mono g) l)))
+
+pub lifted : (g d : ℕ) → 2 ^ d ≤ g → g < 2 * 2 ^ d → g < 2 ^ 52
+    → (2 ^ 52 ≤ g * 2 ^ (52 - d)) × (g * 2 ^ (52 - d) < 2 ^ 53)
+lifted g d l h b =
+    let k : d < 52 = few d 52 g l b in
+    let n : d + (52 - d) ≡ 52 = omega arith in
+    let e : 2 ^ d * 2 ^ (52 - d) ≡ 2 ^ 52 = sym (pow-add 2 d (52 - d)) ∙ ap (λ (x : ℕ). 2 ^ x) n in
+    let x : 2 ^ d * 2 ^ (52 - d) ≤ g * 2 ^ (52 - d) = mul-le-mul_right (2 ^ (52 - d)) l in
+    let y : g * 2 ^ (52 - d) < 2 * 2 ^ d * 2 ^ (52 - d) = mul-lt-mul_of_pos_right h (pow_pos (52 - d)) in
+    (omega arith, omega arith)
+
+pub same_lifted : (g u : ℕ) → u ≤ 1074 → g * 2 ^ u * 2 ^ (1074 - u) ≡ g * 2 ^ 1074
+same_lifted g u h =
+    let n : u + (1074 - u) ≡ 1074 = omega arith in
+    mul_assoc g (2 ^ u) (2 ^ (1074 - u))
+    ∙ ap (λ (x : ℕ). g * x) (sym (pow-add 2 u (1074 - u)) ∙ ap (λ (x : ℕ). 2 ^ x) n)

@@ -1,5 +1,6 @@
 -- What the root of binary64 always is: a finite number of the format with its argument's sign, in the order of its
 -- arguments. Assumes nothing.
+use Rattle.std.specs.Prelude.{Err, Ok}
 use mathlib.Core.Path.{◌≡◌, refl, sym, ap, ◌∙◌, subst}
 use mathlib.Core.Bool.{Bool, true, false, not, cond, false≢true, true≢false}
 use Prim.Native.Nat.{ℕ, zero, suc, ◌*◌, ◌/◌, ◌^◌, ◌≤◌, ◌<◌}
@@ -16,7 +17,6 @@ use lib.Ieee.Bits.{cond_no}
 use lib.Ieee.Exact.{HasValue}
 use lib.Ieee.Order.{round_mono}
 use lib.Ieee.Scale.{finite, overflow}
-use Rattle.root.specs.declared.Rooted.TheVariants.{Is, Refused}
 use Rattle.root.specs.Whole.{whole_root, digits, halves}
 use Rattle.root.specs.Root.{sqrt_of, root_of, root_finite, negative, no_root, steps}
 use Rattle.root.proofs.WholeLaws.{halves_mono}
@@ -148,20 +148,20 @@ unfolding sqrt_of root_finite whole_root digits halves odd size span climb round
 root-zero true = refl
 root-zero false = refl
 
-pub root_given : (x : Float) → T (has_root x) → root_of x ≡ Is (sqrt_of x)
+pub root_given : (x : Float) → T (has_root x) → root_of x ≡ Ok (sqrt_of x)
 unfolding root_of sqrt_of
 root_given nan h = absurd h
 root_given (inf s) h = absurd h
 root_given (fin s m e) h =
-    cond_no (negative s m) (Refused no_root) (Is (root_finite s m e)) h
-    ∙ ap Is (sym (cond_no (negative s m) nan (root_finite s m e) h))
+    cond_no (negative s m) (Err no_root) (Ok (root_finite s m e)) h
+    ∙ ap Ok (sym (cond_no (negative s m) nan (root_finite s m e) h))
 
-pub root-refused : (x : Float) → T (not (has_root x)) → root_of x ≡ Refused no_root
+pub root-refused : (x : Float) → T (not (has_root x)) → root_of x ≡ Err no_root
 unfolding root_of
 root-refused nan h = refl
 root-refused (inf s) h = refl
 root-refused (fin s m e) h = go (negative s m) h
   where
-    go : (b : Bool) → T (not (not b)) → cond b (Refused no_root) (Is (root_finite s m e)) ≡ Refused no_root
+    go : (b : Bool) → T (not (not b)) → cond b (Err no_root) (Ok (root_finite s m e)) ≡ Err no_root
     go true g = refl
     go false g = absurd g

@@ -2,7 +2,7 @@
 use mathlib.Core.Path.{◌≡◌, sym, ap, subst}
 use mathlib.Core.Logic.{inl, inr}
 use Prim.Native.Nat.{ℕ, ◌+◌, ◌-◌, ◌*◌, ◌/◌, ◌%◌, ◌^◌, ◌≤◌, ◌<◌}
-use native.Mathlib.Nat.{le_refl, le_of_lt, lt_of_lt_of_le, lt_of_le_of_lt, mul-le-mul, mul-lt-mul_of_pos_right}
+use native.Mathlib.Nat.{le_refl, le_of_lt, lt_of_le_of_lt, mul-le-mul, mul-lt-mul_of_pos_right}
 use native.Mathlib.Nat.{eq-zero-or-pos, not-suc-le-zero, mod-lt, div-add-mod', div-le_of_le-mul}
 use native.Mathlib.Omega.{arith}
 use lib.Dec.{lit<}
@@ -27,15 +27,6 @@ root-lt {r} h k = square-lt r (2 ^ 27) (lt_of_le_of_lt h k)
 
 pub square_fits : {a : ℕ} → a < 2 ^ 28 → a * a < 2 ^ 64
 square_fits h = lt_of_le_of_lt (square_mono (le_of_lt h)) (lit< tt)
-
--- ---- halving the stretch in which a root is looked for
-
-pub next_fits : {m : ℕ} (r half span : ℕ) → r * r ≤ m → m < 2 ^ 54 → span ≤ 0x800_0000 → half ≤ span → r + half < 2 ^ 28
-next_fits r half span h k s l = let x = root-lt h k in omega arith
-
-pub upper_half : {m : ℕ} (r span half : ℕ) → m < (r + span) * (r + span) → span ≤ half + half
-    → m < (r + half + half) * (r + half + half)
-upper_half r span half h s = lt_of_lt_of_le h (square_mono (omega arith))
 
 -- ---- From the root a of m to the root of m * P * P: with d = m - a * a, and q and u the quotient and the rest of d *
 -- P by 2 * a,

@@ -1,11 +1,10 @@
 -- The square root of a binary64 number as IEEE 754 has it: the exact root, rounded once to the nearest. Assumes
 -- nothing.
-use Rattle.std.specs.Prelude.{Bool, cond, ◌&&◌, ℕ, ◌*◌, ◌/◌, ◌^◌, ℤ, ltb, Float}
+use Rattle.std.specs.Prelude.{Bool, cond, ◌&&◌, ℕ, ◌*◌, ◌/◌, ◌^◌, ℤ, ltb, Float, Err, Ok}
 use Rattle.std.specs.Float.{nan, inf, fin, binary64}
 use Rattle.std.specs.Float.Ieee.{up, down, round}
 use Rattle.answer.specs.declared.Refusal.{Refusal}
-use Rattle.root.specs.declared.Rooted.{Rooted}
-use Rattle.root.specs.declared.Rooted.TheVariants.{Is, Refused}
+use Rattle.answer.specs.Answer.{Answer}
 use Rattle.root.specs.Whole.{halves}
 
 -- every finite binary64 number is a whole number of steps of 2^-1074
@@ -33,8 +32,8 @@ abbrev pub no_root : Refusal
 no_root = record { number = 14; place = 0 }
 
 -- the root that users ask for: refused with 14 at 0 where there is no finite one
-unfoldable pub root_of : Float → Rooted
+unfoldable pub root_of : Float → Answer Float
 unfolding root_finite
-root_of nan = Refused no_root
-root_of (inf s) = Refused no_root
-root_of (fin s m e) = cond (negative s m) (Refused no_root) (Is (root_finite s m e))
+root_of nan = Err no_root
+root_of (inf s) = Err no_root
+root_of (fin s m e) = cond (negative s m) (Err no_root) (Ok (root_finite s m e))

@@ -1,6 +1,6 @@
 // The square root of IEEE 754, worked out from the number's bits: correctly rounded, the same bits everywhere.
 // A guess from a table gives the first 27 digits of the significand's root and is tested by squares; one exact division gives 27 more.
-// Where the test fails, which no input has been seen to do, the digits are found one by one.
+// Where the test fails, which no input has been seen to do, the library's `isqrt` finds the digits.
 #![tactic(auto)]
 
 mod rows;
@@ -11,32 +11,7 @@ ghost use Rattle.std.specs.Float.Ieee.{of_bits, round};
 ghost use Rattle.root.specs.Whole.{whole_root, halves};
 ghost use Rattle.root.specs.Root.{sqrt_of, root_of};
 
-use answer::Refusal;
-
-// A root, or why there is none.
-#[derive(Clone, Copy)]
-pub enum Rooted {
-    Is(f64),
-    Refused(Refusal),
-}
-
-// The whole part of m's root, one binary digit a turn: the plain form, which the quick one must equal.
-fn by_digits(m: u64) -> u64
-    requires { m < 2 ^ 54 }
-    ensures { result ≡ whole_root m }
-{
-    let mut r: u64 = 0;
-    let mut span: u64 = 0x800_0000;
-    while 1 < span {
-        let half = span / 2 + span % 2;
-        let next = r + half;
-        span = half;
-        if next * next <= m {
-            r = next;
-        }
-    }
-    r
-}
+use answer::{Fault, Refusal};
 
 // As many 2^24th parts of a number.
 fn share(parts: u64, of: u64) -> u64
@@ -52,7 +27,7 @@ fn guess(f: u64, odd: u64) -> u64
     requires { (f < 2 ^ 52) × (odd < 2) }
     ensures { (0 < result) × (result < 2 ^ 28) }
 {
-    let row = rows::row(f / 0x2000_0000_0000 + odd * 128);
+    let row = rows::ROWS[(f / 0x2000_0000_0000 + odd * 128) as usize];
     let along = f / 0x20_0000 % 0x100_0000;
     let bow = share(0x100_0000 - along, row % 0x2000);
     let rise = share(along, row / 0x2000 % 0x40_0000 + bow);
@@ -74,12 +49,11 @@ fn whole_root(m: u64, g: u64) -> u64
 {
     let a = lowered(m, g);
     let square = a * a;
-    if square <= m {
-        if m - square <= 2 * a {
-            return a;
-        }
+    if square <= m && m - square <= 2 * a {
+        a
+    } else {
+        m.isqrt()
     }
-    by_digits(m)
 }
 
 // The root of m * 2^54, given the root a of m: one division finds the 27 digits more, and at most one must be taken back.
@@ -113,13 +87,8 @@ fn small_root_bits(g: u64) -> u64
     requires { (0 < g) × (g < 2 ^ 52) }
     ensures { (result < 2047 * 2 ^ 52) × (of_bits binary64 result ≡ round binary64 false (halves (g * 2 ^ 1074)) (2 ^ 1075)) }
 {
-    let mut f = g;
-    let mut w: u64 = 1074;
-    while f < 0x10_0000_0000_0000 {
-        f = f * 2;
-        w -= 1;
-    }
-    root_bits(f - 0x10_0000_0000_0000, w)
+    let up = 52 - g.ilog2();
+    root_bits((g << up) - 0x10_0000_0000_0000, 1074 - u64::from(up))
 }
 
 // The root of x, whose bits b are those of no normal number above zero.
@@ -127,58 +96,41 @@ fn seldom(x: f64, b: u64) -> f64
     requires { (x ≡ of_bits binary64 b) × ((b < 2 ^ 64) × (2 ^ 52 ≤ b → 2047 * 2 ^ 52 ≤ b)) }
     ensures { result ≡ sqrt_of x }
 {
-    if b == 0 {
-        return x;
+    match b {
+        0 | 0x7ff0_0000_0000_0000 | 0x8000_0000_0000_0000 => x,
+        1..0x10_0000_0000_0000 => f64::from_bits(small_root_bits(b)),
+        _ => 0.0 / 0.0,
     }
-    if b < 0x10_0000_0000_0000 {
-        return f64::from_bits(small_root_bits(b));
-    }
-    if b == 0x7ff0_0000_0000_0000 {
-        return x;
-    }
-    if b == 0x8000_0000_0000_0000 {
-        return x;
-    }
-    0.0 / 0.0
 }
 
 // The root of x, rounded once: not a number below zero and for what is not a number, infinity of infinity, -0 of -0.
 pub fn sqrt(x: f64) -> f64
     ensures { result ≡ sqrt_of x }
 {
-    if x != x {
+    if x.is_nan() {
         return x;
     }
-    let b = f64::to_bits(x);
+    let b = x.to_bits();
     let e = b / 0x10_0000_0000_0000;
-    if e == 0 {
-        return seldom(x, b);
-    }
-    if 2047 <= e {
+    if e == 0 || 2047 <= e {
         return seldom(x, b);
     }
     f64::from_bits(root_bits(b % 0x10_0000_0000_0000, e + 1073))
 }
 
 // The root of x for whoever asks: refused with 14 at 0 where x is not a number, infinite or below zero.
-pub fn root(x: f64) -> Rooted
+pub fn root(x: f64) -> Result<f64, Refusal>
     ensures { result ≡ root_of x }
 {
     if x != x {
-        return Rooted::Refused(Refusal {
-            number: 14,
-            place: 0,
-        });
+        return Err(Fault::Amount.at(0));
     }
     let b = f64::to_bits(x);
     if b < 0x7ff0_0000_0000_0000 {
-        return Rooted::Is(sqrt(x));
+        return Ok(sqrt(x));
     }
     if b == 0x8000_0000_0000_0000 {
-        return Rooted::Is(x);
+        return Ok(x);
     }
-    Rooted::Refused(Refusal {
-        number: 14,
-        place: 0,
-    })
+    Err(Fault::Amount.at(0))
 }

@@ -2,8 +2,10 @@
 #![tactic(auto)]
 
 ghost use Rattle.std.specs.Prelude.{length};
-ghost use Rattle.improve.specs.Code.{chart_of};
+ghost use Rattle.improve.specs.Code.{charted};
 ghost use Rattle.solve.specs.Solve.{end_in, Solved};
+
+use improve::Chart;
 
 // What is told of a tour: how many trials it took, and how long it is.
 #[derive(Clone, Copy)]
@@ -13,33 +15,12 @@ pub struct Outcome {
 }
 
 // Writes the tour to the front of a room that has an entry for each contour. The length is the one of the tour handed out.
-pub fn solve_constrained(
-    home: &[f64],
-    table: &[f64],
-    t: u8,
-    owner: &[u8],
-    first: &[u8],
-    pairs: &[u8],
-    tour: &mut [u8],
-    passes: u32,
-    limit: u32,
-) -> Outcome
+pub fn solve_constrained(chart: &Chart, tour: &mut [u8], passes: u32, limit: u32) -> Outcome
     ensures { let n = length tour.old in
-        let chart = chart_of home.now table.now t owner.now first.now pairs.now in
-        Solved chart (end_in chart n passes limit) tour.old result tour.new }
+        Solved (charted chart.now) (end_in (charted chart.now) n passes limit) tour.old result tour.new }
 {
-    let made = start::nn_constrained(home, table, t, first, pairs, tour);
-    let moves = improve::improve(
-        home,
-        table,
-        t,
-        owner,
-        first,
-        pairs,
-        &mut tour[..made],
-        passes,
-        limit,
-    );
-    let length = table::evaluate_solution(home, table, t, &tour[..made]);
+    let made = start::nn_constrained(&chart.distances, chart.first, chart.pairs, tour);
+    let moves = improve::improve(chart, &mut tour[..made], passes, limit);
+    let length = chart.distances.evaluate_solution(&tour[..made]);
     Outcome { moves, length }
 }

@@ -11,7 +11,7 @@ use Rattle.table.proofs.EachLaws.{each_keeps, each_hits}
 use Rattle.points.specs.Numbers.{huge}
 use Rattle.start.specs.Nearest.{Ground, Way, reach_of, nothing_yet, closer, offer, offered, is_open, considered}
 use Rattle.start.specs.Nearest.{chosen}
-use Rattle.start.specs.declared.Choice.{Choice}
+use Rattle.start.specs.Nearest.{Choice}
 
 -- candidate a is one of contour k
 pub record InContour (first : List ℕ) (k a : ℕ) : Type 0 where

@@ -27,7 +27,7 @@ use Rattle.points.specs.Numbers.{huge}
 use Rattle.start.specs.Code.{flag_count, Flags}
 use Rattle.start.specs.Nearest.{Ground, Way, reach_of, is_open, chosen, visit, step, set_out, walked, nearest}
 use Rattle.start.specs.Nearest.{nearest_within}
-use Rattle.start.specs.declared.Choice.{Choice}
+use Rattle.start.specs.Nearest.{Choice}
 use Rattle.start.proofs.ChoiceLaws.{InContour, Fair, chosen_fair, chosen_found}
 use Rattle.start.proofs.FlagLaws.{none_marked, flags_none, flags_more, open_is}
 use Rattle.start.proofs.FreeLaws.{left, left_all_lem, some_left, one_less}

@@ -13,30 +13,37 @@ use Rattle.closure.specs.Limits.{contour_limit}
 use Rattle.keep.specs.Keep.{ready_in}
 use Rattle.table.specs.Each.{each}
 use Rattle.table.specs.Evaluate.{home_at, distance_at}
-use Rattle.start.specs.Code.{ground_of, Tells, Flags, Written}
+use Rattle.std.specs.Prelude.{Option, Some, None}
+use Rattle.table.specs.declared.Distances.{Distances}
+use Rattle.start.specs.Code.{ground_on, stood, Tells, Flags, Written}
 use Rattle.start.specs.Nearest.{reach_of, closer, offer, offered, is_open, considered, chosen, nothing_yet, Ground}
 use Rattle.start.specs.Nearest.{Way, last_of, visit, step, set_out, walked, nearest, nearest_within}
-use Rattle.start.specs.declared.Choice.{Choice}
+use Rattle.start.specs.Nearest.{Choice}
 use Rattle.start.proofs.FlagLaws.{open_is}
 
 -- ---- how far
 
-module _ (home table : List Float) (t made last : ℕ) (g : Ground) (w : Way) (tells : Tells home table t made last g w)
-    (a : ℕ) (d : Float) where
-  pub reach-home : made ≡ 0 → d ≡ home_at home a → d ≡ reach_of g w a
-  unfolding reach_of
-  reach-home e h = rw (eq-eqb (length w.tour) 0 (sym tells.made_is ∙ e), ← tells.home_is) h
+stood-none : (l : List ℕ) → None ≡ stood l → length l ≡ 0
+unfolding stood
+stood-none [] e = refl
+stood-none (a ∷ l) e = cc
 
-  pub reach-on : (made ≡ 0 → ⊥) → d ≡ distance_at table t last a → d ≡ reach_of g w a
+stood-some : (l : List ℕ) (b : ℕ) → Some b ≡ stood l → ((length l ≡ 0 → ⊥) × (b ≡ last_of l))
+unfolding stood
+stood-some [] b e = cc
+stood-some (a ∷ l) b e = (λ z. absurd (omega arith), cc)
+
+module _ (at : Distances) (last : Option ℕ) (g : Ground) (w : Way) (tells : Tells at last g w) (a : ℕ) (d : Float) where
+  pub reach-home : last ≡ None → d ≡ home_at at.home.now a → d ≡ reach_of g w a
   unfolding reach_of
-  reach-on e h =
-      rw (
-        ne_eqb (length w.tour) 0 (λ z. e (tells.made_is
-            ∙ z)),
-        ← tells.table_is,
-        ← tells.count_is,
-        ← tells.last_is,
-      ) h
+  reach-home e h =
+      rw (eq-eqb (length w.tour) 0 (stood-none w.tour (sym e ∙ tells.last_is)), ← tells.home_is) h
+
+  pub reach-on : (b : ℕ) → last ≡ Some b → d ≡ distance_at at.table.now at.count b a → d ≡ reach_of g w a
+  unfolding reach_of
+  reach-on b e h =
+      let s = stood-some w.tour b (sym e ∙ tells.last_is) in
+      rw (ne_eqb (length w.tour) 0 s.0, ← tells.table_is, ← tells.count_is, ← s.1) h
 
 -- ---- which is nearer
 
@@ -98,12 +105,10 @@ abbrev pub way_of : List ℕ → List ℕ → ℕ → Way
 way_of tour visited made = record { tour = take made tour; visited = visited }
 
 -- what the code keeps beside it tells where it has come to
-pub way-told : (home table : List Float) (t : ℕ) (first pairs tour visited : List ℕ) (made last : ℕ)
-    → made < length tour → last ≡ last_of (take made tour)
-    → Tells home table t made last (ground_of home table t first pairs) (way_of tour visited made)
-way-told home table t first pairs tour visited made last h l =
-    let e : length (take made tour) ≡ made = length-take-le made tour (omega arith) in
-    record { home_is = refl; table_is = refl; count_is = refl; made_is = sym e; last_is = l }
+pub way-told : (d : Distances) (first pairs tour visited : List ℕ) (made : ℕ) (last : Option ℕ)
+    → last ≡ stood (take made tour) → Tells d last (ground_on d first pairs) (way_of tour visited made)
+way-told d first pairs tour visited made last l =
+    record { home_is = refl; table_is = refl; count_is = refl; last_is = l }
 
 module _ (g : Ground) (n i : ℕ) (tour visited : List ℕ) (made : ℕ) (choice : Choice) (h : made < length tour)
     (chose : choice ≡ chosen g (way_of tour visited made) n) where
@@ -140,8 +145,14 @@ last_put [] a = refl
 last_put (x ∷ []) a = refl
 last_put (x ∷ (y ∷ l)) a = last_put (y ∷ l) a
 
-pub last_written : (tour : List ℕ) (made a : ℕ) → made < length tour → a ≡ last_of (take (made + 1) (set tour made a))
-last_written tour made a h = rw (add-one made, take-suc-set tour made a h) (sym (last_put (take made tour) a))
+stood_put : (l : List ℕ) (a : ℕ) → Some a ≡ stood (l ++ (a ∷ []))
+unfolding stood
+stood_put [] a = ap Some (sym (last_put [] a))
+stood_put (x ∷ l) a = ap Some (sym (last_put (x ∷ l) a))
+
+pub last_written : (tour : List ℕ) (made a : ℕ) → made < length tour
+    → Some a ≡ stood (take (made + 1) (set tour made a))
+last_written tour made a h = rw (add-one made, take-suc-set tour made a h) (stood_put (take made tour) a)
 
 -- the rest of the room stays
 pub rest_kept : (tour room : List ℕ) (made a : ℕ) → drop made tour ≡ drop made room

@@ -6,7 +6,6 @@ use Rattle.closure.specs.Pairs.{Pair, paired, every}
 use Rattle.points.specs.Numbers.{huge}
 use Rattle.table.specs.Each.{each}
 use Rattle.table.specs.Evaluate.{home_at, distance_at}
-use Rattle.start.specs.declared.Choice.{Choice}
 
 -- what a start reads: the distances from home and between the t candidates, the number of each contour's first
 -- candidate with the number of all at the end, and which contours come before which
@@ -32,6 +31,13 @@ last_of (a ∷ (b ∷ more)) = last_of (b ∷ more)
 unfoldable pub is_in : ℕ → List ℕ → Bool
 is_in k [] = false
 is_in k (x ∷ more) = eqb x k || is_in k more
+
+-- the nearest candidate so far, the contour that it belongs to, and how far it is; found says whether there is one
+pub record Choice : Type 0 where
+  pub distance : Float
+  pub contour : ℕ
+  pub candidate : ℕ
+  pub found : Bool
 
 -- ---- one step
 

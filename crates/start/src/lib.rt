@@ -1,96 +1,71 @@
 // Where a search begins: step by step to the nearest candidate of a contour that is ready.
 #![tactic(auto)]
 
-ghost use Rattle.std.specs.Prelude.{◌≡◌, [], ◌-◌, length};
-ghost use Rattle.closure.specs.Limits.{contour_limit};
-ghost use Rattle.table.specs.Each.{each};
-ghost use Rattle.start.specs.Nearest.{Ground, Way, reach_of, closer, offer, offered, is_open, chosen, nearest};
-ghost use Rattle.start.specs.Code.{ground_of, Tells, Flags, Written};
+ghost use Rattle.std.specs.Prelude.{◌≡◌, [], length};
+ghost use Rattle.start.specs.Nearest.{Ground, Way, reach_of, closer, offered, is_open, chosen, nearest};
+ghost use Rattle.start.specs.Code.{ground_on, choice_of, Tells, Flags, Written};
 
 use closure::CONTOURS;
 use points::HUGE;
+use table::Distances;
 
 // A flag for each number that a contour can have.
 const FLAGS: usize = 256;
 
-// The nearest candidate so far, the contour that it belongs to, and how far it is.
+// A candidate that a step may take: how far it is, and the contour that it belongs to.
 #[derive(Clone, Copy)]
-struct Choice {
+struct Offer {
     distance: f64,
     contour: u8,
     candidate: u8,
-    found: bool,
 }
 
-// How far candidate a is from where the tour has come to after so many stops.
-fn reach(home: &[f64], table: &[f64], t: u8, made: usize, last: u8, a: u8) -> f64
-    ensures { (g : Ground) (w : Way) → Tells home.now table.now t made last g w
-        → result ≡ reach_of g w a }
+// How far candidate a is from where the tour has come to: from its last stop, or else from home.
+fn reach(distances: &Distances, last: Option<u8>, a: u8) -> f64
+    ensures { (g : Ground) (w : Way) → Tells distances.now last g w → result ≡ reach_of g w a }
 {
-    if made == 0 {
-        return table::home_at(home, a);
+    match last {
+        Some(b) => distances.distance_at(b, a),
+        None => distances.home_at(a),
     }
-    table::distance_at(table, t, last, a)
 }
 
-// The nearer of a choice and candidate a of contour k, at distance d. The choice stays where the two are level.
-fn nearer(d: f64, k: u8, a: u8, best: Choice) -> Choice
-    ensures { result ≡ closer d k a best }
+// The nearer of the best offer so far and one more. The former stays where the two are level, and no offer is as far as HUGE.
+fn nearer(best: Option<Offer>, offer: Offer) -> Option<Offer>
+    ensures { choice_of result ≡ closer offer.distance offer.contour offer.candidate (choice_of best) }
 {
-    if d < best.distance {
-        return Choice {
-            distance: d,
-            contour: k,
-            candidate: a,
-            found: true,
-        };
+    let nearest = best.map_or(HUGE, |b| b.distance);
+    if offer.distance < nearest {
+        return Some(offer);
     }
     best
 }
 
-// The choice after the candidates from `from` up to `end`, all of contour k.
-fn among(
-    home: &[f64],
-    table: &[f64],
-    t: u8,
-    made: usize,
-    last: u8,
-    k: u8,
-    from: u8,
-    end: u8,
-    best: Choice,
-) -> Choice
-    ensures { (g : Ground) (w : Way) → Tells home.now table.now t made last g w
-        → result ≡ each (offer g w k) (end - from) from best }
-{
-    let mut choice = best;
-    let mut a = from;
-    while a < end {
-        let d = reach(home, table, t, made, last, a);
-        choice = nearer(d, k, a, choice);
-        a += 1;
-    }
-    choice
-}
-
-// The choice after the candidates of contour k.
+// The best offer after the candidates of contour k. (Distances, first and pairs are no struct, as improve's Chart is: a start reads
+// no owners, and of the three functions with two of them only one takes all three.)
 fn offers(
-    home: &[f64],
-    table: &[f64],
-    t: u8,
+    distances: &Distances,
     first: &[u8],
-    made: usize,
-    last: u8,
+    last: Option<u8>,
     k: u8,
-    best: Choice,
-) -> Choice
-    ensures { (g : Ground) (w : Way) → Tells home.now table.now t made last g w
-        → first.now ≡ g.first → result ≡ offered g w k best }
+    best: Option<Offer>,
+) -> Option<Offer>
+    ensures { (g : Ground) (w : Way) → Tells distances.now last g w → first.now ≡ g.first
+        → choice_of result ≡ offered g w k (choice_of best) }
 {
-    let at = k as usize;
+    let at = usize::from(k);
     let from = table::byte_at(first, at);
     let end = table::byte_at(first, at + 1);
-    among(home, table, t, made, last, k, from, end, best)
+    let mut choice = best;
+    for a in from..end {
+        let offer = Offer {
+            distance: reach(distances, last, a),
+            contour: k,
+            candidate: a,
+        };
+        choice = nearer(choice, offer);
+    }
+    choice
 }
 
 // Contour k is not visited, and nothing is left to visit before it.
@@ -98,42 +73,27 @@ fn is_open(visited: &[u8], pairs: &[u8], k: u8) -> bool
     ensures { (g : Ground) (w : Way) → Flags visited.now w.visited → pairs.now ≡ g.pairs
         → result ≡ is_open g w k }
 {
-    if table::byte_at(visited, k as usize) != 0 {
-        return false;
-    }
-    keep::is_ready(visited, pairs, k)
+    table::byte_at(visited, usize::from(k)) == 0 && keep::is_ready(visited, pairs, k)
 }
 
 // The nearest candidate of the open ones among n contours, or none.
 fn choose(
-    home: &[f64],
-    table: &[f64],
-    t: u8,
+    distances: &Distances,
     first: &[u8],
     pairs: &[u8],
     visited: &[u8],
     n: u8,
-    made: usize,
-    last: u8,
-) -> Choice
-    ensures { (g : Ground) (w : Way) → Tells home.now table.now t made last g w
+    last: Option<u8>,
+) -> Option<Offer>
+    ensures { (g : Ground) (w : Way) → Tells distances.now last g w
         → first.now ≡ g.first → pairs.now ≡ g.pairs → Flags visited.now w.visited
-        → result ≡ chosen g w n }
+        → choice_of result ≡ chosen g w n }
 {
-    let mut best = Choice {
-        distance: HUGE,
-        contour: 0,
-        candidate: 0,
-        found: false,
-    };
-    let mut k: u8 = 0;
-    while k < n {
-        if !is_open(visited, pairs, k) {
-            k += 1;
-            continue;
+    let mut best = None;
+    for k in 0..n {
+        if is_open(visited, pairs, k) {
+            best = offers(distances, first, last, k, best);
         }
-        best = offers(home, table, t, first, made, last, k, best);
-        k += 1;
     }
     best
 }
@@ -141,16 +101,9 @@ fn choose(
 // The nearest-neighbour start that respects the pairs, written to the front of a room for as many contours as
 // there are. Says how many entries it has: none for more contours than a card takes, and fewer than contours where
 // some are never ready or have no distance below the largest number.
-pub fn nn_constrained(
-    home: &[f64],
-    table: &[f64],
-    t: u8,
-    first: &[u8],
-    pairs: &[u8],
-    tour: &mut [u8],
-) -> usize
+pub fn nn_constrained(distances: &Distances, first: &[u8], pairs: &[u8], tour: &mut [u8]) -> usize
     ensures { let n = length tour.old in
-        Written (nearest (ground_of home.now table.now t first.now pairs.now) n) tour.old result tour.new }
+        Written (nearest (ground_on distances.now first.now pairs.now) n) tour.old result tour.new }
 {
     let n = tour.len();
     if n > CONTOURS {
@@ -158,27 +111,23 @@ pub fn nn_constrained(
     }
     let mut visited = [0u8; FLAGS];
     let mut made = 0;
-    let mut last: u8 = 0;
-    let mut step = 0;
-    while step < n {
-        step += 1;
-        let choice = choose(home, table, t, first, pairs, &visited, n as u8, made, last);
-        if !choice.found {
+    let mut last = None;
+    for _ in 0..n {
+        let Some(choice) = choose(distances, first, pairs, &visited, n as u8, last) else {
             continue;
-        }
-        last = choice.candidate;
-        tour[made] = last;
-        visited[choice.contour as usize] = 1;
+        };
+        tour[made] = choice.candidate;
+        visited[usize::from(choice.contour)] = 1;
+        last = Some(choice.candidate);
         made += 1;
     }
     made
 }
 
 // The same where no contour waits for another.
-pub fn solve_nn(home: &[f64], table: &[f64], t: u8, first: &[u8], tour: &mut [u8]) -> usize
+pub fn solve_nn(distances: &Distances, first: &[u8], tour: &mut [u8]) -> usize
     ensures { let n = length tour.old in
-        Written (nearest (ground_of home.now table.now t first.now []) n) tour.old result tour.new }
+        Written (nearest (ground_on distances.now first.now []) n) tour.old result tour.new }
 {
-    let none = [0u8; 0];
-    nn_constrained(home, table, t, first, &none, tour)
+    nn_constrained(distances, first, &[], tour)
 }

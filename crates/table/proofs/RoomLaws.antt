@@ -47,11 +47,11 @@ module _ (items : List Candidate) (t : ℕ) (home : Point) (room : List Float) w
         (let q : now ≡ listed (home_leg (take t items) home) t 0 ++ drop t room =
         subst (λ (k : ℕ). now ≡ listed (home_leg (take t items) home) k 0 ++ drop k room) done so_far in rw e q)
 
-    pub home_more : (v : Float) → a < t → t ≤ length room → v ≡ distance_of home (pierced (get_or items a absent)) →
+    pub home_more : (v : Float) → a < t → t ≤ length room → v ≡ distance_of home (pierced (get_or (take t items) a absent)) →
         set now a v ≡ listed (home_leg (take t items) home) (a + 1) 0 ++ drop (a + 1) room
     unfolding home_leg
     home_more v h enough e =
-        entry_more (home_leg (take t items) home) a room now v (omega arith) so_far (rw (get_or-take t items a absent h) e)
+        entry_more (home_leg (take t items) home) a room now v (omega arith) so_far e
 
 -- ---- a row
 

@@ -1,11 +1,12 @@
 -- A walk taken leg by leg, as a loop over the tour's places takes it. Assumes nothing.
 use mathlib.Core.List.{List, [], ◌∷◌}
 use mathlib.Core.Path.{◌≡◌, refl}
-use Prim.Native.Nat.{ℕ, suc, ◌+◌, ◌≤◌, ◌<◌}
+use Prim.Native.Nat.{ℕ, suc, ◌+◌, ◌-◌, ◌≤◌, ◌<◌}
 use native.Mathlib.Numerals.{add-one}
 use native.Mathlib.Omega.{arith}
 use lib.Ieee.{Float, binary64, of_bits, add}
-use lib.ListN.{length, get_or, drop, drop_of_length-le}
+use lib.ListN.{length, get_or, take, drop, drop_of_length-le}
+use Rattle.std.proofs.lemmas.List.{take_all}
 use lib.Seq.{drop-cons}
 use Rattle.table.specs.Evaluate.{home_at, distance_at, add_leg, length_of}
 use Rattle.table.specs.Walk.{legs, walk}
@@ -21,13 +22,15 @@ unfolding length_of walk
 length_none home table t [] h = refl
 length_none home table t (a ∷ rest) h = absurd (omega arith)
 
--- a tour with a first stop: the way there, and then the legs
+-- a tour with a first stop: the way there, and then the legs to the rest of it
 pub length-first : (home table : List Float) (t : ℕ) (tour : List ℕ) (total : Float) → (length tour ≡ 0 → ⊥)
     → total ≡ home_at home (get_or tour 0 0)
-    → onward table t tour 1 (get_or tour 0 0) total ≡ length_of home table t tour
+    → onward table t (take (length tour - 1) (drop 1 tour)) 0 (get_or tour 0 0) total ≡ length_of home table t tour
 unfolding onward length_of walk
 length-first home table t [] total h e = absurd (h refl)
-length-first home table t (a ∷ rest) total h e = rw e
+length-first home table t (a ∷ rest) total h e =
+    let whole : take (length (a ∷ rest) - 1) (drop 1 (a ∷ rest)) ≡ rest = take_all _ rest (omega arith) in
+    rw (whole, e)
 
 -- one leg more
 pub leg_more : (table : List Float) (t : ℕ) (tour : List ℕ) (i at : ℕ) (total d whole : Float)

@@ -20,53 +20,57 @@ pub const ENTRIES: usize = CANDIDATES * CANDIDATES;
 pub fn float_at(s: &[f64], i: usize) -> f64
     ensures { result ≡ get_or s.now i nan }
 {
-    if i < s.len() {
-        return s[i];
-    }
-    0.0 / 0.0
+    s.get(i).copied().unwrap_or(f64::NAN)
 }
 
 // The byte at a place, and 0 past the end.
 pub fn byte_at(s: &[u8], i: usize) -> u8
     ensures { result ≡ get_or s.now i 0 }
 {
-    if i < s.len() {
-        return s[i];
-    }
-    0
+    s.get(i).copied().unwrap_or(0)
 }
 
-// How far candidate a is from home.
-pub fn home_at(home: &[f64], a: u8) -> f64
-    ensures { result ≡ home_at home.now a }
-{
-    float_at(home, a as usize)
+// The distances that a search reads: from home to each of `count` candidates, and from each to each, row by row.
+#[derive(Clone, Copy)]
+pub struct Distances<'a> {
+    pub home: &'a [f64],
+    pub table: &'a [f64],
+    pub count: u8,
 }
 
-// The distance from candidate a to candidate b among t by t of them, row by row.
-pub fn distance_at(table: &[f64], t: u8, a: u8, b: u8) -> f64
-    ensures { result ≡ distance_at table.now t a b }
-{
-    float_at(table, (a as usize) * (t as usize) + (b as usize))
-}
+impl<'a> Distances<'a> {
+    // How far candidate a is from home.
+    pub fn home_at(&self, a: u8) -> f64
+        ensures { result ≡ home_at self.now.home.now a }
+    {
+        float_at(self.home, usize::from(a))
+    }
 
-// The length of a tour: the way from home to its first candidate, then leg after leg. An empty tour has length 0.
-pub fn evaluate_solution(home: &[f64], table: &[f64], t: u8, tour: &[u8]) -> f64
-    ensures { result ≡ length_of home.now table.now t tour.now }
-{
-    if tour.len() == 0 {
-        return 0.0;
+    // The distance from candidate a to candidate b.
+    pub fn distance_at(&self, a: u8, b: u8) -> f64
+        ensures { result ≡ distance_at self.now.table.now self.now.count a b }
+    {
+        float_at(
+            self.table,
+            usize::from(a) * usize::from(self.count) + usize::from(b),
+        )
     }
-    let mut at = tour[0];
-    let mut total = home_at(home, at);
-    let mut i = 1;
-    while i < tour.len() {
-        let next = tour[i];
-        total += distance_at(table, t, at, next);
-        at = next;
-        i += 1;
+
+    // The length of a tour: the way from home to its first candidate, then leg after leg. An empty tour has length 0.
+    pub fn evaluate_solution(&self, tour: &[u8]) -> f64
+        ensures { result ≡ length_of self.now.home.now self.now.table.now self.now.count tour.now }
+    {
+        if tour.is_empty() {
+            return 0.0;
+        }
+        let mut at = tour[0];
+        let mut total = self.home_at(at);
+        for &next in &tour[1..] {
+            total += self.distance_at(at, next);
+            at = next;
+        }
+        total
     }
-    total
 }
 
 // The way from one candidate of contour k to another of contour m: from where the beam stands after the first cut to where it
@@ -86,24 +90,19 @@ fn leg(from: Candidate, k: u8, to: Candidate, m: u8) -> f64
     )
 }
 
-// Whether two numbers have the same bits. What is not a number has no other's: its bits are the processor's affair.
+// Whether two numbers have the same bits. What is not a number has no other's: its bits are the processor's affair. (No `==` alone:
+// it takes 0 and -0 for one.)
 fn same_bits(x: f64, y: f64) -> bool
     ensures { result ≡ true → x ≡ y }
 {
-    if x == y {
-        return f64::to_bits(x) == f64::to_bits(y);
-    }
-    false
+    x == y && x.to_bits() == y.to_bits()
 }
 
 // Whether a candidate's cut ends where it begins.
 fn is_closed(c: Candidate) -> bool
     ensures { result ≡ true → leaving c ≡ pierced c }
 {
-    if same_bits(c.end_x, c.x) {
-        return same_bits(c.end_y, c.y);
-    }
-    false
+    same_bits(c.end_x, c.x) && same_bits(c.end_y, c.y)
 }
 
 // How many entries of row a are known from the rows above. Where all cuts up to a are closed it is as far back as there, so all
@@ -111,27 +110,24 @@ fn is_closed(c: Candidate) -> bool
 fn known_in(a: usize, closed: bool) -> usize
     ensures { result ≡ cond closed a 0 }
 {
-    if closed {
-        return a;
-    }
-    0
+    if closed { a } else { 0 }
 }
 
-// The entries of row a that are known, from column a.
+// The entries of row a that are known, from column a. (By index: it reads and writes one room.)
+#[tactic(auto, using(crate::proofs::PlaceLaws::square_small, crate::proofs::PlaceLaws::row_fits))]
 fn copy_known(room: &mut [f64], t: usize, a: usize, known: usize)
     requires t_le_candidate_limit { (t ≤ candidate_limit) × ((a < t) × (known ≤ a)) }
     requires t_bound { t * t ≤ length room.old }
     ensures { let before = room.old in room.new ≡ paste before (a * t) (listed (λ b. distance_at before t b a) t 0) known }
 {
     let at = a * t;
-    let mut b = 0;
-    while b < known {
+    for b in 0..known {
         room[at + b] = room[b * t + a];
-        b += 1;
     }
 }
 
-// The row of candidate a: the way from it to each of the t candidates, worked out where it is not known.
+// The row of candidate a: the way from it to each of the t candidates, worked out where it is not known. (By index: three lists go
+// along, and the owners may be fewer.)
 fn fill_row(
     room: &mut [f64],
     items: [Candidate; CANDIDATES],
@@ -147,35 +143,27 @@ fn fill_row(
 {
     let from = items[a];
     let k = byte_at(owner, a);
-    let mut b = known;
-    while b < t {
-        let to = items[b];
-        room[b] = leg(from, k, to, byte_at(owner, b));
-        b += 1;
+    for b in known..t {
+        room[b] = leg(from, k, items[b], byte_at(owner, b));
     }
 }
 
 // The distances of the first t candidates, row by row, with the contour of each: each is worked out once and stands in both its
-// entries, up to the first candidate whose cut ends elsewhere than it begins. Nothing is written where the room is too small.
+// entries, up to the first candidate whose cut ends elsewhere than it begins. Nothing is written where the room is too small, or where
+// t is more than there are places: this promise, `tabled`, is why t stands beside the array, where a slice could not be asked.
+#[tactic(auto, using(crate::proofs::PlaceLaws::square_small, crate::proofs::PlaceLaws::row_fits))]
 pub fn fill_table(room: &mut [f64], items: [Candidate; CANDIDATES], t: usize, owner: &[u8])
     ensures { room.new ≡ tabled items t owner.now room.old }
 {
-    if t > CANDIDATES {
-        return;
-    }
-    if room.len() < t * t {
+    if t > CANDIDATES || room.len() < t * t {
         return;
     }
     let mut closed = true;
-    let mut a = 0;
-    while a < t {
-        let c = items[a];
-        closed = closed & is_closed(c);
+    for a in 0..t {
+        closed &= is_closed(items[a]);
         let known = known_in(a, closed);
         copy_known(room, t, a, known);
-        let at = a * t;
-        fill_row(&mut room[at..], items, t, owner, a, known);
-        a += 1;
+        fill_row(&mut room[a * t..], items, t, owner, a, known);
     }
 }
 
@@ -183,16 +171,10 @@ pub fn fill_table(room: &mut [f64], items: [Candidate; CANDIDATES], t: usize, ow
 pub fn fill_home(room: &mut [f64], items: [Candidate; CANDIDATES], t: usize, home: Point)
     ensures { room.new ≡ homed items t home room.old }
 {
-    if t > CANDIDATES {
+    if t > CANDIDATES || room.len() < t {
         return;
     }
-    if room.len() < t {
-        return;
-    }
-    let mut a = 0;
-    while a < t {
-        let to = items[a];
+    for (a, to) in items[..t].iter().enumerate() {
         room[a] = points::distance(home, Point { x: to.x, y: to.y });
-        a += 1;
     }
 }

@@ -1,5 +1,6 @@
 -- The doors: which refusal is told, and that the parts of a room that were lent come back at their place. Assumes
 -- nothing.
+use Rattle.std.specs.Prelude.{Err, Ok}
 use mathlib.Core.Path.{◌≡◌, refl, sym, ap, ◌∙◌}
 use mathlib.Core.List.{List, ◌++◌}
 use Prim.Native.Nat.{ℕ, ◌*◌, ◌≤◌, ◌<◌}
@@ -7,8 +8,7 @@ use lib.ListN.{length, take, drop}
 use lib.Seq.{length-take-le}
 use lib.Ieee.{Float}
 use borrow.Author.Tests.{lt-ltb, le-ltb}
-use Rattle.answer.specs.declared.Check.{Check}
-use Rattle.answer.specs.declared.Check.TheVariants.{Fine, Refused}
+use Rattle.answer.specs.Answer.{Check}
 use Rattle.answer.specs.declared.Refusal.{Refusal}
 use Rattle.answer.specs.Stage.{first_refusal}
 use Rattle.fields.specs.Layout.{contours_of}
@@ -17,7 +17,6 @@ use Rattle.card.proofs.GroupLaws.{last_stage}
 use Rattle.solve.specs.declared.Outcome.{Outcome}
 use Rattle.solve.specs.Solve.{Solved}
 use Rattle.answer.proofs.RoomLaws.{room_back}
-use Rattle.tour.specs.declared.Toured.TheVariants as answer
 use Rattle.instance.specs.Search.{count_on, table_on, chart_on}
 use Rattle.tour.specs.Search.{end_on, tour_on}
 use Rattle.tour.specs.Tour.{Left, left, room_check, tour_check, tour_check_within, toured, toured_unless, tour_of}
@@ -26,16 +25,16 @@ use Rattle.tour.specs.Tour.{tour_within}
 -- ---- the rooms' sizes
 
 module _ (s : List ℕ) (entries distances n t : ℕ) (en : n ≡ contours_of s) (et : t ≡ count_on s) where
-  pub short_room : entries < n → Refused (record { number = 13; place = n }) ≡ room_check s entries distances
+  pub short_room : entries < n → Err (record { number = 13; place = n }) ≡ room_check s entries distances
   unfolding room_check first_refusal
   short_room h = rw (← en, lt-ltb entries n h)
 
   pub short_table : n ≤ entries → distances < t * t
-      → Refused (record { number = 13; place = t * t }) ≡ room_check s entries distances
+      → Err (record { number = 13; place = t * t }) ≡ room_check s entries distances
   unfolding room_check first_refusal
   short_table h g = rw (← et, ← en, le-ltb entries n h, lt-ltb distances (t * t) g)
 
-  pub rooms_fine : n ≤ entries → t * t ≤ distances → Fine ≡ room_check s entries distances
+  pub rooms_fine : n ≤ entries → t * t ≤ distances → Ok tt ≡ room_check s entries distances
   unfolding room_check first_refusal
   rooms_fine h g = rw (← et, ← en, le-ltb entries n h, le-ltb distances (t * t) g)
 
@@ -44,18 +43,18 @@ module _ (s : List ℕ) (entries distances n t : ℕ) (en : n ≡ contours_of s)
 pub toured_is : (s room part : List ℕ) (table after : List Float) (o : Outcome) (n d : ℕ)
     → Solved (chart_on s) (end_on s) (take n room) o part
     → length part ≡ length (take n room) → after ≡ table_on s → d ≡ count_on s * count_on s
-    → left (answer.Done o) (part ++ drop n room) (after ++ drop d table) ≡ toured s room table
+    → left (Ok o) (part ++ drop n room) (after ++ drop d table) ≡ toured s room table
 toured_is s room part table after o n d w k e f =
     rw (w.told, room_back (tour_on s) room part n w.held k, e, f)
 
 -- ---- the doors
 
 module _ (s room : List ℕ) (table : List Float) (a : Check) (is : a ≡ check_of s) where
-  pub tour-refused : (r : Refusal) → a ≡ Refused r → left (answer.Refused r) room table ≡ tour_of s room table
+  pub tour-refused : (r : Refusal) → a ≡ Err r → left (Err r) room table ≡ tour_of s room table
   unfolding tour_within tour_check_within first_refusal
   tour-refused r e = rw (← is, e)
 
-  pub tour_fine : (l : Left) → a ≡ Fine
+  pub tour_fine : (l : Left) → a ≡ Ok tt
       → l ≡ toured_unless (room_check s (length room) (length table)) (toured s room table) room table
       → l ≡ tour_of s room table
   unfolding tour_within tour_check_within first_refusal
@@ -70,14 +69,14 @@ pub part_lent : {A : Type 0} (l : List A) (n : ℕ) → n ≤ length l → n ≡
 part_lent l n h = sym (length-take-le n l h)
 
 module _ (s room : List ℕ) (table : List Float) (n t : ℕ) (en : n ≡ contours_of s) (et : t ≡ count_on s) where
-  pub room_refused : length room < n → left (answer.Refused (record { number = 13; place = n })) room table
+  pub room_refused : length room < n → left (Err (record { number = 13; place = n })) room table
       ≡ toured_unless (room_check s (length room) (length table)) (toured s room table) room table
   room_refused h =
       ap (λ (c : Check). toured_unless c (toured s room table) room table)
       (short_room s (length room) (length table) n t en et h)
 
   pub table_refused : n ≤ length room → length table < t * t
-      → left (answer.Refused (record { number = 13; place = t * t })) room table
+      → left (Err (record { number = 13; place = t * t })) room table
       ≡ toured_unless (room_check s (length room) (length table)) (toured s room table) room table
   table_refused h g =
       ap (λ (c : Check). toured_unless c (toured s room table) room table)

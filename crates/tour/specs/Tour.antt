@@ -1,25 +1,23 @@
 -- The tour of any bytes, with the rooms lent for it. Assumes nothing.
-use Rattle.std.specs.Prelude.{List, [], ◌∷◌, ◌++◌, ℕ, ◌*◌, ltb, length, drop, Float}
-use Rattle.answer.specs.declared.Check.{Check}
-use Rattle.answer.specs.declared.Check.TheVariants.{Fine, Refused}
+use Rattle.std.specs.Prelude.{List, [], ◌∷◌, ◌++◌, ℕ, ◌*◌, ltb, length, drop, Float, Err, Ok}
+use Rattle.answer.specs.Answer.{Answer, Check}
+use Rattle.solve.specs.declared.Outcome.{Outcome}
 use Rattle.answer.specs.Stage.{first_refusal}
 use Rattle.answer.specs.Lowest.{refuse_if}
 use Rattle.fields.specs.Layout.{contours_of}
 use Rattle.card.specs.Limits.{Limits, today}
 use Rattle.card.specs.Verdict.{check_within}
 use Rattle.answer.specs.Room.{placed}
-use Rattle.tour.specs.declared.Toured.{Toured}
-use Rattle.tour.specs.declared.Toured.TheVariants as answer
 use Rattle.instance.specs.Search.{count_on, table_on}
 use Rattle.tour.specs.Search.{end_within, outcome_within}
 
 -- what a call leaves behind: its answer, the tour's room and the table's
 pub record Left : Type 0 where
-  pub answer : Toured
+  pub answer : Answer Outcome
   pub room : List ℕ
   pub table : List Float
 
-abbrev pub left : Toured → List ℕ → List Float → Left
+abbrev pub left : Answer Outcome → List ℕ → List Float → Left
 left answer room table = record { answer = answer; room = room; table = table }
 
 -- 13: the tour's room has fewer entries than there are contours; else the table's has fewer than there are distances
@@ -38,13 +36,13 @@ tour_check_within l s entries distances = first_refusal (check_within l s ∷ ro
 -- an accepted card: the tour and the distances stand at the front of their rooms, whose rests are kept
 abbrev pub toured_within : Limits → List ℕ → List ℕ → List Float → Left
 toured_within l s room table =
-    left (answer.Done (outcome_within l s)) (placed (end_within l s).tour room)
+    left (Ok (outcome_within l s)) (placed (end_within l s).tour room)
     (table_on s ++ drop (count_on s * count_on s) table)
 
 -- a refusal changes nothing
 abbrev pub toured_unless : Check → Left → List ℕ → List Float → Left
-toured_unless Fine done room table = done
-toured_unless (Refused r) done room table = left (answer.Refused r) room table
+toured_unless (Ok _) done room table = done
+toured_unless (Err r) done room table = left (Err r) room table
 
 -- the tour of any bytes
 unfoldable pub tour_within : Limits → List ℕ → List ℕ → List Float → Left

@@ -1,5 +1,6 @@
 -- The candidates of a card: each ends where it was pierced, what holds of each contour's holds of all, and on a fine
 -- card each lies near enough for every distance to be finite. Assumes nothing.
+use Rattle.std.specs.Prelude.{Ok}
 use mathlib.Core.Bool.{false}
 use mathlib.Core.Path.{◌≡◌, refl, sym, ap, ◌∙◌, subst}
 use mathlib.Core.Logic.{◌⊎◌, inl, inr}
@@ -10,7 +11,6 @@ use lib.ListN.{length, get_or, get_or-append, get_or-eq_default}
 use lib.Seq.{get_or_at}
 use Rattle.answer.specs.declared.Point.{Point}
 use Rattle.answer.specs.declared.CutDirection.{CutDirection}
-use Rattle.answer.specs.declared.Check.TheVariants.{Fine}
 use Rattle.answer.proofs.RoomLaws.{any_default}
 use Rattle.fields.specs.Limits.{vertex_limit}
 use Rattle.points.specs.Points.{point, nowhere}
@@ -137,7 +137,7 @@ module _ (s : List ℕ) (k : ℕ) where
 
 -- ---- a candidate of a fine card lies near
 
-module _ (s : List ℕ) (fine : check_of s ≡ Fine) where
+module _ (s : List ℕ) (fine : check_of s ≡ Ok tt) where
   offers_near : (k : ℕ) → k < contours_of s → AllAt (Near outmost) (offers_of s k)
   offers_near k h =
       offered-at (Near outmost) s k

@@ -1,5 +1,6 @@
 -- The start and the tour of a fine card: each contour once, each pair's first before its second, all of them candidates
 -- of the card. Assumes nothing.
+use Rattle.std.specs.Prelude.{Ok}
 use mathlib.Core.Path.{◌≡◌, refl, sym, ◌∙◌}
 use mathlib.Core.Bool.{true}
 use mathlib.Core.List.{List, [], ◌∷◌}
@@ -7,7 +8,6 @@ use Prim.Native.Nat.{ℕ, zero, suc, ◌<◌}
 use native.Mathlib.Omega.{arith}
 use lib.Dec.{lit≤}
 use lib.ListN.{length, get_or, length-map, length-append}
-use Rattle.answer.specs.declared.Check.TheVariants.{Fine}
 use Rattle.points.proofs.SizeLaws.{Near, near_more, good_near, distance_below}
 use Rattle.candidates.proofs.SizeLaws.{outmost}
 use Rattle.keep.specs.Legal.{EachOnce, Legal}
@@ -59,7 +59,7 @@ rides s tour v = record {
       omega arith);
 }
 
-module _ (s : List ℕ) (fine : check_of s ≡ Fine) where
+module _ (s : List ℕ) (fine : check_of s ≡ Ok tt) where
   -- ---- what the start asks for
 
   -- home lies near enough for every distance from it to be finite

@@ -1,11 +1,11 @@
 -- The cards that ask for the grid, computed from their bytes. Assumes nothing.
+use Rattle.std.specs.Prelude.{None}
 use mathlib.Core.Path.{◌≡◌, refl, subst}
 use mathlib.Core.Bool.{Bool, true, false, not, true≢false}
 use mathlib.Core.List.{List}
 use Prim.Native.Nat.{ℕ, zero, suc, ◌<◌}
 use native.Mathlib.Omega.{arith}
 use lib.Dec.{T, lit<}
-use Rattle.answer.specs.declared.Found.TheVariants.{Absent}
 use Rattle.answer.specs.Lowest.{lowest}
 use Rattle.answer.proofs.LowestLaws.{is_absent}
 use Rattle.fields.specs.Layout.{contours_of, vertex_count_of, vertex_offset}
@@ -20,7 +20,7 @@ use Rattle.witnesses.proofs.Examples.{grid_computes}
 
 -- no vertex of contour k is off the grid
 abbrev NoneOff : List ℕ → ℕ → Type 0
-NoneOff s k = lowest (λ j. not (grid_point (point_at s (vertex_offset k j)))) (vertex_count_of s k) ≡ Absent
+NoneOff s k = lowest (λ j. not (grid_point (point_at s (vertex_offset k j)))) (vertex_count_of s k) ≡ None
 
 kept : (b : Bool) → not b ≡ false → T b
 kept true e = tt

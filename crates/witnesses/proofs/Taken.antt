@@ -1,5 +1,6 @@
 -- The searches on a line, computed: a card's distances are worked out from its bytes once, and the search on those.
 -- Assumes nothing.
+use Rattle.std.specs.Prelude.{Ok}
 use mathlib.Core.Path.{◌≡◌, refl, sym, ap, ◌∙◌, subst}
 use mathlib.Core.Bool.{Bool, true, false}
 use mathlib.Core.List.{List, [], ◌∷◌}
@@ -7,7 +8,6 @@ use Prim.Native.Nat.{ℕ, zero, suc}
 use native.Mathlib.Omega.{arith}
 use lib.Ieee.{Float}
 use lib.ListN.{get_or}
-use Rattle.answer.specs.declared.Check.TheVariants.{Fine}
 use Rattle.points.specs.Numbers.{huge}
 use Rattle.fields.specs.Layout.{contours_of, passes_of, move_limit_of}
 use Rattle.card.specs.Verdict.{check_of}
@@ -19,7 +19,6 @@ use Rattle.improve.specs.Trials.{all_made, others, turn_trials, turns_trials, ro
 use Rattle.instance.specs.Search.{candidates_on, chart_on}
 use Rattle.solve.specs.declared.Outcome.{Outcome}
 use Rattle.solve.specs.Solve.{start_in}
-use Rattle.tour.specs.declared.Toured.TheVariants.{Done}
 use Rattle.tour.specs.Search.{start_on, end_on, end_within, tour_on}
 use Rattle.tour.specs.Tour.{tour_of}
 use Rattle.tour_laws.proofs.Computes.{tour_computes}
@@ -341,11 +340,11 @@ line_answered = record {
 -- ---- printed
 
 -- an answered card is fine
-pub fine_of : (s room : List ℕ) (table : List Float) (told : Outcome) → (tour_of s room table).answer ≡ Done told
-    → check_of s ≡ Fine
+pub fine_of : (s room : List ℕ) (table : List Float) (told : Outcome) → (tour_of s room table).answer ≡ Ok told
+    → check_of s ≡ Ok tt
 fine_of s room table told h = (exactly s).fine_if (fine_nothing s room table (toured-if s room table told h)).sound
 
-pub printed_by : (s tour : List ℕ) (length moves : ℕ) → check_of s ≡ Fine → Ends (chart_on s) (end_on s) tour length moves
+pub printed_by : (s tour : List ℕ) (length moves : ℕ) → check_of s ≡ Ok tt → Ends (chart_on s) (end_on s) tour length moves
     → tour_lines s tour (record { moves = moves; length = mm length }) ≡ list_of s
 unfolding list_of
 printed_by s tour length moves fine e = rw (fine, e.tour_long, e.tour_is, e.moves_are) refl

@@ -1,6 +1,6 @@
 -- Cards that meet what the demands ask for, so that none of them speaks of nothing: job 41, one whose search is cut,
 -- and one sent back with 12. And what is printed of the first and the last, byte for byte. Assumes nothing.
-use Rattle.std.specs.Prelude.{◌≡◌, false, [], ◌∷◌, ℕ, ◌*◌, ◌<◌, replicate}
+use Rattle.std.specs.Prelude.{◌≡◌, false, [], ◌∷◌, ℕ, ◌*◌, ◌<◌, replicate, Ok}
 use Rattle.std.specs.Float.{binary64}
 use Rattle.std.specs.Float.Ieee.{of_bits}
 use Rattle.answer.specs.declared.ContourType.TheVariants.{Exterior}
@@ -11,7 +11,6 @@ use Rattle.card_laws.specs.Table.{Past11}
 use Rattle.card_laws.specs.Orders.{RefusedWith}
 use Rattle.card_laws.specs.Write.{written}
 use Rattle.card_laws.specs.Examples.{partless, waits, job41, waiting}
-use Rattle.tour.specs.declared.Toured.TheVariants.{Done}
 use Rattle.tour.specs.Search.{outcome_on}
 use Rattle.tour.specs.Tour.{tour_of}
 use Rattle.text.specs.Text.{bytes}
@@ -50,7 +49,7 @@ limited =
 -- the card is answered with a tour, in rooms for n contours and t candidates
 abbrev pub Answered : Card → ℕ → ℕ → Type 0
 Answered c n t =
-    (tour_of (written c) (replicate n 0) (replicate (t * t) (of_bits binary64 0))).answer ≡ Done (outcome_on (written c))
+    (tour_of (written c) (replicate n 0) (replicate (t * t) (of_bits binary64 0))).answer ≡ Ok (outcome_on (written c))
 
 -- demands 2 and 3: an answer with a tour, on the grid
 pub record AnsweredOnGrid : Type 0 where

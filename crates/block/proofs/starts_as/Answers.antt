@@ -1,23 +1,40 @@
 -- `block::starts_as` meets its contract. Assumes nothing.
-use mathlib.Core.Path.{sym, ◌∙◌}
-use Rattle.block.proofs.BlockLaws.{starts-past, other_kind, other_version, other_number, as_due}
+use native.Mathlib.Omega.{arith}
+use Rattle.std.proofs.lemmas.Bool.Decides.{nat_tests}
+use Rattle.block.specs.Block.{starts}
+use Rattle.block.proofs.BlockLaws.{starts-past}
 use Rattle.block.proofs.starts_as.Goals as goal
+use Rattle.block.proofs.starts_as.Goals.{then-kind-eq0, else-kind-eq0, then-byte_at-kind, else-byte_at-kind}
+use Rattle.block.proofs.starts_as.Goals.{then-byte_at-version, else-byte_at-version}
 
-pub returns-then-s-at : goal.returns-then-s-at
-returns-then-s-at c = starts-past _ _ _ _ _ c.if-s-at.true
+pub returns-then-version-eq0 : goal.returns-then-version-eq0
+returns-then-version-eq0 c = grind (arith, nat_tests, starts-past)
 
-pub returns-then-byte_at-kind : goal.returns-then-byte_at-kind
-returns-then-byte_at-kind c = other_kind _ _ _ _ _ _ c.byte_at.ensures c.if-byte_at-kind.true
+pub returns-else-version-eq0 : goal.returns-else-version-eq0
+returns-else-version-eq0 c = elim c.if-kind-eq0.branch [
+  | then-kind-eq0 w ↦ grind (arith, nat_tests, starts-past)
+  | else-kind-eq0 w ↦ grind (arith, nat_tests, starts-past)
+]
 
-pub returns-then-byte_at-version : goal.returns-then-byte_at-version
-returns-then-byte_at-version c = other_version _ _ _ _ _ (sym c.byte_at.ensures ∙ c.if-byte_at-kind.false) _ c.byte_at-2.ensures
-    c.if-byte_at-version.true
+pub returns-then-from-number : goal.returns-then-from-number
+unfolding starts
+returns-then-from-number c = elim c.if-byte_at-version.branch [
+  | then-byte_at-version v ↦ elim c.if-byte_at-kind.branch [
+    | then-byte_at-kind k ↦ grind (arith, nat_tests)
+    | else-byte_at-kind k ↦ grind (arith, nat_tests)
+  ]
+  | else-byte_at-version v ↦ grind (arith, nat_tests)
+]
 
-pub returns-then-u16_at-number : goal.returns-then-u16_at-number
-returns-then-u16_at-number c = other_number _ _ _ _ _ (sym c.byte_at.ensures ∙ c.if-byte_at-kind.false)
-    (sym c.byte_at-2.ensures ∙ c.if-byte_at-version.false) _ c.u16_at.ensures c.if-u16_at-number.true
-
-pub returns : goal.returns
-returns c = as_due _ _ _ _ _ (sym c.byte_at.ensures ∙ c.if-byte_at-kind.false)
-    (sym c.byte_at-2.ensures ∙ c.if-byte_at-version.false) _ (sym c.u16_at.ensures ∙ c.if-u16_at-number.false)
-    c.u32_at.ensures
+pub returns-else-from-number : goal.returns-else-from-number
+unfolding starts
+returns-else-from-number c = elim c.if-byte_at-version.branch [
+  | then-byte_at-version w ↦ elim c.if-byte_at-kind.branch [
+    | then-byte_at-kind m ↦ grind (arith, nat_tests)
+    | else-byte_at-kind m ↦ grind (arith, nat_tests)
+  ]
+  | else-byte_at-version w ↦ elim c.if-byte_at-kind.branch [
+    | then-byte_at-kind n ↦ grind (arith, nat_tests)
+    | else-byte_at-kind n ↦ grind (arith, nat_tests)
+  ]
+]

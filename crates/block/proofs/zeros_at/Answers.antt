@@ -1,12 +1,20 @@
 -- `block::zeros_at` meets its contract. Assumes nothing.
-use Rattle.block.proofs.BlockLaws.{zeros_none, zeros_rest, zeros_whole}
+use Rattle.std.proofs.Common.{rules, refl, ℕ, List, [], ◌∷◌, ◌≡◌, nat_eq}
+use Rattle.std.proofs.lemmas.Iterator.{YieldsList-from_slice}
+use Rattle.std.proofs.lemmas.Iterator.Search.{all_from_yields_List}
+use Rattle.std.specs.List.{list_all}
+use borrow.Author.Tests.{tests}
+use Rattle.block.specs.Block.{zeros_at, all_zero}
 use Rattle.block.proofs.zeros_at.Goals as goal
 
-pub returns-then-s-at : goal.returns-then-s-at
-returns-then-s-at c = zeros_none _ _ _ c.if-s-at.true
-
-pub returns-then-s-at-2 : goal.returns-then-s-at-2
-returns-then-s-at-2 c = zeros_rest _ _ _ _ c.if-s-at-2.true c.is_zero.ensures
+all_zeros : (t : List ℕ) → list_all (λ x. nat_eq x 0) t ≡ all_zero t
+unfolding all_zero
+all_zeros [] = refl
+all_zeros (x ∷ t) = rw (all_zeros t)
 
 pub returns : goal.returns
-returns c = zeros_whole _ _ _ _ c.is_zero-2.ensures
+unfolding zeros_at
+returns c =
+    rw (← c.part.ensures, ← all_zeros c.part.result.now)
+    (all_from_yields_List (λ x. nat_eq x 0) _ _ _ c.all.ensures.ran (YieldsList-from_slice c.part.result.now cc)
+    (λ x b q k. search (rules, tests)))

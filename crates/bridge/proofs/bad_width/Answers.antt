@@ -1,14 +1,12 @@
--- `bridge::bad_width` meets its contract: each way out is a law of widths. Assumes nothing.
+-- `bridge::bad_width` meets its contract: each side is a law of widths. Assumes nothing.
 use mathlib.Core.Path.{sym}
-use Rattle.bridge.proofs.QuestionLaws.{width_fits, too_wide, not-above}
+use Rattle.bridge.proofs.QuestionLaws.{wide_or_not, not-above}
 use Rattle.bridge.proofs.bad_width.Goals as goal
+use Rattle.bridge.proofs.bad_width.Goals.{then-width, else-width}
 
-pub returns-then-half_of-whole : goal.returns-then-half_of-whole
-returns-then-half_of-whole c =
-    sym (width_fits _ _ c.if-width.true (rw (← c.half_of.ensures) c.if-half_of-whole.true))
-
-pub returns-else-half_of-whole : goal.returns-else-half_of-whole
-returns-else-half_of-whole c = sym (too_wide _ _ (rw (← c.half_of.ensures) c.if-half_of-whole.false))
-
-pub returns-else-width : goal.returns-else-width
-returns-else-width c = sym (not-above _ _ c.if-width.false)
+pub returns : goal.returns
+returns c =
+    elim c.if-width.branch [
+      | then-width w ↦ rw (w.result-is, w.half_of.ensures) (wide_or_not _ _ w.if-width.true)
+      | else-width w ↦ rw (w.result-is, w.if-width.false) (sym (not-above _ _ w.if-width.false))
+    ]

@@ -6,7 +6,7 @@ pub returns : goal.returns
 unfolding bridge_at starts_at ends_at
 returns c =
     rw (
-      c.place_on-t.ensures,
+      c.place_on.ensures,
       c.mark_at.ensures,
       c.length_of-length.ensures,
       c.edge_at.ensures,

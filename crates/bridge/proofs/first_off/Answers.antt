@@ -1,47 +1,12 @@
--- `bridge::first_off` meets its contract. The loop's invariant: no centre passed is off the way. Assumes nothing.
-use mathlib.Core.Path.{sym, ◌∙◌}
-use native.Mathlib.Omega.{arith}
-use borrow.Author.Count.{below_none, below_more}
-use Rattle.answer.proofs.LowestLaws.{at_is, absent_is}
-use Rattle.bridge.specs.Question.{first_off}
+-- `bridge::first_off` meets its contract. Assumes nothing.
+use Rattle.std.proofs.Common.{rules}
+use Rattle.answer.proofs.SearchLaws.{found_by}
+use Rattle.std.specs.Prelude.{get_or}
+use Rattle.std.specs.Float.{nan}
+use Rattle.bridge.specs.Question.{off_the_way, first_off}
 use Rattle.bridge.proofs.first_off.Goals as goal
-
-pub loop-k-init : goal.loop-k-init
-loop-k-init c = (omega arith, below_none _)
-
-pub offset_bounds-centres-k : goal.offset_bounds-centres-k
-offset_bounds-centres-k c = omega arith
-
-pub bounds-centres-k : goal.bounds-centres-k
-bounds-centres-k c = omega arith
-
-pub off_the_way-requires : goal.off_the_way-requires
-off_the_way-requires c = tt
-
-pub returns-then-off_the_way : goal.returns-then-off_the_way
-unfolding first_off
-returns-then-off_the_way c =
-    sym
-    (at_is _ _ _
-    (record {
-      within = omega arith;
-      holds = (sym c.off_the_way.ensures ∙ c.if-off_the_way.true);
-      before = c.loop-k.invariant.1;
-    }))
-
-pub overflow_add-k : goal.overflow_add-k
-overflow_add-k c = omega arith
-
-pub loop-k-smaller : goal.loop-k-smaller
-loop-k-smaller c = omega arith
-
-pub loop-k-preserved : goal.loop-k-preserved
-loop-k-preserved c = (
-  omega arith,
-  below_more _ _ c.loop-k.invariant.1
-      ((sym c.off_the_way.ensures ∙ c.if-off_the_way.false)),
-)
 
 pub returns : goal.returns
 unfolding first_off
-returns c = sym (absent_is _ _ (λ j g. c.loop-k.invariant.1 j (omega arith)))
+returns c =
+    found_by (λ k. off_the_way c.args.whole (get_or c.args.centres.now k nan)) _ _ _ _ c.find.ensures.ran (λ k q e. search rules) (λ k q e. search rules)

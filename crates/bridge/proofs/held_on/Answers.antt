@@ -6,12 +6,12 @@ pub returns-then-length : goal.returns-then-length
 unfolding held_on
 returns-then-length c = rw (← c.length_of-length.ensures, c.if-length.true)
 
-pub returns : goal.returns
+pub returns-else-length : goal.returns-else-length
 unfolding held_on
-returns c =
+returns-else-length c =
     rw (
       ← c.length_of-length.ensures,
       c.if-length.false,
-      c.along.ensures,
+      c.along-point.ensures,
       c.clamp.ensures,
     )

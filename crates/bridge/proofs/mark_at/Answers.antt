@@ -1,8 +1,8 @@
 -- `bridge::mark_at` meets its contract: past the end it is no number. Assumes nothing.
-use lib.ListN.{get_or-eq_default}
-use lib.Ieee.{nan, div, of_bits}
+use native.Mathlib.Nat.{le_refl}
+use lib.Ieee.{nan, of_bits}
 use Rattle.bridge.proofs.mark_at.Goals as goal
 
 pub returns : goal.returns
-unfolding div of_bits
-returns c = rw (get_or-eq_default c.args.marks.now nan {n = c.args.k} c.if-k-marks.false)
+unfolding of_bits
+returns c = rw (c.unwrap_or.ensures, c.copied.ensures) (c.get.ensures.lookup.4 (le_refl c.args.k) nan)

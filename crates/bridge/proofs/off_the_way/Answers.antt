@@ -1,15 +1,12 @@
 -- `bridge::off_the_way` meets its contract: the second test is asked only where the first holds. Assumes nothing.
 use Rattle.bridge.specs.Question.{off_the_way}
 use Rattle.bridge.proofs.off_the_way.Goals as goal
+use Rattle.bridge.proofs.off_the_way.Goals.{then-c, else-c}
 
-pub returns-then-c-whole : goal.returns-then-c-whole
+pub returns : goal.returns
 unfolding off_the_way
-returns-then-c-whole c = rw (c.if-c.true, c.if-c-whole.true)
-
-pub returns-else-c-whole : goal.returns-else-c-whole
-unfolding off_the_way
-returns-else-c-whole c = rw (c.if-c.true, c.if-c-whole.false)
-
-pub returns-else-c : goal.returns-else-c
-unfolding off_the_way
-returns-else-c c = rw c.if-c.false
+returns c =
+    elim c.if-c.branch [
+      | then-c w ↦ rw (w.result-is, w.if-c.true)
+      | else-c w ↦ rw (w.result-is, w.if-c.false)
+    ]

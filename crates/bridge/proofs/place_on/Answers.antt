@@ -6,6 +6,6 @@ pub returns-then-length : goal.returns-then-length
 unfolding place_on
 returns-then-length c = rw c.if-length.true
 
-pub returns : goal.returns
+pub returns-else-length : goal.returns-else-length
 unfolding place_on
-returns c = rw c.if-length.false
+returns-else-length c = rw c.if-length.false

@@ -1,10 +1,9 @@
 -- `bridge::whole_of` meets its contract: the last mark, no number where there is none. Assumes nothing.
-use mathlib.Core.Path.{◌∙◌}
-use Rattle.bridge.proofs.MarkLaws.{no_marks}
+use lib.Ieee.{nan, of_bits}
+use Rattle.std.proofs.lemmas.Option.{unwrap_or-slice_get}
 use Rattle.bridge.proofs.whole_of.Goals as goal
 
-pub returns-then-marks-eq0 : goal.returns-then-marks-eq0
-returns-then-marks-eq0 c = c.mark_at.ensures ∙ no_marks c.args.marks.now c.if-marks-eq0.true
-
 pub returns : goal.returns
-returns c = c.mark_at-2.ensures
+unfolding of_bits
+returns c =
+    rw (c.unwrap_or.ensures, c.copied.ensures, c.last.ensures.value) (unwrap_or-slice_get c.args.marks.now _ nan)

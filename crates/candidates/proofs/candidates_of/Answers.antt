@@ -16,7 +16,7 @@ returns-then-wanted-eq1 c =
       c.determine_direction-direction.ensures,
       some_vertices _ _ _ _
           c.if-numbers-eq0.false,
-      ← c.held-wanted.ensures,
+      ← c.min-wanted.ensures,
       eq-eqb _ _ c.if-wanted-eq1.true,
     )
 
@@ -28,7 +28,7 @@ returns-then-total c =
       c.determine_direction-direction.ensures,
       some_vertices _ _ _ _ c.if-numbers-eq0.false,
       ←
-          c.held-wanted.ensures,
+          c.min-wanted.ensures,
       ne_eqb _ _ c.if-wanted-eq1.false,
       ←
           c.perimeter-total.ensures,
@@ -43,7 +43,7 @@ returns c =
       c.determine_direction-direction.ensures,
       some_vertices _ _ _ _ c.if-numbers-eq0.false,
       ←
-          c.held-wanted.ensures,
+          c.min-wanted.ensures,
       ne_eqb _ 1 c.if-wanted-eq1.false,
       ←
           c.perimeter-total.ensures,

@@ -4,4 +4,4 @@ use Rattle.candidates.proofs.first_vertex.Goals as goal
 
 pub returns : goal.returns
 unfolding filled
-returns c = rw (c.candidate_at.ensures, c.point_at.ensures, c.blank-items.ensures)
+returns c = rw (c.candidate_at.ensures, c.point_at.ensures)

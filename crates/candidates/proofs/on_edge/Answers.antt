@@ -6,6 +6,6 @@ pub returns-then-length : goal.returns-then-length
 unfolding on_edge
 returns-then-length c = rw (← c.length_of-length.ensures, c.if-length.true)
 
-pub returns : goal.returns
+pub returns-else-length : goal.returns-else-length
 unfolding on_edge
-returns c = rw (← c.length_of-length.ensures, c.if-length.false, c.along.ensures)
+returns-else-length c = rw (← c.length_of-length.ensures, c.if-length.false, c.along-point.ensures)

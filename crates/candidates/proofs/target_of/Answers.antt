@@ -4,4 +4,4 @@ use Rattle.candidates.proofs.target_of.Goals as goal
 
 pub returns : goal.returns
 unfolding target
-returns c = rw (c.rest.ensures, c.nearest_u64_to_f64-2.ensures, c.nearest_u64_to_f64.ensures)
+returns c = rw (c.rest.ensures, c.nearest_usize_to_f64-2.ensures, c.nearest_usize_to_f64.ensures)

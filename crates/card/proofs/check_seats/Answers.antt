@@ -1,22 +1,16 @@
 -- `card::check_seats` meets its contract. Assumes nothing.
-use Rattle.answer.specs.declared.Found.TheVariants.{Absent}
-use Rattle.card.specs.Names.{written_on}
+use Rattle.std.proofs.lemmas.Result.{err_from_is_err_and}
+use mathlib.Core.Path.{sym, ◌∙◌}
 use Rattle.card.proofs.GroupLaws.{stops_at, goes_past, ends_with}
-use Rattle.card.proofs.NameLaws.{named_front, named_whole, named_within_lem}
 use Rattle.card.proofs.check_seats.Goals as goal
 
-pub slice_bounds-positions-end : goal.slice_bounds-positions-end
-slice_bounds-positions-end c = named_within_lem Absent (written_on c.args.card.now) c.requires.are
-
-pub slice_bounds-tag_fault-end : goal.slice_bounds-tag_fault-end
-slice_bounds-tag_fault-end c = named_whole Absent (written_on c.args.card.now) c.requires.are
-
-pub tag_fault-requires : goal.tag_fault-requires
-tag_fault-requires c = named_front Absent (written_on c.args.card.now) c.requires.are
-
-pub returns-in_default : goal.returns-in_default
-returns-in_default c = stops_at 11 c.refused_at-a.ensures c.tag_fault.ensures _ c.in_default.is
+pub returns-in_err-refused_at : goal.returns-in_err-refused_at
+returns-in_err-refused_at c =
+    let p = err_from_is_err_and c.from_residual.result c.from_residual.ensures.1 in
+    rw (p.1, p.2)
+    (sym c.in_err-refused_at.was
+    ∙ stops_at 11 c.refused_at.ensures c.tag_fault.ensures _ c.in_err-refused_at.was)
 
 pub returns : goal.returns
-returns c = goes_past 11 c.refused_at-a.ensures c.tag_fault.ensures _ c.in-Fine.is
-    (ends_with 12 c.refused_at.ensures c.cycle_fault.ensures)
+returns c = goes_past 11 c.refused_at.ensures c.tag_fault.ensures _ c.in_ok-refused_at.was
+    (ends_with 12 c.refused_at-2.ensures c.cycle_fault.ensures)

@@ -6,10 +6,6 @@ pub returns-then-length_sq : goal.returns-then-length_sq
 unfolding foot_of
 returns-then-length_sq c = rw (← c.distance_sq-length_sq.ensures, c.if-length_sq.true)
 
-pub returns : goal.returns
+pub returns-else-length_sq : goal.returns-else-length_sq
 unfolding foot_of
-returns c =
-    rw (
-      ← c.distance_sq-length_sq.ensures,
-      c.if-length_sq.false,
-    )
+returns-else-length_sq c = rw (← c.distance_sq-length_sq.ensures, c.if-length_sq.false)

@@ -1,15 +1,11 @@
--- `cost::no_amount` meets its contract: each way out is a law of comparisons. Assumes nothing.
+-- `cost::no_amount` meets its contract: each way out is a law of finite numbers. Assumes nothing.
 use Rattle.std.proofs.Common.{sym}
-use lib.Ieee.{nan_bits}
 use Rattle.cost.proofs.AmountLaws.{finite_amount, endless_amount}
 use Rattle.cost.proofs.no_amount.Goals as goal
 
-pub float_from_bits-t-2 : goal.float_from_bits-t-2
-unfolding nan_bits
-float_from_bits-t-2 c = tt
+pub returns-then-not-is_finite : goal.returns-then-not-is_finite
+returns-then-not-is_finite c =
+    rw c.if-not-is_finite.true (sym (endless_amount _ c.if-not-is_finite.ensures.value))
 
-pub returns-then-x : goal.returns-then-x
-returns-then-x c = finite_amount _ c.if-x.true
-
-pub returns : goal.returns
-returns c = sym (endless_amount _ c.if-x.false)
+pub returns-else-not-is_finite : goal.returns-else-not-is_finite
+returns-else-not-is_finite c = finite_amount _ c.if-not-is_finite.ensures.value

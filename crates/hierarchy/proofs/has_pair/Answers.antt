@@ -1,30 +1,18 @@
 -- `hierarchy::has_pair` meets its contract. Assumes nothing.
-use mathlib.Core.Bool.{true}
-use Rattle.closure.specs.Pairs.{some_of}
-use Rattle.closure.proofs.PairLaws.{walk_none, walk-on, walk-told, walk_end, some_on, some_here}
-use Rattle.closure.proofs.PairLaws.{is_pair_lem, other_first, other_second}
+use borrow.Author.Rules.{rules}
+use borrow.Author.Tests.{tests}
+use mathlib.Core.Bool.{Bool}
+use mathlib.Core.Path.{ap, ◌∙◌}
+use Rattle.std.proofs.lemmas.Iterator.{YieldsList-from_slice}
+use Rattle.std.proofs.lemmas.Iterator.Search.{any_from_yields_List}
+use Rattle.closure.specs.Pairs.{Pair, pair_of, some_of, is_pair}
+use Rattle.closure.proofs.PairLaws.{any_chunk, chunks_are}
 use Rattle.hierarchy.proofs.has_pair.Goals as goal
 
-pub loop-at-init : goal.loop-at-init
-loop-at-init c = walk_none _ _
-
-pub returns-then-a-after : goal.returns-then-a-after
-returns-then-a-after c =
-    walk-told _ _ _ c.loop-at-test.true c.loop-at.invariant true
-    (some_here _ _ _ (is_pair_lem _ _ _ _ c.if-b-before.true c.if-a-after.true))
-
-pub loop-at-preserved-else-a-after : goal.loop-at-preserved-else-a-after
-loop-at-preserved-else-a-after c =
-    let g = c.args in
-    walk-on _ _ _ c.loop-at-test.true c.loop-at.invariant
-    (some_on _ _ _ (other_second g.pairs.now c.loop-at.at g.before g.after c.if-a-after.false))
-
-pub loop-at-preserved : goal.loop-at-preserved
-loop-at-preserved c =
-    let g = c.args in
-    walk-on _ _ _ c.loop-at-test.true c.loop-at.invariant
-    (some_on _ _ _ (other_first g.pairs.now c.loop-at.at g.before g.after c.if-b-before.false))
-
 pub returns : goal.returns
-unfolding some_of
-returns c = walk_end _ _ _ c.loop-at-test.false c.loop-at.invariant
+returns c =
+    let chunks = c.as_chunks.result.0.now in
+    let asked : Pair → Bool = is_pair c.args.before c.args.after in
+    any_from_yields_List (λ two. asked (pair_of two)) _ _ _ c.any.ensures.ran (YieldsList-from_slice chunks cc)
+    (λ x b q k. search (rules, tests))
+    ∙ any_chunk asked chunks ∙ ap (some_of asked) (chunks_are c.args.pairs.now _ c.as_chunks.ensures.front)

@@ -1,25 +1,20 @@
 -- `hierarchy::keeps_ids` meets its contract. Assumes nothing.
-use mathlib.Core.Path.{◌∙◌}
-use Rattle.closure.specs.Pairs.{every}
-use Rattle.closure.proofs.PairLaws.{walk_none, walk_end}
-use Rattle.keep.proofs.RankLaws.{pair_kept, pair_broken, keeps_is}
+use borrow.Author.Rules.{rules}
+use borrow.Author.Tests.{tests}
+use mathlib.Core.Bool.{Bool}
+use mathlib.Core.Path.{ap, ◌∙◌}
+use Rattle.std.proofs.lemmas.Iterator.{YieldsList-from_slice}
+use Rattle.std.proofs.lemmas.Iterator.Search.{all_from_yields_List}
+use Rattle.closure.specs.Pairs.{Pair, pair_of, every}
+use Rattle.closure.proofs.PairLaws.{all_chunks, chunks_are}
+use Rattle.keep.specs.Keep.{kept_in, keeps_pairs}
 use Rattle.hierarchy.proofs.keeps_ids.Goals as goal
 
-pub loop-at-init : goal.loop-at-init
-loop-at-init c = walk_none _ _
-
-pub returns-then-not-kept_at : goal.returns-then-not-kept_at
-returns-then-not-kept_at c =
-    pair_broken _ _ _ _ _ _
-    c.last_rank-b.ensures c.last_rank-a.ensures
-    c.loop-at-test.true c.loop-at.invariant c.kept_at.ensures (c.if-not-kept_at.true)
-
-pub loop-at-preserved : goal.loop-at-preserved
-loop-at-preserved c =
-    pair_kept _ _ _ _ _ _
-    c.last_rank-b.ensures c.last_rank-a.ensures
-    c.loop-at-test.true c.loop-at.invariant c.kept_at.ensures (c.if-not-kept_at.false)
-
 pub returns : goal.returns
-unfolding every
-returns c = walk_end _ _ _ c.loop-at-test.false c.loop-at.invariant ∙ keeps_is _ _
+unfolding keeps_pairs kept_in
+returns c =
+    let chunks = c.as_chunks.result.0.now in
+    let kept : Pair → Bool = kept_in c.args.ids.now in
+    all_from_yields_List (λ two. kept (pair_of two)) _ _ _ c.all.ensures.ran (YieldsList-from_slice chunks cc)
+    (λ x b q k. search (rules, tests))
+    ∙ all_chunks kept chunks ∙ ap (every kept) (chunks_are c.args.pairs.now _ c.as_chunks.ensures.front)

@@ -1,10 +1,6 @@
 -- `hierarchy::list_free` meets its contract. Assumes nothing.
-use Prim.Native.Nat.{◌-◌}
 use Rattle.hierarchy.proofs.SortLaws.{FreePart}
 use Rattle.hierarchy.proofs.list_free.Given as goal
 
 abbrev pub invariant-loop-k : goal.invariant-loop-k
 invariant-loop-k l = FreePart l.waits l.n l.k l.order l.count
-
-abbrev pub decreases-loop-k : goal.decreases-loop-k
-decreases-loop-k l = l.n - l.k

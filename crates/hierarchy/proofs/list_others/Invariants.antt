@@ -1,16 +1,16 @@
 -- `hierarchy::list_others` meets its contract. Assumes nothing.
-use Prim.Native.Nat.{◌-◌}
-use mathlib.Core.Bool.{not}
-use lib.Dec.{eqb}
-use lib.ListN.{length}
+use mathlib.Core.Bool.{Bool}
+use Prim.Native.Nat.{ℕ, ◌≤◌}
 use Rattle.closure.specs.Limits.{pair_limit}
-use Rattle.hierarchy.specs.Code.{side_of}
+use Rattle.closure.specs.Pairs.{Pair}
+use Rattle.hierarchy.specs.Code.{Finds}
 use Rattle.hierarchy.proofs.FillLaws.{PickPart}
 use Rattle.hierarchy.proofs.list_others.Given as goal
 
-abbrev pub invariant-loop-at : goal.invariant-loop-at
-invariant-loop-at l =
-    PickPart pair_limit (λ p. eqb (side_of (not l.second) p) l.id) (side_of l.second) l.pairs l.at l.ids l.count
-
-abbrev pub decreases-loop-at : goal.decreases-loop-at
-decreases-loop-at l = length l.pairs - l.at
+abbrev pub invariant-loop-b : goal.invariant-loop-b
+invariant-loop-b g l =
+    record {
+      few : l.count ≤ l.b-index;
+      picked : (test : Pair → Bool) (pick : Pair → ℕ) → Finds (λ b a r. goal.F-post g l.other b a r) test pick
+          → PickPart pair_limit test pick l.b-items l.b-index l.items l.count;
+    }

@@ -9,4 +9,4 @@ pub returns-then-w-eq1 : goal.returns-then-w-eq1
 returns-then-w-eq1 c = loosen_last _ _ _ _ c.requires.1 c.requires.0 c.if-w-eq1.true
 
 pub returns : goal.returns
-returns c = loosen-one _ _ _ _ c.requires.1 c.requires.0 _ c.less.ensures c.if-w-eq1.false
+returns c = loosen-one _ _ _ _ c.requires.1 c.requires.0 _ c.saturating_sub.ensures c.if-w-eq1.false

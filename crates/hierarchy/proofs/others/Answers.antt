@@ -1,14 +1,15 @@
 -- `hierarchy::others` meets its contract. Assumes nothing.
-use mathlib.Core.Path.{sym, ◌∙◌}
-use Rattle.hierarchy.proofs.CheckLaws.{fine_small, ids_refused, ids_fine}
+use Rattle.std.proofs.Common.{rules, Ok}
+use mathlib.Core.Path.{sym, ap, ◌∙◌}
+use Rattle.hierarchy.proofs.CheckLaws.{fine_small}
 use Rattle.hierarchy.proofs.others.Goals as goal
 
-pub returns-in_default : goal.returns-in_default
-returns-in_default c = ids_refused _ _ c.check_pairs-check.ensures _ _ c.in_default.is
+pub returns-in_err-check_pairs : goal.returns-in_err-check_pairs
+returns-in_err-check_pairs g c = λ test pick finds. search rules
 
-pub list_others-requires : goal.list_others-requires
-list_others-requires c = (fine_small _ _ (sym c.in-Fine.is ∙ c.check_pairs-check.ensures)).short
+pub list_others-requires-clause-small : goal.list_others-requires-clause-small
+list_others-requires-clause-small g c = (fine_small _ _ (sym c.in_ok-check_pairs.was ∙ c.check_pairs.ensures)).short
 
 pub returns : goal.returns
-returns c = ids_fine _ _ c.check_pairs-check.ensures _ _ c.in-Fine.is
-    c.list_others.ensures
+returns g c = λ test pick finds.
+    rw (← c.check_pairs.ensures, c.in_ok-check_pairs.was) (ap Ok (c.list_others.ensures test pick finds))

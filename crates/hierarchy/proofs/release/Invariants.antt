@@ -1,13 +1,8 @@
 -- `hierarchy::release` meets its contract. Assumes nothing.
-use Prim.Native.Nat.{◌-◌}
-use lib.ListN.{length}
 use Rattle.hierarchy.specs.Code.{standing}
 use Rattle.hierarchy.proofs.SortLaws.{ReleasePart}
 use Rattle.hierarchy.proofs.release.Given as goal
 
-abbrev pub invariant-loop-at : goal.invariant-loop-at
-invariant-loop-at l =
-    ReleasePart l.n l.x l.pairs l.at (standing l.initial.waits l.initial.order l.before) l.waits l.order l.count
-
-abbrev pub decreases-loop-at : goal.decreases-loop-at
-decreases-loop-at l = length l.pairs - l.at
+abbrev pub invariant-loop-b : goal.invariant-loop-b
+invariant-loop-b l =
+    ReleasePart l.n l.x l.b-items l.b-index (standing l.initial.waits l.initial.order l.before) l.waits l.order l.count

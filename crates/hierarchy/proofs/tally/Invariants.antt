@@ -1,11 +1,6 @@
 -- `hierarchy::tally` meets its contract. Assumes nothing.
-use Prim.Native.Nat.{◌-◌}
-use lib.ListN.{length}
 use Rattle.hierarchy.proofs.SortLaws.{TallyPart}
 use Rattle.hierarchy.proofs.tally.Given as goal
 
-abbrev pub invariant-loop-at : goal.invariant-loop-at
-invariant-loop-at l = TallyPart l.n l.pairs l.at l.waits
-
-abbrev pub decreases-loop-at : goal.decreases-loop-at
-decreases-loop-at l = length l.pairs - l.at
+abbrev pub invariant-loop-b : goal.invariant-loop-b
+invariant-loop-b l = TallyPart l.n l.b-items l.b-index l.waits

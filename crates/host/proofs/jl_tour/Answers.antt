@@ -6,14 +6,14 @@ use Rattle.table.specs.Distances.{entry_limit}
 use Rattle.host.proofs.HostLaws.{host_refused, host_done}
 use Rattle.host.proofs.jl_tour.Goals as goal
 
-pub returns-in-Refused : goal.returns-in-Refused
-returns-in-Refused c =
+pub returns-in-Err : goal.returns-in-Err
+returns-in-Err c =
     host_refused _ _ _ (length-replicate entry_limit zero64) _ _ _
     c.tour.ensures _ _ _ _
-    c.in-Refused.is c.told.ensures
+    c.in-Err.is c.told.ensures
 
-pub returns-in-Done : goal.returns-in-Done
-returns-in-Done c =
+pub returns-in-Ok : goal.returns-in-Ok
+returns-in-Ok c =
     host_done _ _ _ (length-replicate entry_limit zero64) _ _ _
     c.tour.ensures _ _ _ _
-    c.in-Done.is c.bits_of.ensures
+    c.in-Ok.is c.bits_of.ensures

@@ -4,10 +4,10 @@ use borrow.Author.Tests.{lt-ltb}
 use Rattle.improve.specs.Search.{at_limit}
 use Rattle.improve.proofs.at_limit.Goals as goal
 
-pub returns-then-limit-eq0 : goal.returns-then-limit-eq0
+pub returns-then-limit-ne0 : goal.returns-then-limit-ne0
 unfolding at_limit
-returns-then-limit-eq0 c = rw c.if-limit-eq0.true
+returns-then-limit-ne0 c = rw (c.from.ensures, lt-ltb 0 c.args.limit (omega arith))
 
-pub returns : goal.returns
+pub returns-else-limit-ne0 : goal.returns-else-limit-ne0
 unfolding at_limit
-returns c = rw (lt-ltb 0 c.args.limit (omega arith))
+returns-else-limit-ne0 c = rw c.if-limit-ne0.false

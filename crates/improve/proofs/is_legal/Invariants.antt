@@ -1,7 +1,6 @@
 -- `improve::is_legal` meets its contract. The invariant: the contours of the places passed are written down. Assumes
 -- nothing.
 use mathlib.Core.Path.{◌≡◌}
-use Prim.Native.Nat.{◌-◌, ◌≤◌}
 use lib.ListN.{length, take}
 use Rattle.closure.specs.Limits.{contour_limit}
 use Rattle.improve.specs.Search.{contours}
@@ -9,7 +8,4 @@ use Rattle.improve.proofs.is_legal.Given as goal
 
 abbrev pub invariant-loop-i : goal.invariant-loop-i
 invariant-loop-i l =
-    (l.i ≤ length l.tour) × (length l.order ≡ contour_limit) × (take l.i l.order ≡ contours l.owner (take l.i l.tour))
-
-abbrev pub decreases-loop-i : goal.decreases-loop-i
-decreases-loop-i l = length l.tour - l.i
+    (length l.order ≡ contour_limit) × (take l.i l.order ≡ contours l.chart.owner.now (take l.i l.tour))

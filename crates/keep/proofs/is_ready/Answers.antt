@@ -1,24 +1,20 @@
 -- `keep::is_ready` meets its contract. Assumes nothing.
-use mathlib.Core.Bool.{false}
-use mathlib.Core.Path.{sym, ◌∙◌}
-use Rattle.closure.specs.Pairs.{every}
-use Rattle.closure.proofs.PairLaws.{walk_none, walk-on, walk-told, walk_end, every-on, every_off}
-use Rattle.keep.proofs.RankLaws.{ready_is}
+use borrow.Author.Rules.{rules}
+use borrow.Author.Tests.{tests}
+use mathlib.Core.Bool.{Bool}
+use mathlib.Core.Path.{ap, ◌∙◌}
+use Rattle.std.proofs.lemmas.Iterator.{YieldsList-from_slice}
+use Rattle.std.proofs.lemmas.Iterator.Search.{all_from_yields_List}
+use Rattle.closure.specs.Pairs.{Pair, pair_of, every}
+use Rattle.closure.proofs.PairLaws.{all_chunks, chunks_are}
+use Rattle.keep.specs.Keep.{ready_by, ready_in}
 use Rattle.keep.proofs.is_ready.Goals as goal
 
-pub loop-at-init : goal.loop-at-init
-loop-at-init c = walk_none _ _
-
-pub returns-then-not-ready_by : goal.returns-then-not-ready_by
-returns-then-not-ready_by c =
-    walk-told _ _ _ c.loop-at-test.true c.loop-at.invariant false
-    (every_off _ _ _ (sym c.ready_by.ensures ∙ c.if-not-ready_by.true)) ∙ ready_is _ _ _
-
-pub loop-at-preserved : goal.loop-at-preserved
-loop-at-preserved c =
-    walk-on _ _ _ c.loop-at-test.true c.loop-at.invariant
-    (every-on _ _ _ (sym c.ready_by.ensures ∙ c.if-not-ready_by.false))
-
 pub returns : goal.returns
-unfolding every
-returns c = walk_end _ _ _ c.loop-at-test.false c.loop-at.invariant ∙ ready_is _ _ _
+unfolding ready_in
+returns c =
+    let chunks = c.as_chunks.result.0.now in
+    let ready : Pair → Bool = ready_by c.args.visited.now c.args.k in
+    all_from_yields_List (λ two. ready (pair_of two)) _ _ _ c.all.ensures.ran (YieldsList-from_slice chunks cc)
+    (λ x b q k. search (rules, tests))
+    ∙ all_chunks ready chunks ∙ ap (every ready) (chunks_are c.args.pairs.now _ c.as_chunks.ensures.front)

@@ -1,29 +1,23 @@
 -- `keep::keeps_pairs` meets its contract. Assumes nothing.
+use borrow.Author.Rules.{rules}
+use borrow.Author.Tests.{tests}
+use lib.ListN.{get_or}
+use mathlib.Core.Bool.{Bool}
 use mathlib.Core.Path.{◌∙◌}
-use Rattle.closure.specs.Pairs.{every}
-use Rattle.closure.proofs.PairLaws.{walk_none, walk_end}
-use Rattle.keep.proofs.RankLaws.{table_rank, pair_kept, pair_broken, keeps_is}
+use Rattle.std.proofs.lemmas.Iterator.{YieldsList-from_slice}
+use Rattle.std.proofs.lemmas.Iterator.Search.{all_from_yields_List}
+use Rattle.closure.specs.Pairs.{Pair, pair_of}
+use Rattle.closure.proofs.PairLaws.{all_chunks}
+use Rattle.keep.specs.Keep.{kept_at}
+use Rattle.keep.proofs.RankLaws.{table_keeps}
 use Rattle.keep.proofs.keeps_pairs.Goals as goal
 
-pub loop-at-init : goal.loop-at-init
-loop-at-init c = walk_none _ _
-
-pub returns-then-not-kept_at : goal.returns-then-not-kept_at
-returns-then-not-kept_at c =
-    let w = c.wide-b.ensures in
-    let v = c.wide-a.ensures in
-    let table = c.note_ranks.ensures in
-    pair_broken _ _ _ _ _ _ (table_rank _ _ _ _ table w.0 w.1) (table_rank _ _ _ _ table v.0 v.1)
-    c.loop-at-test.true c.loop-at.invariant c.kept_at.ensures (c.if-not-kept_at.true)
-
-pub loop-at-preserved : goal.loop-at-preserved
-loop-at-preserved c =
-    let w = c.wide-b.ensures in
-    let v = c.wide-a.ensures in
-    let table = c.note_ranks.ensures in
-    pair_kept _ _ _ _ _ _ (table_rank _ _ _ _ table w.0 w.1) (table_rank _ _ _ _ table v.0 v.1)
-    c.loop-at-test.true c.loop-at.invariant c.kept_at.ensures (c.if-not-kept_at.false)
-
 pub returns : goal.returns
-unfolding every
-returns c = walk_end _ _ _ c.loop-at-test.false c.loop-at.invariant ∙ keeps_is _ _
+returns c =
+    let chunks = c.as_chunks.result.0.now in
+    let ranks = c.note_ranks.new.ranks in
+    let kept : Pair → Bool = λ p. kept_at (get_or ranks p.before 0) (get_or ranks p.after 0) in
+    all_from_yields_List (λ two. kept (pair_of two)) _ _ _ c.all.ensures.ran (YieldsList-from_slice chunks cc)
+    (λ x b q k. search (rules, tests))
+    ∙ all_chunks kept chunks
+    ∙ table_keeps _ _ c.args.pairs.now _ c.as_chunks.ensures.front c.note_ranks.ensures (λ i. (c.type_inv.pairs i).fits)

@@ -3,7 +3,4 @@ use Rattle.list.proofs.LineLaws.{head_put}
 use Rattle.list.proofs.put_head.Goals as goal
 
 pub returns : goal.returns
-returns c =
-    head_put _ _ _ _ _ _ c.read_head-head.ensures
-    c.put_number-job.ensures c.put_number-count.ensures
-    c.put.ensures
+returns c = head_put _ _ _ _ _ _ c.read_head-head.ensures c.put_number.ensures c.put_number-2.ensures c.put.ensures

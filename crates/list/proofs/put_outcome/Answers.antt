@@ -4,6 +4,4 @@ use Rattle.list.proofs.put_outcome.Goals as goal
 
 pub returns : goal.returns
 returns c =
-    outcome_put _ _ _ _ _ _ _ c.bits_of.ensures
-    c.put_number-moves.ensures c.put-rapid.ensures
-    c.put_hex-length.ensures c.put.ensures
+    outcome_put _ _ _ _ _ _ _ c.bits_of.ensures c.put_number.ensures c.put.ensures c.put_hex.ensures c.put-2.ensures

@@ -1,16 +1,9 @@
 -- `list::put_stops` meets its contract. The loop's invariant: the lines of the stops passed have been put. Assumes
 -- nothing.
-use mathlib.Core.Path.{◌≡◌}
-use Prim.Native.Nat.{◌≤◌, ◌-◌}
-use lib.ListN.{length, take}
-use Rattle.text.specs.Page.{paged, put}
+use lib.ListN.{take}
+use Rattle.text.specs.OnPage.{Puts}
 use Rattle.list.specs.Lines.{stop_lines}
 use Rattle.list.proofs.put_stops.Given as goal
 
-abbrev pub invariant-loop-p : goal.invariant-loop-p
-invariant-loop-p l =
-    (l.p ≤ length l.tour) × (length l.page ≡ length l.initial.page) ×
-    (paged l.next l.page ≡ put (stop_lines l.card (take l.p l.tour)) (paged l.at l.initial.page))
-
-abbrev pub decreases-loop-p : goal.decreases-loop-p
-decreases-loop-p l = length l.tour - l.p
+abbrev pub invariant-loop-stop : goal.invariant-loop-stop
+invariant-loop-stop l = Puts (stop_lines l.card (take l.stop-index l.tour)) l.initial.page l.page

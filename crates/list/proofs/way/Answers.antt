@@ -4,6 +4,5 @@ use Rattle.list.proofs.way.Goals as goal
 
 pub returns : goal.returns
 returns c =
-    way_is c.args.card.now
-    c.args.k _ _ _ _ c.contour_type-kind.ensures
-    c.exterior-exterior.ensures c.interior-interior.ensures c.determine_direction.ensures
+    way_is c.args.card.now c.args.k _ _ _ _ c.contour_type.ensures c.exterior.ensures c.interior.ensures
+    c.determine_direction.ensures

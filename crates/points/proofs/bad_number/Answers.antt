@@ -1,13 +1,12 @@
--- `points::bad_number` meets its contract: each way out is a law of comparisons. Assumes nothing.
+-- `points::bad_number` meets its contract: each side of the limit is a law of comparisons. Assumes nothing.
 use mathlib.Core.Path.{sym}
-use Rattle.points.proofs.NumberLaws.{within_is, under_is, above_is}
+use Rattle.points.proofs.NumberLaws.{under_is, up_to_is}
 use Rattle.points.proofs.bad_number.Goals as goal
+use Rattle.points.proofs.bad_number.Goals.{then-x, else-x}
 
-pub returns-then-x-2 : goal.returns-then-x-2
-returns-then-x-2 c = sym (within_is _ c.if-x.true c.if-x-2.true)
-
-pub returns-else-x-2 : goal.returns-else-x-2
-returns-else-x-2 c = sym (under_is _ c.if-x-2.false)
-
-pub returns-else-x : goal.returns-else-x
-returns-else-x c = sym (above_is _ c.if-x.false)
+pub returns : goal.returns
+returns c =
+    elim c.if-x.branch [
+      | then-x w ↦ rw w.result-is (up_to_is _ w.if-x.true)
+      | else-x w ↦ rw (w.result-is, w.if-x.false) (sym (under_is _ w.if-x.false))
+    ]

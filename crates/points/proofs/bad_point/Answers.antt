@@ -7,6 +7,7 @@ pub returns-then-bad_number : goal.returns-then-bad_number
 unfolding bad_point
 returns-then-bad_number c = rw (← c.bad_number.ensures, c.if-bad_number.true)
 
-pub returns : goal.returns
+pub returns-else-bad_number : goal.returns-else-bad_number
 unfolding bad_point
-returns c = rw (← c.bad_number.ensures, c.if-bad_number.false) c.bad_number-2.ensures
+returns-else-bad_number c =
+    rw (← c.bad_number.ensures, c.if-bad_number.false) c.bad_number-else-bad_number.ensures

@@ -1,18 +1,17 @@
--- `points::edge_at` meets its contract: an edge to the next vertex, the closing edge, and none past the last. Assumes
--- nothing.
+-- `points::edge_at` meets its contract: the closing edge, and an edge to the next vertex, which past the last is no
+-- place. Assumes nothing.
 use mathlib.Core.Path.{sym}
 use native.Mathlib.Omega.{arith}
-use Rattle.points.proofs.PointLaws.{edge_next, edge_back, edge_past, point-past}
+use Rattle.points.proofs.PointLaws.{edge_on, edge_back}
 use Rattle.points.proofs.edge_at.Goals as goal
-
-pub returns-then-next-numbers : goal.returns-then-next-numbers
-returns-then-next-numbers c =
-    rw (c.point_at-start.ensures, c.point_at.ensures)
-    (sym (edge_next _ _ c.if-next-numbers.true))
-
-pub returns-then-i-numbers : goal.returns-then-i-numbers
-returns-then-i-numbers c =
-    rw (c.point_at-start.ensures, c.point_at-then-i-numbers.ensures) (sym (edge_back _ _ (omega arith)))
+use Rattle.points.proofs.edge_at.Goals.{then-next-numbers, else-next-numbers}
 
 pub returns : goal.returns
-returns c = rw (c.point_at-start.ensures, edge_past _ _ c.if-i-numbers.false, point-past _ _ c.if-i-numbers.false)
+returns c =
+    let n = c.saturating_add-next.ensures in
+    elim c.if-next-numbers.branch [
+      | then-next-numbers w ↦ rw (c.point_at.ensures, c.point_at-2.ensures, w.next-is)
+          (let t = w.if-next-numbers.true in sym (edge_back _ _ (omega arith)))
+      | else-next-numbers w ↦ rw (c.point_at.ensures, c.point_at-2.ensures, w.next-is)
+          (sym (edge_on _ _ _ w.if-next-numbers.false (λ h. omega arith) (omega arith)))
+    ]

@@ -6,8 +6,8 @@ use Rattle.questions.proofs.place_of_fine.Goals as goal
 
 pub returns-then-all-a : goal.returns-then-all-a
 returns-then-all-a c =
-    no_such_number _ _ (held_on _ c.requires _ c.gather-all.ensures) _
-    c.if-all-a.true
+    rw c.at.ensures (no_such_number _ _ (held_on _ c.requires _ c.gather-all.ensures) _
+    c.if-all-a.true)
 
 pub returns : goal.returns
 returns c =

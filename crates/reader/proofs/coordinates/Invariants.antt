@@ -1,18 +1,13 @@
--- `reader::coordinates` meets its contract: what stands in the array and what is still walked are the whole walk.
--- Assumes nothing.
+-- `reader::coordinates` meets its contract: what was read and what is still walked are the whole walk. Assumes nothing.
 use mathlib.Core.Path.{◌≡◌}
 use mathlib.Core.List.{◌++◌}
-use Prim.Native.Nat.{◌*◌, ◌-◌, ◌≤◌}
-use lib.ListN.{take, drop, replicate}
-use Rattle.fields.specs.Limits.{vertex_limit}
+use Prim.Native.Nat.{◌-◌}
+use lib.ListN.{length, take}
 use Rattle.reader.specs.Walk.{walk, eights}
 use Rattle.reader.proofs.coordinates.Given as goal
 
-abbrev pub invariant-loop-i : goal.invariant-loop-i
-invariant-loop-i l =
-    (l.i ≤ l.count)
-    × (take l.i l.read ++ walk l.card l.place (eights (l.count - l.i)) ≡ walk l.card l.at (eights l.count))
-    × (drop l.i l.read ≡ replicate (2 * vertex_limit - l.i) 0)
-
-abbrev pub decreases-loop-i : goal.decreases-loop-i
-decreases-loop-i l = l.count - l.i
+abbrev pub invariant-loop-x : goal.invariant-loop-x
+invariant-loop-x l =
+    (l.r.src.now ≡ l.card)
+    × (take l.x-index l.x-items ++ walk l.card l.r.at (eights (l.count - l.x-index)) ≡ walk l.card l.at (eights l.count))
+    × (length l.x-items ≡ l.count)

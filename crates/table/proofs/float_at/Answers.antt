@@ -1,8 +1,10 @@
--- `table::float_at` meets its contract: past the end the quotient of two zeros is no number. Assumes nothing.
+-- `table::float_at` meets its contract: past the end it is the quotient of two zeros, which is no number.
+-- Assumes nothing.
+use mathlib.Core.Path.{◌∙◌}
+use native.Mathlib.Omega.{arith}
 use lib.Ieee.{nan, div, of_bits, of_fields, odd}
-use lib.ListN.{get_or-eq_default}
 use Rattle.table.proofs.float_at.Goals as goal
 
 pub returns : goal.returns
 unfolding div of_bits of_fields odd
-returns c = rw (get_or-eq_default c.args.s.now nan {n = c.args.i} c.if-i-s.false)
+returns c = c.unwrap_or.ensures ∙ rw c.copied.ensures (c.get.ensures.lookup.4 (omega arith) nan)

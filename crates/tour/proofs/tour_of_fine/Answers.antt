@@ -8,9 +8,10 @@ use Rattle.tour.proofs.DoorLaws.{room_refused, table_refused, rooms_passed, part
 use Rattle.tour.proofs.tour_of_fine.Goals as goal
 
 pub returns-then-room-n : goal.returns-then-room-n
-returns-then-room-n c = let h =
+returns-then-room-n c =
+    rw c.at.ensures (let h =
     (prepared_on _ c.requires _ c.prepare-p.ensures
-    ).held in room_refused _ _ _ _ _ h.contours h.count c.if-room-n.true
+    ).held in room_refused _ _ _ _ _ h.contours h.count c.if-room-n.true)
 
 pub overflow_mul-distances : goal.overflow_mul-distances
 overflow_mul-distances c = let h =
@@ -18,10 +19,11 @@ overflow_mul-distances c = let h =
     ).held in omega arith
 
 pub returns-then-table-distances : goal.returns-then-table-distances
-returns-then-table-distances c = let h =
+returns-then-table-distances c =
+    rw c.at-then-table-distances.ensures (let h =
     (prepared_on _ c.requires _
     c.prepare-p.ensures).held in table_refused _ _ _ _ _ h.contours h.count
-    c.if-room-n.false c.if-table-distances.true
+    c.if-room-n.false c.if-table-distances.true)
 
 pub slice_bounds-run-end-2 : goal.slice_bounds-run-end-2
 slice_bounds-run-end-2 c = part_lent _ _ c.if-room-n.false

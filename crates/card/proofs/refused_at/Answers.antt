@@ -1,5 +1,0 @@
--- `card::refused_at` meets its contract. Assumes nothing.
-use Rattle.card.proofs.refused_at.Goals as goal
-
-pub returns-in-At : goal.returns-in-At
-returns-in-At c = rw c.in-At.is c.refused.ensures

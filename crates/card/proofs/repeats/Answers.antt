@@ -1,5 +1,0 @@
--- `card::repeats` meets its contract. Assumes nothing.
-use Rattle.card.proofs.repeats.Goals as goal
-
-pub returns : goal.returns
-returns c = rw (c.is_at.ensures, c.seek.ensures, c.id.ensures)

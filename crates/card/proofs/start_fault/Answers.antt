@@ -1,0 +1,10 @@
+-- `card::start_fault` meets its contract. Assumes nothing.
+use Rattle.std.proofs.Common.{rules}
+use Rattle.answer.proofs.SearchLaws.{found_by}
+use Rattle.card.specs.Stages.{bad_start, start_fault}
+use Rattle.card.proofs.start_fault.Goals as goal
+
+pub returns : goal.returns
+unfolding start_fault
+returns c =
+    found_by (bad_start c.args.card.now) _ _ _ _ c.find.ensures.ran (λ k q e. search rules) (λ k q e. search rules)

@@ -1,8 +1,0 @@
--- `fields::copy` meets its contract. Assumes nothing.
-use Rattle.fields.proofs.copy.Goals as goal
-
-pub returns-then-is_two : goal.returns-then-is_two
-returns-then-is_two c = rw (← c.is_two.ensures, c.if-is_two.true) c.contour_u32.ensures
-
-pub returns : goal.returns
-returns c = rw (← c.is_two.ensures, c.if-is_two.false)

@@ -1,7 +1,0 @@
--- `keep::flag_at` meets its contract. Assumes nothing.
-use mathlib.Core.Path.{sym}
-use lib.ListN.{get_or-eq_default}
-use Rattle.keep.proofs.flag_at.Goals as goal
-
-pub returns : goal.returns
-returns c = sym (get_or-eq_default c.args.flags.now 0 c.if-i-flags.false)

@@ -1,7 +1,0 @@
--- `probe::probe_closest` meets its contract: it forwards. Assumes nothing.
-use mathlib.Core.Path.{sym}
-use Rattle.probe.proofs.probe_closest.Goals as goal
-
-pub returns : goal.returns
-returns c =
-    rw (sym c.closest_point_on_polygon.ensures) c.tell_closest.ensures

@@ -1,6 +1,0 @@
--- `probe::probe_distance_sq` meets its contract: it forwards. Assumes nothing.
-use mathlib.Core.Path.{sym}
-use Rattle.probe.proofs.probe_distance_sq.Goals as goal
-
-pub returns : goal.returns
-returns c = rw (sym c.point_distance_sq.ensures) c.tell_length.ensures

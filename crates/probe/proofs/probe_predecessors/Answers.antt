@@ -1,5 +1,0 @@
--- `probe::probe_predecessors` meets its contract: it forwards. Assumes nothing.
-use Rattle.probe.proofs.probe_predecessors.Goals as goal
-
-pub returns : goal.returns
-returns c = rw (← c.predecessors.ensures) c.tell_ids.ensures
