@@ -1,9 +1,12 @@
 #!/bin/sh
-# contracts.sh [TOP]: every callable function of TOP/crates, `pub fn`, has its entry in a record of crates/contracts/specs, and
-# crates/contracts/proofs has the record. An entry has the function's name, or that with _lem, and cites all of one contract:
+# contracts.sh [TOP]: every callable function of TOP/crates has its entry in a record of crates/contracts/specs, and
+# crates/contracts/proofs has the record. Callable is each `pub fn`, and each function of an `impl TRAIT for TYPE` whose crate keeps
+# neither TRAIT nor TYPE to itself (what a derive writes is none of these). An entry has the function's name, or that with _lem,
+# or that of a type's function behind another word, as in contour_type_from, and cites all of one contract:
 # `Says F.ended F.Reads.Asked F.Reads.Learnt` or, by the clauses themselves, `SaysByHand F.ended (λ M 𝓤. F.clauses)`, where F is
 # the function, in a crate that the file names by `use Rattle.CRATE.specs.contracts as ALIAS`, and for what the prover reads by
-# `use Rattle.CRATE.proofs as ALIAS`.
+# `use Rattle.CRATE.proofs as ALIAS`. There a method is TYPE.NAME, and a function of a trait is TYPETRAIT.NAME with the argument of
+# the trait in between, as ContourTypeFromU8.from.
 # No crate can cite a static library, NAME_c: each function that it exports has instead, word for word, the parameters and the
 # contract of the function of that name in the library NAME, and none of NAME's is left out.
 set -eu
@@ -12,14 +15,34 @@ cd "${1:-$(dirname "$0")/..}"
 awk '
 function bad(what) { print what; failed = 1 }
 
-# the function that a word names whose last part is the given one, as CRATE::NAME
+# the function that a word names whose last part is the given one, as CRATE::NAME, that of a type as CRATE::TYPE.NAME
 function named(word, last,    parts, n) {
     n = length(word) - length(last)
     if (n < 1 || substr(word, n + 1) != last) return ""
     word = substr(word, 1, n)
     n = split(word, parts, ".")
     if (!(parts[1] in crate)) { bad(FILENAME ": no crate is named " parts[1]); return "" }
-    return crate[parts[1]] "::" parts[n]
+    return crate[parts[1]] "::" (n > 2 && parts[n - 1] ~ /^[A-Z]/ ? parts[n - 1] "." : "") parts[n]
+}
+
+# the impl that a line begins: its name as contracts have it, with its type and its trait
+function begin_impl(line,    parts) {
+    if (line !~ /^impl(<[^<>]*>)? ([A-Za-z0-9]+(<[A-Za-z0-9]+>)? for )?[A-Za-z0-9]+(<[^<>]*>)? \{\}?$/) {
+        bad(FILENAME ": " line ": an impl of another form than is read here")
+        return
+    }
+    sub(/^impl(<[^<>]*>)? /, "", line)
+    of_trait = of_argument = ""
+    if (split(line, parts, " for ") == 2) {
+        of_trait = parts[1]; line = parts[2]
+        if (match(of_trait, /<.*>/)) {
+            of_argument = toupper(substr(of_trait, RSTART + 1, 1)) substr(of_trait, RSTART + 2, RLENGTH - 3)
+            of_trait = substr(of_trait, 1, RSTART - 1)
+        }
+    }
+    of_type = line; sub(/[ <].*/, "", of_type)
+    impl = toupper(substr(of_type, 1, 1)) substr(of_type, 2) of_trait of_argument "."
+    if (line ~ /\}$/) impl = ""
 }
 
 # an entry of the record that is open: its name, and the words after it
@@ -32,8 +55,10 @@ function end_entry(    f, name, whole) {
         else if (f != "")
             whole = words[3] words[4] words[5] == "(λM𝓤." && sub(/\)$/, "", words[6]) && named(words[6], ".clauses") == f
         name = f; sub(/^.*::/, "", name)
+        of_any = sub(/^.*\./, "", name)
         if (!whole) bad(FILENAME ": " entry " does not cite one contract whole")
-        else if (entry != name && entry != name "_lem") bad(FILENAME ": " entry " is the entry of " name)
+        else if (entry != name && entry != name "_lem" && !(of_any && entry ~ ("_" name "$")))
+            bad(FILENAME ": " entry " is the entry of " name)
         else if (!(record in proved)) bad(FILENAME ": crates/contracts/proofs has no " record)
         else said[f]++
     }
@@ -64,10 +89,22 @@ FILENAME ~ /^crates\/contracts\/specs\// {
     for (i = first; i <= NF; i++) words[++count] = $i
     next
 }
-FNR == 1 { end_entry(); open = 0 }
+FNR == 1 { end_entry(); open = 0; impl = ""; own = FILENAME; sub(/^crates\//, "", own); sub(/\/.*/, "", own) }
+match($0, /^ *(pub\([a-z]+\) )?(struct|enum|trait) [A-Za-z0-9]+/) {
+    name = substr($0, RSTART, RLENGTH); sub(/^.* /, "", name)
+    hidden[own "::" name] = 1
+}
+/^ *(unsafe )?impl[ <]/ { begin_impl($0); next }
+/^\}/ { impl = "" }
+impl != "" && of_trait != "" && match($0, /^    ((const|unsafe) )*fn [a-z_0-9]+/) {
+    name = substr($0, RSTART, RLENGTH); sub(/^.* /, "", name)
+    f = own "::" impl name
+    needs[f]++; its_trait[f] = own "::" of_trait; its_type[f] = own "::" of_type
+    next
+}
 match($0, /^ *pub (extern "C" )?fn [a-z_0-9]+/) {
     name = substr($0, RSTART, RLENGTH); sub(/^.* /, "", name)
-    own = FILENAME; sub(/^crates\//, "", own); sub(/\/.*/, "", own)
+    name = impl name
     open = 1; head = substr($0, RSTART + RLENGTH)
     if (own ~ /_c$/) exported[own "::" name] = 1
     else {
@@ -80,6 +117,10 @@ match($0, /^ *pub (extern "C" )?fn [a-z_0-9]+/) {
 open && /^ *\{$/ { end_head() }
 open { head = head $0 }
 END {
+    for (f in needs) if (!(its_trait[f] in hidden) && !(its_type[f] in hidden)) {
+        callable += needs[f]
+        if (needs[f] > said[f]) bad(f ": no entry in crates/contracts/specs")
+    }
     for (f in exported) {
         library = f; sub(/_c::/, "::", library)
         own = f; sub(/::.*/, "", own); static[own] = 1

@@ -3,8 +3,8 @@
 # one that has a harmless replacement in it, one refused elsewhere, one told twice, a name that docs/PROMISES.md lacks, one
 # that changes more of a proof than names, and so on. The log that tries.py reads the facts from is one of crates/block, cut
 # short. And contracts.sh must pass a crate whose callable functions all have their entries, and name one that has none, one
-# that cites another's contract, and a record not proved. And limits.sh must name a header, a table and a longest card that have
-# another number than the code.
+# that cites another's contract, and a record not proved; and likewise for methods and a trait's functions. And limits.sh must
+# name a header, a table and a longest card that have another number than the code.
 set -eu
 
 here=$(cd "$(dirname "$0")" && pwd -P)
@@ -147,6 +147,55 @@ entries "$door"
 echo 'of_card : OfCard' >"$tree/crates/contracts/proofs/Words.antt"
 says 1 'crates/contracts/proofs has no OfBlock'
 echo 'of_block : OfBlock' >"$tree/crates/contracts/proofs/Words.antt"
+
+# functions of types: a trait's, one that the crate keeps to itself, and two of one name
+free=$(cat "$tree/crates/block/src/lib.rt")
+cat >>"$tree/crates/block/src/lib.rt" <<'END'
+pub enum Kind {
+enum Inner {
+trait Place {
+impl From<u8> for Kind {
+    fn from(b: u8) -> Kind {
+        fn within(b: u8) -> Kind {
+}
+impl From<u8> for Inner {
+    fn from(b: u8) -> Inner {
+}
+impl Place for u8 {
+    fn place(self) -> usize {
+}
+impl<'a> Page<'a> {
+    pub fn at(&self) -> usize {
+}
+impl Walk {
+    pub fn at(&self) -> usize {
+}
+END
+kind='  pub kind_from : Says Block.KindFromU8.from.ended Proof.KindFromU8.from.Reads.Asked
+      Proof.KindFromU8.from.Reads.Learnt (λ _ b r. r ≡ kind b)'
+page='  pub page_at : Says Block.Page.at.ended Proof.Page.at.Reads.Asked Proof.Page.at.Reads.Learnt (λ _ p r. r ≡ p.now.at)'
+walk=$(echo "$page" | sed 's/page_at/at/; s/Page/Walk/g')
+typed() { entries "$door
+$1
+$2
+$3"; }
+typed "$kind" "$page" "$walk"
+says 0 '6 callable functions, the contract of each cited whole in crates/contracts'
+typed '' "$page" "$walk"
+says 1 'block::KindFromU8.from: no entry in crates/contracts/specs'
+typed "$(echo "$kind" | sed 's/KindFromU8/InnerFromU8/g')" "$page" "$walk"
+says 1 'block::KindFromU8.from: no entry in crates/contracts/specs'
+typed "$(echo "$kind" | sed 's/Proof.KindFromU8/Proof.InnerFromU8/')" "$page" "$walk"
+says 1 'kind_from does not cite one contract whole'
+typed "$(echo "$kind" | sed 's/kind_from/kind/')" "$page" "$walk"
+says 1 'kind is the entry of from'
+typed "$kind" "$page" "$page"
+says 1 'block::Walk.at: no entry in crates/contracts/specs'
+typed "$kind" "$page" "$walk"
+echo '    impl From<u16> for Kind {' >>"$tree/crates/block/src/lib.rt"
+says 1 'an impl of another form than is read here'
+echo "$free" >"$tree/crates/block/src/lib.rt"
+entries "$door"
 exports() { # CONTRACT-OF-DOOR: the static library, with this contract for its second export
     cat >"$tree/crates/block_c/src/lib.rt" <<END
 pub extern "C" fn byte_at(

@@ -7,6 +7,8 @@ of_answer : OfAnswer
 of_answer = record {
   number = told _ (λ κs a u v. refl) (λ κs a x. alike);
   at = told _ (λ κs a u v. refl) (λ κs a x. alike);
+  contour_type_from = told _ (λ κs a u v. refl) (λ κs a x. alike);
+  cut_direction_preference_from = told _ (λ κs a u v. refl) (λ κs a x. alike);
   refused = told _ (λ κs a u v. refl) (λ κs a x. alike);
   code = told _ (λ κs a u v. refl) (λ κs a x. alike);
 }

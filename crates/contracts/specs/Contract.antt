@@ -2,9 +2,9 @@
 -- the contract itself, as the prover reads it in the source, and no copy: `ended`, its signature, from the contracts of
 -- its crate; `Reads.Asked`, what a caller must show, and `Reads.Learnt`, what a caller learns, from the crate's proofs.
 -- So a contract that says less or asks more has no proof here.
--- In the files beside this one each callable function has an entry: its name, or that with _lem; its contract; and its
--- definition, a claim of the lifetimes (no definition reads them: _), the arguments, the result, and what each lent
--- value is left as (').
+-- In the files beside this one each callable function has an entry: its name, or that with _lem, or behind its type's, as
+-- contour_type_from; its contract; and its definition, a claim of the lifetimes (no definition reads them: _), the
+-- arguments, the result, and what each lent value is left as (').
 -- gate/contracts.sh sees to it that none is missing. Assumes nothing.
 use Rattle.std.specs.Prelude.{◌≡◌, ◌↔◌, List, [], ◌∷◌, ℕ}
 use contract.Lifetimes.{Lfts}

@@ -2,6 +2,7 @@
 use Rattle.std.specs.Prelude.{◌≡◌, ◌++◌, Err}
 use Rattle.answer.specs.Code.{code_of}
 use Rattle.answer.specs.Fault.{number_of}
+use Rattle.answer.specs.Kinds.{as_type, as_preference}
 use Rattle.block.specs.Field.{byte_at, u16_at, u32_at, u64_at, f64_at}
 use Rattle.block.specs.Block.{check_at, checked, starts, zeros_at}
 use Rattle.text.specs.Page.{put_byte, put as put_text}
@@ -21,6 +22,13 @@ pub record OfAnswer : Type 0 where
       (λ _ f r. r ≡ number_of f)
   pub at : Says Answer.Fault.at.ended AnswerProofs.Fault.at.Reads.Asked AnswerProofs.Fault.at.Reads.Learnt
       (λ _ f place r. r ≡ record { number = number_of f; place = place })
+  pub contour_type_from : Says Answer.ContourTypeFromU8.from.ended AnswerProofs.ContourTypeFromU8.from.Reads.Asked
+      AnswerProofs.ContourTypeFromU8.from.Reads.Learnt
+      (λ _ b r. r ≡ as_type b)
+  pub cut_direction_preference_from : Says Answer.CutDirectionPreferenceFromU8.from.ended
+      AnswerProofs.CutDirectionPreferenceFromU8.from.Reads.Asked
+      AnswerProofs.CutDirectionPreferenceFromU8.from.Reads.Learnt
+      (λ _ b r. r ≡ as_preference b)
   pub refused : Says Answer.refused.ended AnswerProofs.refused.Reads.Asked AnswerProofs.refused.Reads.Learnt
       (λ _ number place r. r ≡ Err (record { number = number; place = place }))
   pub code : Says Answer.code.ended AnswerProofs.code.Reads.Asked AnswerProofs.code.Reads.Learnt
