@@ -2,7 +2,7 @@
 # contracts.sh [TOP]: every callable function of TOP/crates has its entry in a record of crates/contracts/specs, and
 # crates/contracts/proofs has the record. Callable is each `pub fn`, and each function of an `impl TRAIT for TYPE` whose crate keeps
 # neither TRAIT nor TYPE to itself (what a derive writes is none of these). An entry has the function's name, or that with _lem,
-# or that of a type's function behind another word, as in contour_type_from, and cites all of one contract:
+# or that of a type's function behind its type, as in contour_type_from, and cites all of one contract:
 # `Says F.ended F.Reads.Asked F.Reads.Learnt` or, by the clauses themselves, `SaysByHand F.ended (λ M 𝓤. F.clauses)`, where F is
 # the function, in a crate that the file names by `use Rattle.CRATE.specs.contracts as ALIAS`, and for what the prover reads by
 # `use Rattle.CRATE.proofs as ALIAS`. There a method is TYPE.NAME, and a function of a trait is TYPETRAIT.NAME with the argument of
@@ -46,7 +46,7 @@ function begin_impl(line,    parts) {
 }
 
 # an entry of the record that is open: its name, and the words after it
-function end_entry(    f, name, whole) {
+function end_entry(    f, name, whole, its, before) {
     whole = 0
     if (words[1] == "Says" || words[1] == "SaysByHand") {
         f = named(words[2], ".ended")
@@ -55,9 +55,11 @@ function end_entry(    f, name, whole) {
         else if (f != "")
             whole = words[3] words[4] words[5] == "(λM𝓤." && sub(/\)$/, "", words[6]) && named(words[6], ".clauses") == f
         name = f; sub(/^.*::/, "", name)
-        of_any = sub(/^.*\./, "", name)
+        its = before = ""
+        if (match(name, /^.*\./)) { its = tolower(substr(name, 1, RLENGTH - 1)); name = substr(name, RLENGTH + 1) }
+        if (its != "") { before = entry; if (sub("_" name "$", "", before)) gsub(/_/, "", before); else before = "" }
         if (!whole) bad(FILENAME ": " entry " does not cite one contract whole")
-        else if (entry != name && entry != name "_lem" && !(of_any && entry ~ ("_" name "$")))
+        else if (entry != name && entry != name "_lem" && !(before != "" && index(its, before) == 1))
             bad(FILENAME ": " entry " is the entry of " name)
         else if (!(record in proved)) bad(FILENAME ": crates/contracts/proofs has no " record)
         else said[f]++

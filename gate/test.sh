@@ -189,6 +189,8 @@ typed "$(echo "$kind" | sed 's/Proof.KindFromU8/Proof.InnerFromU8/')" "$page" "$
 says 1 'kind_from does not cite one contract whole'
 typed "$(echo "$kind" | sed 's/kind_from/kind/')" "$page" "$walk"
 says 1 'kind is the entry of from'
+typed "$kind" "$page" "$(echo "$walk" | sed 's/pub at/pub page_at/')"
+says 1 'page_at is the entry of at'
 typed "$kind" "$page" "$page"
 says 1 'block::Walk.at: no entry in crates/contracts/specs'
 typed "$kind" "$page" "$walk"
